@@ -1,0 +1,13 @@
+pub mod Instructions
+pub mod Chain
+pub mod Successors
+pub mod Status
+pub mod Reach
+pub mod Closure
+pub mod Leader
+pub mod Block
+pub mod Edge
+pub mod Listing
+pub mod Function
+pub mod Graph
+pub mod Cuts

@@ -1,0 +1,77 @@
+//! The control flow of one instruction, and a program as a map of them.
+
+use std::marker::Sync;
+
+/// Where control goes from one instruction. Every address is that of an instruction of the program.
+#[derive(Clone, Copy, Debug, PartialEq, Eq)]
+pub enum Flow {
+    /// Execution goes on at `next`, right behind the instruction. The only flow that does not end a
+    /// basic block.
+    Straight {
+        next: u64,
+    },
+    /// A conditional branch. `None` stands for a way that was dropped, since it leads out of the
+    /// code: the branch is then cut off.
+    Branch {
+        taken: Option<u64>,
+        fall: Option<u64>,
+    },
+    /// An unconditional jump to a known address.
+    Jump {
+        target: u64,
+    },
+    /// A call of a known address; `fall` is the address it returns to, where that is code.
+    Call {
+        target: u64,
+        fall: Option<u64>,
+    },
+    /// A call through a register; `fall` is the address it returns to, where that is code.
+    IndirectCall {
+        fall: Option<u64>,
+    },
+    /// A jump through a table of `entries` kept targets; `full` says that these are as many as the
+    /// bound test in front of the jump allows.
+    Table {
+        entries: u32,
+        full: bool,
+    },
+    /// A return from the function.
+    Return,
+    /// A jump whose target is not known.
+    Unknown,
+    /// Execution does not go on.
+    Stop,
+}
+
+/// A program: a finite map from the addresses of its instructions to their length, their flow and,
+/// for a table jump, the kept targets. The map is lawful: see `specs/Instructions.antt`.
+pub trait Chains: Sync {
+    ghost use Rattle.std.specs.Prelude.{◌≡◌, ◌<◌, ◌↔◌, IsTrue, IsSome, Some, slice_get, length};
+    ghost use Rattle.cfg_model.specs.Instructions.{InstructionMap, IsLawful, flow_at, length_at, targets_at};
+
+    /// The instructions, by address.
+    ghost map: { Self → InstructionMap };
+
+    /// Whether an instruction stands at `a`.
+    fn has(&self, a: u64) -> bool
+        ensures has { IsTrue result ↔ IsSome (map self.now a) }
+        ensures lawful { IsLawful (map self.now) };
+
+    /// The flow of the instruction at `a`.
+    fn flow(&self, a: u64) -> Flow
+        requires { IsSome (map self.now a) }
+        ensures flow { flow_at (map self.now) a ≡ Some result }
+        ensures lawful { IsLawful (map self.now) };
+
+    /// The length of the instruction at `a`, in bytes: 2 or 4.
+    fn length(&self, a: u64) -> u8
+        requires { IsSome (map self.now a) }
+        ensures length { length_at (map self.now) a ≡ Some result }
+        ensures lawful { IsLawful (map self.now) };
+
+    /// Kept target number `i`, from 0, of the table jump at `a`.
+    fn target(&self, a: u64, i: u32) -> u64
+        requires { i < length (targets_at (map self.now) a) }
+        ensures target { slice_get (targets_at (map self.now) a) i ≡ Some result }
+        ensures lawful { IsLawful (map self.now) };
+}

@@ -1,0 +1,20 @@
+//! What a control-flow graph is, apart from any file format and any way of computing it.
+//!
+//! - [`flow`]: the control flow of one instruction, and [`Chains`], a program seen as a finite map
+//!   from addresses to instructions.
+//! - [`graph`]: functions, basic blocks and edges as plain data, and their lists.
+//! - `specs/`: chains, return status, reachable addresses, leaders, blocks, edges, functions and
+//!   the graph of a program, as definitions on the map alone.
+#![tactic(auto)]
+
+pub mod flow;
+pub mod graph;
+pub mod memory;
+pub mod plain;
+
+pub use flow::{Chains, Flow};
+pub use graph::{
+    Addresses, Block, Blocks, Edge, EdgeKind, Edges, EndKind, Function, Functions, Graph,
+};
+pub use memory::Memory;
+pub use plain::plain_graph;
