@@ -16,8 +16,8 @@ const LONGEST_BLOCK_LINE: usize = 51;
 /// The length of the longest line of an edge, `edge FROM TO taken` and its newline.
 const LONGEST_EDGE_LINE: usize = 45;
 
-/// The length of the longest heading, section counts and last line together.
-const LONGEST_FRAME: usize = 100;
+/// The length of all other lines together, with counts of twenty digits.
+const LONGEST_FRAME: usize = 95;
 
 /// The text of a report of `graph` without its functions, or want of memory.
 ///
