@@ -12,6 +12,8 @@ mod field;
 mod kind;
 mod line;
 mod memory;
+#[cfg(test)]
+mod tests;
 
 pub use early::early_report;
 pub use kind::ReportKind;

@@ -6,5 +6,5 @@ use Rattle.graph_report.proofs.field.address_digits.Given as goal
 abbrev pub invariant-loop-done : goal.invariant-loop-done
 invariant-loop-done l = record {
   size : length l.digits ≡ 16;
-  digits : hex_digits 16 l.fn.address ≡ hex_digits (16 - l.done) l.rest ++ drop (16 - l.done) l.digits
+  digits : hex_digits 16 l.fn.address ≡ hex_digits (16 - l.done) l.rest ++ drop (16 - l.done) l.digits;
 }
