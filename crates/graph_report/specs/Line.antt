@@ -10,7 +10,7 @@ use Rattle.graph_report.specs.Words.{status_word, end_word, edge_word}
 
 -- A line: its fields with one space between each two, and a newline.
 abbrev pub line : List (List ℕ) → List ℕ
-line fields = join_with_byte 32 fields ++ 10 ∷ []
+line fields = join_with_byte 32 fields ++ codes "\n"
 
 -- The first line: what this text is, and in which version of the format.
 abbrev pub first_line : List ℕ

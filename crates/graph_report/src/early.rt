@@ -22,8 +22,8 @@ const LONGEST_FRAME: usize = 95;
 /// The text of a report of `graph` without its functions, or want of memory.
 ///
 /// It has the lines of the whole report but for the lines `functions`, `function` and `in`, with
-/// blocks and edges in the order of their lists. It takes linear time, and memory for the text
-/// alone.
+/// blocks and edges in the order of their lists. It takes linear time. Room for the whole text is
+/// taken once, before the first line.
 pub fn early_report(alloc: Global, graph: &Graph) -> Result<Vec<u8>, Memory>
     ensures text { IfOk result (λ v. v.items ≡ early_text graph.now) }
 {
@@ -37,7 +37,7 @@ pub fn early_report(alloc: Global, graph: &Graph) -> Result<Vec<u8>, Memory>
     Ok(out)
 }
 
-/// A bound on the length of a text with so many blocks and edges; what is reserved for it.
+/// The length of the longest text with so many blocks and edges, in bytes.
 fn longest_text(blocks: usize, edges: usize) -> usize {
     let block_lines = blocks.saturating_mul(LONGEST_BLOCK_LINE);
     let edge_lines = edges.saturating_mul(LONGEST_EDGE_LINE);
