@@ -76,7 +76,7 @@ pub fn push_text(out: &mut Vec<u8>, text: &[u8]) -> Result<(), Memory>
 
 /// Appends a space and an address.
 pub fn push_address(out: &mut Vec<u8>, address: u64) -> Result<(), Memory>
-    ensures { OnOk result (out.new.items ≡ out.old.items ++ codes " " ++ address_digits address) }
+    ensures { OnOk result (out.new.items ≡ out.old.items ++ (codes " " ++ address_digits address)) }
 {
     out.push(b' ')?;
     out.extend_from_slice(&address_digits(address))?;
@@ -85,7 +85,7 @@ pub fn push_address(out: &mut Vec<u8>, address: u64) -> Result<(), Memory>
 
 /// Appends a space, a count in decimal, and the end of the line.
 pub fn push_count(out: &mut Vec<u8>, count: usize) -> Result<(), Memory>
-    ensures { OnOk result (out.new.items ≡ out.old.items ++ codes " " ++ decimal count ++ codes "\n") }
+    ensures { OnOk result (out.new.items ≡ out.old.items ++ (codes " " ++ decimal count ++ codes "\n")) }
 {
     let mut buffer = Buffer::new();
     push_word(out, buffer.format(count).as_bytes())
@@ -93,7 +93,7 @@ pub fn push_count(out: &mut Vec<u8>, count: usize) -> Result<(), Memory>
 
 /// Appends a space, a word, and the end of the line.
 pub fn push_word(out: &mut Vec<u8>, word: &[u8]) -> Result<(), Memory>
-    ensures { OnOk result (out.new.items ≡ out.old.items ++ codes " " ++ word.now ++ codes "\n") }
+    ensures { OnOk result (out.new.items ≡ out.old.items ++ (codes " " ++ word.now ++ codes "\n")) }
 {
     out.push(b' ')?;
     out.extend_from_slice(word)?;
