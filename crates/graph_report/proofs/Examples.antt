@@ -1,5 +1,5 @@
 -- The format on small values, by computation.
-use Rattle.std.specs.Prelude.{◌≡◌, ℕ, ◌-◌, ◌^◌, refl, true, false, Some, None, List, [], ◌∷◌, length, codes}
+use Rattle.std.specs.Prelude.{◌≡◌, ◌==◌, if◌then◌else◌, ℕ, ◌-◌, ◌^◌, refl, true, false, Some, None, List, [], ◌∷◌, length, codes}
 use Rattle.std.specs.Fmt.{digits}
 use Rattle.cfg_model.specs.declared.graph.Graph.{Graph}
 use Rattle.cfg_model.specs.declared.graph.EndKind.TheVariants as ends
@@ -59,6 +59,23 @@ branch_back = record {
 branch_back_early : early_text branch_back ≡ codes "cfg-report 1\nentry 0000000000010000\nblocks 3\nblock 0000000000010000 0000000000010004 fall\nblock 0000000000010004 000000000001000c branch\nblock 000000000001000c 0000000000010010 return\nedges 3\nedge 0000000000010000 0000000000010004 fall\nedge 0000000000010004 0000000000010004 taken\nedge 0000000000010004 000000000001000c fall\nend\n"
 unfolding hex_digits digits
 branch_back_early = refl
+
+-- two functions with names: a jump to a return, and an instruction that stops
+abbrev two_functions : Graph
+two_functions = record {
+  entry = 0x10000;
+  functions = record { entry = 0x10000; returns = true; body = 0x10000 ∷ 0x10004 ∷ [] } ∷ record { entry = 0x10008; returns = false; body = 0x10008 ∷ [] } ∷ [];
+  blocks = record { start = 0x10000; end = 0x10004; kind = ends.Jump } ∷ record { start = 0x10004; end = 0x10008; kind = ends.Return } ∷ record { start = 0x10008; end = 0x1000c; kind = ends.Stop } ∷ [];
+  edges = record { from = 0x10000; to = 0x10004; kind = kinds.Jump } ∷ [];
+}
+
+-- their names
+abbrev two_names : Names
+two_names a = if a == 0x10008 then Some (codes "-") else Some (codes "_start")
+
+two_functions_graph : report_text reports.Graph two_names two_functions ≡ codes "cfg-report 1\nentry 0000000000010000\nfunctions 2\nfunction 0000000000010000 may-return 2 _start\nin 0000000000010000\nin 0000000000010004\nfunction 0000000000010008 no-return 1 \\x2d\nin 0000000000010008\nblocks 3\nblock 0000000000010000 0000000000010004 jump\nblock 0000000000010004 0000000000010008 return\nblock 0000000000010008 000000000001000c stop\nedges 1\nedge 0000000000010000 0000000000010004 jump\nend\n"
+unfolding hex_digits digits
+two_functions_graph = refl
 
 -- a function that does not return, with a name and eleven blocks
 eleven_blocks : function_line (λ a. Some (codes "_start")) (record { entry = 0xfedcba9876543210; returns = false; body = 1 ∷ 2 ∷ 3 ∷ 4 ∷ 5 ∷ 6 ∷ 7 ∷ 8 ∷ 9 ∷ 10 ∷ 11 ∷ [] }) ≡ codes "function fedcba9876543210 no-return 11 _start\n"
