@@ -5,6 +5,7 @@ mod fault;
 mod header;
 mod number;
 mod section;
+mod table;
 
 pub use fault::{ElfError, Fault};
 pub use section::{Section, Span};
