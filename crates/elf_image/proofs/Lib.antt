@@ -1,2 +1,4 @@
 mod Examples
 pub mod Ranges
+pub mod Finds
+pub mod Pairs

@@ -1,0 +1,13 @@
+-- Sections as they are kept to be searched. No public clause names what stands here.
+use Rattle.std.specs.Prelude.{◌≡◌, ℕ, ◌+◌, ◌<◌, ◌≤◌, List, length}
+use Rattle.std.specs.List.{find, AllAdjacentBelow}
+use Rattle.elf_image.specs.declared.section.Section.{Section}
+use Rattle.elf_image.specs.Sections.{holds_bytes}
+
+-- each section ends where the next begins, or before
+abbrev pub IsLaidOut : List Section → Type 0
+IsLaidOut xs = AllAdjacentBelow (λ s t. s.address + s.size ≤ t.address) xs (length xs)
+
+-- the first of xs and the first of ys that have some bytes are the same section
+abbrev pub FindsSame : List Section → List Section → Type 0
+FindsSame xs ys = (a n : ℕ) → 0 < n → find (holds_bytes a n) xs ≡ find (holds_bytes a n) ys
