@@ -2,3 +2,4 @@ mod Examples
 pub mod Ranges
 pub mod Finds
 pub mod Pairs
+pub mod LaidOut
