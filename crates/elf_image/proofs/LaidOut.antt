@@ -1,18 +1,18 @@
 -- Sections of which each ends where the next begins, or before.
-use Rattle.std.proofs.Common.{◌≡◌, ◌≢◌, ℕ, suc, zero, ◌+◌, ◌-◌, ◌<◌, ◌≤◌, ◌^◌, Bool, true, false, not, cond, List, [], ◌∷◌, length, get_or, Option, Some, None, MatchBool, refl, sym, ap, ◌∙◌, subst, arith, inl, inr, ltb, max, min, ap₂}
+use Rattle.std.proofs.Common.{◌≡◌, ◌≢◌, ℕ, suc, zero, ◌+◌, ◌-◌, ◌<◌, ◌≤◌, ◌^◌, Bool, true, false, not, cond, List, [], ◌∷◌, length, get_or, Option, Some, None, MatchBool, refl, sym, ap, ◌∙◌, subst, arith, inl, inr, leb, ltb, max, min, ap₂}
 use Rattle.std.specs.Prelude.{◌⊎◌}
 use Rattle.std.specs.List.{find, All, AllWithin, AllAdjacentBelow, Contains, list_any}
 use Rattle.std.specs.List.Sorted.{IsPermutation, IsNonDecreasingBy, IsPartitionedBy, IsPartitionPoint}
-use Rattle.std.proofs.lemmas.Bool.{cases_Bool, cases_order, false_from_ne_true, cond-true, cond-false, ltb-true, lt-ltb}
+use Rattle.std.proofs.lemmas.Bool.{cases_Bool, cases_order, false_from_ne_true, cond-true, cond-false, ltb-true, lt-ltb, leb-true, leb-false}
 use Rattle.std.proofs.lemmas.Bool.Decides.{nat_tests}
 use Rattle.std.proofs.Math.Nat.{max_comm, min_comm}
 use Rattle.std.proofs.lemmas.List.{get_or_default}
 use Rattle.std.proofs.lemmas.List.Folds.{list_any_none}
-use Rattle.std.proofs.lemmas.List.Sorted.{IsNonDecreasingBy-from_all_adjacent}
+use Rattle.std.proofs.lemmas.List.Sorted.{IsNonDecreasingBy-from_all_adjacent, All-permutation}
 use Rattle.elf_image.specs.declared.section.Section.{Section}
 use Rattle.elf_image.specs.Sections.{holds_bytes}
 use Rattle.elf_image.specs.FaultTests.{any_pair, shares_address}
-use Rattle.elf_image.specs.Spans.{IsLaidOut, FindsSame}
+use Rattle.elf_image.specs.Spans.{IsLaidOut, HasOverhang, FindsSame}
 use Rattle.elf_image.proofs.Finds.{find-at, find-none, find-permutation}
 use Rattle.elf_image.proofs.Pairs.{Pair, any_pair-at, pair-from_any_pair, any_pair-permutation}
 
@@ -108,14 +108,51 @@ laid_out-apart xs out =
             inl less ↦ absurd (omega (arith, end-le-start xs out p.first p.second no_section less p.second_within))
           | inr more ↦ absurd (omega (arith, end-le-start xs out p.second p.first no_section more p.first_within)) ] ])
 
--- sections in order, none of them empty, that are not laid out share one
-pub not_laid_out-pair : (xs : List Section) → IsNonDecreasingBy (λ s. s.address) xs → All (λ s. 0 < s.size) xs → (k : ℕ) → k + 1 < length xs → (get_or xs (k + 1) no_section).address < (get_or xs k no_section).address + (get_or xs k no_section).size → any_pair shares_address xs ≡ true
-not_laid_out-pair xs rises filled k within over =
+-- sections in order, none of them empty, of which one ends past the next: the two share an address
+pub overhang-pair : (xs : List Section) → IsNonDecreasingBy (λ s. s.address) xs → All (λ s. 0 < s.size) xs → HasOverhang xs → any_pair shares_address xs ≡ true
+overhang-pair xs rises filled over =
+    let k = over.0 in
     let s = get_or xs k no_section in
     let t = get_or xs (k + 1) no_section in
-    let in_order : s.address ≤ t.address = rises k (k + 1) no_section (omega arith) within in
-    let some : 0 < t.size = filled (k + 1) no_section within in
-    any_pair-at shares_address no_section xs k (k + 1) (omega arith) within (shares-from s t in_order over some)
+    let in_order : s.address ≤ t.address = rises k (k + 1) no_section (omega arith) over.1 in
+    let past : t.address < s.address + s.size = over.2 no_section in
+    let some : 0 < t.size = filled (k + 1) no_section over.1 in
+    any_pair-at shares_address no_section xs k (k + 1) (omega arith) over.1 (shares-from s t in_order past some)
 
 pub shares-symmetric : (s t : Section) → shares_address s t ≡ shares_address t s
 shares-symmetric s t = ap₂ (λ m n. ltb m n) (max_comm s.address t.address) (min_comm (s.address + s.size) (t.address + t.size))
+
+-- the order of sections that are laid out does not matter to a search, nor to whether two share an address
+pub find-sorted : (xs ys : List Section) → IsPermutation xs ys → IsLaidOut ys → FindsSame ys xs
+find-sorted xs ys moved out a n some = find-permutation (holds_bytes a n) xs ys moved (laid_out-once ys out a n some)
+
+pub pairs-sorted : (xs ys : List Section) → IsPermutation xs ys → any_pair shares_address ys ≡ any_pair shares_address xs
+pairs-sorted = any_pair-permutation shares_address no_section shares-symmetric
+
+-- what a search finds that splits the sections at an address: nothing where all begin past it ..
+pub find-none_before : (xs : List Section) (a n i : ℕ) → i ≡ 0 → IsPartitionPoint (λ (s : Section). leb s.address a ≡ true) (λ s. leb s.address a ≡ false) xs i → find (holds_bytes a n) xs ≡ None
+find-none_before xs a n i none split =
+    find-before_all xs a n (λ k d below. leb-false (get_or xs k d).address a (split.1 k d (omega arith) below))
+
+-- .. and else the last that does not, where it has the bytes
+pub find-last_before : (xs : List Section) → IsLaidOut xs → (a n i : ℕ) → 0 < n → i ≢ 0 → i ≤ length xs → IsPartitionPoint (λ (s : Section). leb s.address a ≡ true) (λ s. leb s.address a ≡ false) xs i → find (holds_bytes a n) xs ≡ cond (holds_bytes a n (get_or xs (i - 1) no_section)) (Some (get_or xs (i - 1) no_section)) None
+find-last_before xs out a n i some there within split =
+    find-laid_out xs out a n (i - 1) no_section some (omega arith)
+        (λ k after below. leb-false (get_or xs k no_section).address a (split.1 k no_section (omega arith) below))
+        (leb-true (get_or xs (i - 1) no_section).address a (split.0 (i - 1) no_section (omega arith) (omega arith)))
+
+-- what is known of sections once they are sorted: xs as given, ys in order, and the two lists that were read
+module _ (xs ys given read : List Section) (is_given : given ≡ xs) (is_read : read ≡ ys) (moved : IsPermutation given ys) where
+  sorted_of : IsPermutation xs ys
+  sorted_of = subst (λ zs. IsPermutation zs ys) is_given moved
+
+  pub prepared-finds : IsLaidOut read → FindsSame ys xs
+  prepared-finds out = find-sorted xs ys sorted_of (subst IsLaidOut is_read out)
+
+  pub prepared-apart : IsLaidOut read → false ≡ any_pair shares_address xs
+  prepared-apart out = sym (laid_out-apart ys (subst IsLaidOut is_read out)) ∙ pairs-sorted xs ys sorted_of
+
+  pub prepared-overlap : IsNonDecreasingBy (λ s. s.address) ys → All (λ s. 0 < s.size) xs → HasOverhang read → true ≡ any_pair shares_address xs
+  prepared-overlap rises filled over =
+      sym (overhang-pair ys rises (All-permutation (λ s. 0 < s.size) xs ys sorted_of filled) (subst HasOverhang is_read over))
+      ∙ pairs-sorted xs ys sorted_of

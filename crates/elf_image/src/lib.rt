@@ -5,6 +5,7 @@ mod fault;
 mod header;
 mod number;
 mod section;
+mod spans;
 mod table;
 
 pub use fault::{ElfError, Fault};
