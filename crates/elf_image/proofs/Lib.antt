@@ -3,3 +3,5 @@ pub mod Ranges
 pub mod Finds
 pub mod Pairs
 pub mod LaidOut
+pub mod Filled
+pub mod FirstFault

@@ -9,5 +9,6 @@ pub mod FaultTests
 pub mod Faults
 pub mod Passes
 pub mod Spans
+pub mod Layout
 pub mod FaultNames
 pub mod Outcome

@@ -3,6 +3,7 @@
 
 mod fault;
 mod header;
+mod layout;
 mod number;
 mod section;
 mod spans;

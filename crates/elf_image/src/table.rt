@@ -106,6 +106,7 @@ fn has_odd_code(bytes: &[u8], headers: &[Section]) -> bool
 }
 
 /// The first fault of a single section. `headers` are all of the file.
+#[tactic(auto, unfolding(crate::specs::Faults::first_among))]
 pub(crate) fn section_fault(bytes: &[u8], headers: &[Section]) -> Option<Fault>
     requires { headers.now ≡ sections bytes.now }
     ensures { result ≡ first_among section_faults bytes.now }
