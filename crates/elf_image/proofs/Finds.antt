@@ -1,5 +1,5 @@
 -- The first element that passes a test.
-use Rattle.std.proofs.Common.{◌≡◌, ℕ, suc, zero, ◌+◌, ◌<◌, Bool, true, false, ◌&&◌, cond, List, [], ◌∷◌, length, get_or, Option, Some, None, refl, sym, ap, ◌∙◌, subst, arith, inl, inr}
+use Rattle.std.proofs.Common.{◌≡◌, ℕ, suc, zero, ◌+◌, ◌<◌, Bool, true, false, ◌&&◌, cond, List, [], ◌∷◌, length, get_or, Option, Some, None, is_some, refl, sym, ap, ◌∙◌, subst, arith, inl, inr}
 use Rattle.std.specs.Prelude.{◌⊎◌}
 use Rattle.std.specs.List.{find, filter, list_any, All, Contains}
 use Rattle.std.specs.List.Sorted.{IsPermutation}
@@ -59,3 +59,10 @@ find-filter q p r same (x ∷ xs) =
     | inr fails ↦
         let e : r x ≡ false = sym (same x) ∙ ap (λ b. b && p x) fails in
         rw (fails, e) (find-filter q p r same xs) ]
+
+-- whether an element is found
+pub is_some-find : {X : Type 0} (p : X → Bool) (xs : List X) → is_some (find p xs) ≡ list_any p xs
+is_some-find p [] = refl
+is_some-find p (x ∷ xs) = elim (cases_Bool (p x)) [
+    inl passes ↦ rw passes refl
+  | inr fails ↦ rw fails (is_some-find p xs) ]

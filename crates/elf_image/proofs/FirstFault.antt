@@ -22,7 +22,7 @@ found-none : (x : Fault) (o : Option Fault) (b : Bool) → cond b (Some x) o ≡
 found-none x o true h = cc
 found-none x o false h = (refl, h)
 
-none-at : (p : Fault → Bool) (fs : List Fault) (k : ℕ) (d : Fault) → find p fs ≡ None → k < length fs → p (get_or fs k d) ≡ false
+pub none-at : (p : Fault → Bool) (fs : List Fault) (k : ℕ) (d : Fault) → find p fs ≡ None → k < length fs → p (get_or fs k d) ≡ false
 none-at p [] k d none within = absurd (omega arith)
 none-at p (f ∷ fs) zero d none within = (found-none f (find p fs) (p f) none).0
 none-at p (f ∷ fs) (suc k) d none within = none-at p fs k d (found-none f (find p fs) (p f) none).1 (omega arith)

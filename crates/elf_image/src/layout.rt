@@ -5,7 +5,7 @@ ghost use Rattle.std.specs.List.{find, filter};
 ghost use Rattle.elf_image.specs.Sections.{sections, is_code_section, is_read_only_section, holds_bytes};
 ghost use Rattle.elf_image.specs.Code.{is_even};
 ghost use Rattle.elf_image.specs.FaultTests.{any_pair, shares_address};
-ghost use Rattle.elf_image.specs.Faults.{first_among, first_image_fault, IsImage};
+ghost use Rattle.elf_image.specs.Faults.{first_among, first_fault, first_image_fault, IsImage};
 ghost use Rattle.elf_image.specs.Passes.{code_faults};
 ghost use Rattle.elf_image.specs.Outcome.{IfMalformed};
 ghost use Rattle.elf_image.specs.Layout.{FindsAmong, IsLayoutOf};
@@ -85,6 +85,7 @@ pub(crate) fn judge(alloc: Global, bytes: &[u8]) -> Result<Layout, ElfError>
     ensures image { IfOk result (λ _. IsImage bytes.now) }
     ensures layout { IfOk result (λ layout. IsLayoutOf bytes.now layout) }
     ensures malformed { IfErr result (λ e. IfMalformed e (λ f. first_image_fault bytes.now ≡ Some f)) }
+    ensures first { IfErr result (λ e. IfMalformed e (λ f. first_fault bytes.now ≡ Some f)) }
 {
     if let Some(fault) = file_fault(bytes) {
         return Err(ElfError::Malformed(fault));
