@@ -1,9 +1,8 @@
 -- What is known of a file that was accepted.
-use Rattle.std.proofs.Common.{◌≡◌, ℕ, ◌+◌, ◌-◌, ◌<◌, ◌≤◌, ◌^◌, Bool, true, false, not, ◌&&◌, cond, List, length, get_or, Option, Some, None, is_some, MatchOption, refl, sym, ap, ◌∙◌, subst, arith, lit<, inl, inr, eqb, ltb}
-use Rattle.std.specs.List.{find, list_any, Contains}
+use Rattle.std.proofs.Common.{◌≡◌, ℕ, ◌+◌, ◌-◌, ◌<◌, ◌≤◌, ◌^◌, Bool, true, false, not, ◌&&◌, List, length, get_or, refl, sym, ap, ◌∙◌, subst, arith, lit<, inl, inr, eqb}
+use Rattle.std.specs.List.{find, Contains}
 use Rattle.std.specs.Prelude.{IfSome}
 use Rattle.std.proofs.lemmas.Bool.{cases_Bool, both_ways, eqb-true, eqb-false, ltb-false, not-false, and_parts}
-use Rattle.std.proofs.lemmas.Bool.Decides.{nat_tests}
 use Rattle.elf_image.specs.declared.section.Section.{Section}
 use Rattle.elf_image.specs.declared.fault.Fault.{Fault}
 use Rattle.elf_image.specs.declared.fault.Fault.TheVariants.{TooLarge, Short, NoSections, SectionTable, SectionRange, SectionWrap, Entry}

@@ -1,5 +1,5 @@
 -- Sections without those that are empty.
-use Rattle.std.proofs.Common.{◌≡◌, ℕ, ◌+◌, ◌<◌, Bool, true, false, ◌&&◌, ◌||◌, List, [], ◌∷◌, ltb, refl, sym, ap, ap₂, ◌∙◌, arith, inl, inr, subst}
+use Rattle.std.proofs.Common.{◌≡◌, ℕ, ◌<◌, Bool, true, false, ◌&&◌, ◌||◌, List, [], ◌∷◌, ltb, refl, sym, ap, ap₂, ◌∙◌, arith, inl, inr, subst}
 use Rattle.std.specs.List.{find, filter, list_any, All}
 use Rattle.std.proofs.lemmas.Bool.{cases_Bool, ltb-true, and_parts}
 use Rattle.std.proofs.lemmas.List.Elements.{All-cons}

@@ -1,8 +1,7 @@
 -- Sections of which each ends where the next begins, or before.
-use Rattle.std.proofs.Common.{◌≡◌, ◌≢◌, ℕ, suc, zero, ◌+◌, ◌-◌, ◌<◌, ◌≤◌, ◌^◌, Bool, true, false, not, cond, List, [], ◌∷◌, length, get_or, Option, Some, None, MatchBool, refl, sym, ap, ◌∙◌, subst, arith, inl, inr, leb, ltb, max, min, ap₂}
-use Rattle.std.specs.Prelude.{◌⊎◌}
-use Rattle.std.specs.List.{find, All, AllWithin, AllAdjacentBelow, Contains, list_any}
-use Rattle.std.specs.List.Sorted.{IsPermutation, IsNonDecreasingBy, IsPartitionedBy, IsPartitionPoint}
+use Rattle.std.proofs.Common.{◌≡◌, ◌≢◌, ℕ, suc, zero, ◌+◌, ◌-◌, ◌<◌, ◌≤◌, true, false, cond, List, length, get_or, Some, None, refl, sym, ap, ◌∙◌, subst, arith, inl, inr, leb, ltb, max, min, ap₂}
+use Rattle.std.specs.List.{find, All, Contains}
+use Rattle.std.specs.List.Sorted.{IsPermutation, IsNonDecreasingBy, IsPartitionPoint}
 use Rattle.std.proofs.lemmas.Bool.{cases_Bool, cases_order, false_from_ne_true, cond-true, cond-false, ltb-true, lt-ltb, leb-true, leb-false}
 use Rattle.std.proofs.lemmas.Bool.Decides.{nat_tests}
 use Rattle.std.proofs.Math.Nat.{max_comm, min_comm}
@@ -14,7 +13,7 @@ use Rattle.elf_image.specs.Sections.{holds_bytes}
 use Rattle.elf_image.specs.FaultTests.{any_pair, shares_address}
 use Rattle.elf_image.specs.Spans.{IsLaidOut, HasOverhang, FindsSame}
 use Rattle.elf_image.proofs.Finds.{find-at, find-none, find-permutation}
-use Rattle.elf_image.proofs.Pairs.{Pair, any_pair-at, pair-from_any_pair, any_pair-permutation}
+use Rattle.elf_image.proofs.Pairs.{any_pair-at, pair-from_any_pair, any_pair-permutation}
 
 -- a section, to read past the end of a list
 abbrev pub no_section : Section

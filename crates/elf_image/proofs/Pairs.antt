@@ -1,15 +1,13 @@
 -- Two places of a list whose elements stand in a relation.
-use Rattle.std.proofs.Common.{◌≡◌, ◌≢◌, ℕ, suc, zero, ◌+◌, ◌<◌, Bool, true, false, ◌||◌, List, [], ◌∷◌, length, get_or, refl, sym, ap, ap₂, ◌∙◌, arith, inl, inr}
-use Rattle.std.specs.Prelude.{◌⊎◌}
-use Rattle.std.specs.List.{list_any, Contains, swap}
+use Rattle.std.proofs.Common.{◌≡◌, ◌≢◌, ℕ, suc, zero, ◌<◌, Bool, true, false, List, [], ◌∷◌, length, get_or, refl, sym, ap, ap₂, ◌∙◌, arith, inl, inr}
+use Rattle.std.specs.List.{list_any, swap}
 use Rattle.std.specs.List.Sorted.{IsPermutation}
-use Rattle.std.proofs.lemmas.Bool.{cases_Bool, both_ways, or_cases, or_left, or_right, cases_order, cases_eq, true_from_ne_false, false_from_ne_true}
+use Rattle.std.proofs.lemmas.Bool.{cases_Bool, both_ways, or_cases, or_left, or_right, cases_order, cases_eq, false_from_ne_true}
 use Rattle.std.proofs.lemmas.List.Edits.{swapped_from_swap, length-swap}
 use Rattle.std.proofs.lemmas.List.Folds.{list_any_at}
 use Rattle.std.proofs.lemmas.List.Sorted.{IsPermutation-keeps, IsPermutation-sym}
 use Rattle.elf_image.specs.declared.section.Section.{Section}
 use Rattle.elf_image.specs.FaultTests.{any_pair}
-use Rattle.elf_image.proofs.Finds.{find-cases}
 
 -- an exchange takes different places from different places
 apart : (i j at bt from fro : ℕ) → (at ≡ i → from ≡ j) → (at ≡ j → from ≡ i) → (at ≢ i → at ≢ j → from ≡ at) → (bt ≡ i → fro ≡ j) → (bt ≡ j → fro ≡ i) → (bt ≢ i → bt ≢ j → fro ≡ bt) → from ≡ fro → at ≡ bt

@@ -1,5 +1,4 @@
 -- What an image keeps of its file. No public clause names what stands here.
-use Rattle.std.specs.Prelude.{List, ℕ}
 use Rattle.elf_image.specs.declared.image.Image.TheInside.{Inside}
 use Rattle.elf_image.specs.Faults.{IsImage}
 use Rattle.elf_image.specs.Layout.{IsLayoutOf}

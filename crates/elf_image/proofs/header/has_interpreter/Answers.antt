@@ -1,4 +1,4 @@
-use Rattle.std.proofs.Common.{◌≡◌, ℕ, ◌<◌, true, false, eqb, sym, arith, rules}
+use Rattle.std.proofs.Common.{◌≡◌, ◌<◌, true, eqb, sym, arith}
 use Rattle.std.proofs.lemmas.Bool.Decides.{nat_tests}
 use Rattle.elf_image.specs.Header as header
 use Rattle.elf_image.specs.Header.{program_header_types}

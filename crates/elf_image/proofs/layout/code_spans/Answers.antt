@@ -1,4 +1,4 @@
-use Rattle.std.proofs.Common.{◌∙◌, ap, not}
+use Rattle.std.proofs.Common.{◌∙◌, ap}
 use Rattle.std.proofs.lemmas.Result.{IfOk-weaker}
 use Rattle.elf_image.specs.Sections.{is_code_section}
 use Rattle.elf_image.specs.FaultTests.{any_pair, shares_address}

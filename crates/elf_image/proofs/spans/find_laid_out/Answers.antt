@@ -1,6 +1,6 @@
-use Rattle.std.proofs.Common.{◌≡◌, ℕ, suc, ◌+◌, ◌-◌, ◌<◌, ◌≤◌, Bool, true, false, List, length, get_or, leb, sym, ◌∙◌, arith, rules, cond}
+use Rattle.std.proofs.Common.{◌≡◌, true, false, leb, sym, ◌∙◌, rules}
 use Rattle.std.specs.List.Sorted.{IsPartitionPoint}
-use Rattle.std.proofs.lemmas.Bool.{leb-true, leb-false, cond-true, cond-false}
+use Rattle.std.proofs.lemmas.Bool.{cond-true, cond-false}
 use Rattle.std.proofs.lemmas.List.Sorted.{IsPartitionPoint-from_clause, IsPartitionedBy-leb}
 use Rattle.elf_image.specs.declared.section.Section.{Section}
 use Rattle.elf_image.proofs.LaidOut.{find-none_before, find-last_before, laid_out-rises}

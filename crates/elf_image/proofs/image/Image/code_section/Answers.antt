@@ -1,6 +1,5 @@
-use Rattle.std.proofs.Common.{◌≡◌, ◌∙◌, sym, ap, subst, cond, Option, None, lit<}
+use Rattle.std.proofs.Common.{◌∙◌, sym, ap, subst, cond, None, lit<}
 use Rattle.std.specs.Prelude.{IfSome}
-use Rattle.elf_image.specs.declared.section.Section.{Section}
 use Rattle.elf_image.specs.Code.{code_section_of, is_even}
 use Rattle.elf_image.specs.Found.{IsFoundAt}
 use Rattle.elf_image.proofs.Accepted.{code_section-found}

@@ -1,4 +1,4 @@
-use Rattle.std.proofs.Common.{◌≡◌, ◌∙◌, sym, ap, subst, lit<}
+use Rattle.std.proofs.Common.{◌∙◌, sym, ap, subst, lit<}
 use Rattle.std.specs.Prelude.{IfSome}
 use Rattle.elf_image.specs.ReadOnly.{data_section_of}
 use Rattle.elf_image.specs.Found.{IsFoundAt}

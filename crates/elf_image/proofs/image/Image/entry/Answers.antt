@@ -1,4 +1,4 @@
-use Rattle.std.proofs.Common.{◌≡◌, ◌∙◌, sym, ap, subst, length, arith, true}
+use Rattle.std.proofs.Common.{◌≡◌, ◌∙◌, ap, subst, length, arith, true}
 use Rattle.elf_image.specs.Header as header
 use Rattle.elf_image.specs.Code.{is_code}
 use Rattle.elf_image.proofs.Accepted.{is_long, entry_is_code}

@@ -1,4 +1,4 @@
-use Rattle.std.proofs.Common.{◌≡◌, ◌∙◌, sym, ap, is_some, lit<}
+use Rattle.std.proofs.Common.{◌∙◌, ap, is_some, lit<}
 use Rattle.elf_image.specs.Sections.{sections}
 use Rattle.elf_image.specs.ReadOnly.{is_read_only, is_read_only_section_of}
 use Rattle.elf_image.proofs.Finds.{is_some-find}

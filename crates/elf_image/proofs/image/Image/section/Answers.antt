@@ -1,5 +1,4 @@
 use Rattle.std.proofs.Common.{◌≡◌, ◌<◌, ◌∙◌, false, sym, ap, subst, length, get_or, arith}
-use Rattle.elf_image.specs.declared.section.Section.{Section}
 use Rattle.elf_image.specs.Header as header
 use Rattle.elf_image.specs.Sections.{section}
 use Rattle.elf_image.specs.FaultTests.{is_out_of_file}
