@@ -65,14 +65,16 @@ module _ (bytes : List ℕ) (accepted : IsImage bytes) where
   pub is_in_file : (s : Section) → Contains (sections bytes) s → is_out_of_file (length bytes) s ≡ false
   unfolding has_fault has_section_out_of_file
   is_in_file s there = elim (cases_Bool (is_out_of_file (length bytes) s)) [
-      inl out ↦ absurd (both_ways _ (no_fault 13 SectionRange (lit< tt) refl) (any-contained (is_out_of_file (length bytes)) (sections bytes) s there out))
-    | inr fits ↦ fits ]
+    | inl out ↦ absurd (both_ways _ (no_fault 13 SectionRange (lit< tt) refl) (any-contained (is_out_of_file (length bytes)) (sections bytes) s there out))
+    | inr fits ↦ fits
+  ]
 
   pub is_in_memory : (s : Section) → Contains (sections bytes) s → is_wrapping s ≡ false
   unfolding has_fault has_wrapping_section
   is_in_memory s there = elim (cases_Bool (is_wrapping s)) [
-      inl out ↦ absurd (both_ways _ (no_fault 14 SectionWrap (lit< tt) refl) (any-contained is_wrapping (sections bytes) s there out))
-    | inr fits ↦ fits ]
+    | inl out ↦ absurd (both_ways _ (no_fault 14 SectionWrap (lit< tt) refl) (any-contained is_wrapping (sections bytes) s there out))
+    | inr fits ↦ fits
+  ]
 
   -- bytes in a section of an allocated kind lie in the file and in memory
   found : (test : Section → Bool) → ((s : Section) → test s ≡ true → IsLoaded s) → (a n : ℕ) (s : Section) → Contains (sections bytes) s → (test s && holds_bytes a n s) ≡ true → IsFoundAt bytes a n s
@@ -93,14 +95,16 @@ module _ (bytes : List ℕ) (accepted : IsImage bytes) where
   find-found : (test : Section → Bool) → ((s : Section) → test s ≡ true → IsLoaded s) → (a n : ℕ) → IfSome (find (λ s. test s && holds_bytes a n s) (sections bytes)) (IsFoundAt bytes a n)
   find-found test loaded a n =
       elim (find-cases (λ s. test s && holds_bytes a n s) (sections bytes)) [
-        inl none ↦ subst (λ o. IfSome o (IsFoundAt bytes a n)) (sym none.0) tt
-      | inr it ↦ subst (λ o. IfSome o (IsFoundAt bytes a n)) (sym it.1) (found test loaded a n it.0 it.3 it.2) ]
+        | inl none ↦ subst (λ o. IfSome o (IsFoundAt bytes a n)) (sym none.0) tt
+        | inr it ↦ subst (λ o. IfSome o (IsFoundAt bytes a n)) (sym it.1) (found test loaded a n it.0 it.3 it.2)
+      ]
 
   pub code_section-found : (a : ℕ) → IfSome (code_section_of bytes a) (IsFoundAt bytes a 2)
   unfolding code_section_of
   code_section-found a = elim (cases_Bool (is_even a)) [
-      inl even ↦ rw even (find-found is_code_section code-loaded a 2)
-    | inr odd ↦ rw odd tt ]
+    | inl even ↦ rw even (find-found is_code_section code-loaded a 2)
+    | inr odd ↦ rw odd tt
+  ]
 
   pub data_section-found : (a : ℕ) → IfSome (data_section_of bytes a) (IsFoundAt bytes a 4)
   unfolding data_section_of

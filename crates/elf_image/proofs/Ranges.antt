@@ -12,14 +12,14 @@ module _ {X : Type 0} (p : X → Bool) (f : ℕ → X) where
   pub any-none : (n : ℕ) → ((k : ℕ) → k < n → p (f k) ≡ false) → list_any p (map f (range_with_len 0 n)) ≡ false
   any-none n h =
       list_any_none p (map f (range_with_len 0 n)) (λ k d below.
-          let within : k < n = omega (arith, length-map-range_with_len f 0 n) in
-          ap p (get_or-map-range_with_len f 0 n k k d within (omega arith)) ∙ h k within)
+      let within : k < n = omega (arith, length-map-range_with_len f 0 n) in
+      ap p (get_or-map-range_with_len f 0 n k k d within (omega arith)) ∙ h k within)
 
   -- one element passes
   pub any-at : (n k : ℕ) → k < n → p (f k) ≡ true → list_any p (map f (range_with_len 0 n)) ≡ true
   any-at n k within h =
       list_any_at p (map f (range_with_len 0 n)) k (f k) (omega (arith, length-map-range_with_len f 0 n))
-          (ap p (get_or-map-range_with_len f 0 n k k (f k) within (omega arith)) ∙ h)
+      (ap p (get_or-map-range_with_len f 0 n k k (f k) within (omega arith)) ∙ h)
 
 -- a loop that pushes the value at each index: one more
 pub range-push : {X : Type 0} (f : ℕ → X) (n : ℕ) (xs ys : List X) (x : X) → xs ≡ map f (range_with_len 0 n) → x ≡ f n → ys ≡ xs ++ x ∷ [] → ys ≡ map f (range_with_len 0 (n + 1))

@@ -39,7 +39,11 @@ fn code_spans(alloc: Global, sections: &[Section]) -> Result<Spans, AllocError>
 fn filled_code(alloc: Global, sections: &[Section]) -> Result<Vec<Section>, AllocError>
     ensures { IfOk result (λ v. v.items ≡ filter (λ s. is_code_section s && nat_lt 0 s.size) sections.now) }
 {
-    sections.iter().copied().filter(|s| s.is_code() && s.size > 0).collect(alloc)
+    sections
+        .iter()
+        .copied()
+        .filter(|s| s.is_code() && s.size > 0)
+        .collect(alloc)
 }
 
 /// The read-only sections that are not empty.
@@ -53,7 +57,11 @@ fn read_only_spans(alloc: Global, sections: &[Section]) -> Result<Spans, AllocEr
 fn filled_read_only(alloc: Global, sections: &[Section]) -> Result<Vec<Section>, AllocError>
     ensures { IfOk result (λ v. v.items ≡ filter (λ s. is_read_only_section s && nat_lt 0 s.size) sections.now) }
 {
-    sections.iter().copied().filter(|s| s.is_read_only() && s.size > 0).collect(alloc)
+    sections
+        .iter()
+        .copied()
+        .filter(|s| s.is_read_only() && s.size > 0)
+        .collect(alloc)
 }
 
 /// The section that has both bytes of the halfword at `a`, where `a` is even.

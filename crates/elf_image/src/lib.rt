@@ -13,3 +13,6 @@ mod table;
 pub use fault::{ElfError, Fault};
 pub use image::Image;
 pub use section::{Section, Span};
+
+#[cfg(test)]
+mod tests;

@@ -20,4 +20,4 @@ unfolding has_fault has_interpreter program_header_types
 returns c =
     let bytes = c.args.bytes.now in
     sym (any-none (λ kind. eqb kind 3) (header.program_header_type bytes) (header.program_header_count bytes)
-        (λ k below. c.loop-i.invariant k (omega arith)))
+    (λ k below. c.loop-i.invariant k (omega arith)))

@@ -14,7 +14,7 @@ read_sections-requires-clause-table c = table_fits c.args.bytes.now (sym c.file_
 pub returns-in-Some-section_fault-clause-malformed : goal.returns-in-Some-section_fault-clause-malformed
 returns-in-Some-section_fault-clause-malformed c =
     first_of_section c.args.bytes.now c.in-Some-section_fault.fault (sym c.file_fault.ensures ∙ c.in_default.is)
-        (sym c.section_fault.ensures ∙ c.in-Some-section_fault.is)
+    (sym c.section_fault.ensures ∙ c.in-Some-section_fault.is)
 
 pub code_fault-requires-clause-header : goal.code_fault-requires-clause-header
 code_fault-requires-clause-header c = long_enough c.args.bytes.now (sym c.file_fault.ensures ∙ c.in_default.is)

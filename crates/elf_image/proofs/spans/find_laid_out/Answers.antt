@@ -16,16 +16,16 @@ split c =
 pub returns-then-after-eq0 : goal.returns-then-after-eq0
 returns-then-after-eq0 c =
     sym (find-none_before c.args.sections.now c.args.a c.args.n c.partition_point-after.result c.if-after-eq0.true
-        (split (goal.at.returns-then-after-eq0 c).After-partition_point-after))
+    (split (goal.at.returns-then-after-eq0 c).After-partition_point-after))
 
 pub returns-then-holds_bytes : goal.returns-then-holds_bytes
 returns-then-holds_bytes c =
     sym (find-last_before c.args.sections.now c.requires.laid_out c.args.a c.args.n c.partition_point-after.result c.requires.some
-            c.if-after-eq0.false c.partition_point-after.ensures.bound (split (goal.at.returns-then-holds_bytes c).After-partition_point-after)
-        ∙ cond-true _ _ _ (sym c.holds_bytes.ensures ∙ c.if-holds_bytes.true))
+    c.if-after-eq0.false c.partition_point-after.ensures.bound (split (goal.at.returns-then-holds_bytes c).After-partition_point-after)
+    ∙ cond-true _ _ _ (sym c.holds_bytes.ensures ∙ c.if-holds_bytes.true))
 
 pub returns-else-holds_bytes : goal.returns-else-holds_bytes
 returns-else-holds_bytes c =
     sym (find-last_before c.args.sections.now c.requires.laid_out c.args.a c.args.n c.partition_point-after.result c.requires.some
-            c.if-after-eq0.false c.partition_point-after.ensures.bound (split (goal.at.returns-else-holds_bytes c).After-partition_point-after)
-        ∙ cond-false _ _ _ (sym c.holds_bytes.ensures ∙ c.if-holds_bytes.false))
+    c.if-after-eq0.false c.partition_point-after.ensures.bound (split (goal.at.returns-else-holds_bytes c).After-partition_point-after)
+    ∙ cond-false _ _ _ (sym c.holds_bytes.ensures ∙ c.if-holds_bytes.false))

@@ -6,4 +6,4 @@ use Rattle.elf_image.proofs.image.Image.parse.Goals as goal
 pub returns-clause-rest : goal.returns-clause-rest
 returns-clause-rest c =
     subst (λ bytes. first_fault bytes ≡ first_symbol_fault bytes) c.deref.ensures.value
-        (first-from_symbols c.deref.result.now c.in_ok-layout.ensures.image)
+    (first-from_symbols c.deref.result.now c.in_ok-layout.ensures.image)

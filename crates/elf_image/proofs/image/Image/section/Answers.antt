@@ -30,7 +30,7 @@ returns-clause-in_file c =
     let there = Contains-section bytes c.args.i (within (goal.at.returns-clause-in_file c).After-self) in
     let fits = is_in_file bytes c.self.invariant.image (section bytes c.args.i) there in
     subst (λ file. is_out_of_file (length file) c.index.result.now ≡ false) c.self.view_is
-        (ap (is_out_of_file (length bytes)) (is_section c) ∙ fits)
+    (ap (is_out_of_file (length bytes)) (is_section c) ∙ fits)
 
 pub returns-clause-small : goal.returns-clause-small
 returns-clause-small c = omega (arith, ap length c.self.view_is, is_small c.self.inside.bytes.items c.self.invariant.image)

@@ -10,4 +10,4 @@ u16_at-requires c =
 pub returns-clause-some : goal.returns-clause-some
 returns-clause-some c =
     subst (λ n. 0 < n) (sym (c.into.ensures ∙ c.u16_at.ensures ∙ ap header.section_count c.deref.ensures.value))
-        (some_sections c.self.inside.bytes.items c.self.invariant.image)
+    (some_sections c.self.inside.bytes.items c.self.invariant.image)
