@@ -193,9 +193,13 @@ fn limits(rt: HostRuntime) -> Result<(), Fail> {
     Ok(())
 }
 
+/// A value that threads may share.
+fn shared<T: Sync>(_value: &T) {}
+
 #[test]
 fn reads(rt: HostRuntime) -> Result<(), Fail> {
     let image = Image::parse(rt.alloc(), Vec::from_slice(rt.alloc(), &RET_FILE)?)?;
+    shared(&image);
     assert_eq!(rt; image.entry(), 0x10000);
     for (a, start, half, word) in [
         (0xFFFE, None, None, None),
