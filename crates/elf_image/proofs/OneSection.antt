@@ -1,6 +1,6 @@
 -- An accepted file has one code section at most for each code address.
-use Rattle.std.proofs.Common.{◌≡◌, ℕ, suc, zero, ◌+◌, ◌<◌, ◌≤◌, Bool, true, false, ◌&&◌, cond, List, [], ◌∷◌, length, get_or, Option, Some, None, refl, sym, ap, ◌∙◌, subst, arith, inl, inr, lit<, leb, max, min}
-use Rattle.std.specs.List.{find, filter, Contains}
+use Rattle.std.proofs.Common.{◌≡◌, ℕ, suc, zero, ◌+◌, ◌<◌, ◌≤◌, Bool, true, false, List, [], ◌∷◌, get_or, Some, None, refl, sym, ap, ◌∙◌, subst, arith, inl, inr, lit<, leb, max, min}
+use Rattle.std.specs.List.{filter, Contains}
 use Rattle.std.specs.Option.{option_map}
 use Rattle.std.proofs.lemmas.Bool.{cases_Bool, cases_order, both_ways, and_parts, and_from, lt-ltb, le-leb}
 use Rattle.std.proofs.lemmas.List.{get_or_default}
@@ -10,7 +10,7 @@ use Rattle.elf_image.specs.Sections.{sections, is_code_section, holds_bytes}
 use Rattle.elf_image.specs.Code.{is_even, is_code_section_of, code_section_of, section_start}
 use Rattle.elf_image.specs.FaultTests.{any_pair, shares_address, has_code_overlap}
 use Rattle.elf_image.specs.Faults.{has_fault, IsImage}
-use Rattle.elf_image.proofs.Finds.{find-cases, any-contained, PassesOnce}
+use Rattle.elf_image.proofs.Finds.{find-cases, any-contained}
 use Rattle.elf_image.proofs.Pairs.{any_pair-at}
 use Rattle.elf_image.proofs.LaidOut.{no_section, holds-true, shares-symmetric}
 use Rattle.elf_image.proofs.Accepted.{no_fault}
