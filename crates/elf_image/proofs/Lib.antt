@@ -1,0 +1,9 @@
+mod Examples
+pub mod Ranges
+pub mod Finds
+pub mod Pairs
+pub mod LaidOut
+pub mod Filled
+pub mod FirstFault
+pub mod Accepted
+pub mod OneSection
