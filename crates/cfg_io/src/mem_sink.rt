@@ -96,11 +96,12 @@ impl Sink for MemSink {
     {
         let fails = fails_next(&self.failing, self.calls);
         self.calls = self.calls.saturating_add(1);
-        let n = piece.len().min(self.most.min(self.room - self.written.len()));
-        if fails || n == 0 {
+        let left = self.room - self.written.len();
+        if fails || left == 0 {
             self.faults = self.faults.saturating_add(1);
             return Err(Failed);
         }
+        let n = piece.len().min(self.most.min(left));
         self.written.extend_from_slice(&piece[..n]).unwrap();
         Ok(n)
     }
