@@ -12,6 +12,7 @@ use std::rt::Files;
 /// A file of the runtime `R`. It tells neither its path nor its bytes, which no contract can.
 ///
 /// Each error of the system counts as a fault, want of memory too.
+#[derive(Drop)]
 pub struct FileInput<R: Files> {
     rt: R,
     file: Option<R::File>,
@@ -21,7 +22,10 @@ pub struct FileInput<R: Files> {
 impl<R: Files> FileInput<R> {
     /// An input with nothing opened.
     pub fn new(rt: R) -> Self
-        ensures { ⟦<FileInput<R> as Input>⟧.opened result ≡ Nothing }
+        ensures closed { ⟦<FileInput<R> as Input>⟧.opened result ≡ Nothing }
+        ensures no_faults { ⟦<FileInput<R> as Input>⟧.faults result ≡ 0 }
+        ensures tells_no_path { ⟦<FileInput<R> as Input>⟧.tells_path result ≡ false }
+        ensures tells_no_bytes { ⟦<FileInput<R> as Input>⟧.rest result ≡ None }
     {
         FileInput {
             rt,
@@ -67,4 +71,34 @@ impl<R: Files> Input for FileInput<R> {
     }
 
     ghost faults_fit = { λ m. Prim.omega arith };
+}
+
+#[cfg(test)]
+mod tests {
+    use super::*;
+    use std::test::Fail;
+    use std::{env, process};
+
+    #[test]
+    fn reads_a_file(rt: HostRuntime) -> Result<(), Fail> {
+        let mut missing = FileInput::new(&rt);
+        assert!(rt; missing.open("/no/such/file") == Err(Failed));
+        assert!(rt; missing.open("") == Err(Failed));
+        assert_eq!(rt; missing.faults, 2);
+
+        let folder = env::temp_dir(&rt)?;
+        let id = process::id(rt.process());
+        let path = format!(in rt.alloc(); "{}/cfg_io_{id}", folder.display())?;
+        fs::write(&rt, path.as_str(), "four")?;
+        let mut input = FileInput::new(&rt);
+        let opened = input.open(path.as_str());
+        fs::remove_file(&rt, path.as_str())?;
+        opened?;
+        let mut buf = [0; 8];
+        assert_eq!(rt; input.read(&mut buf)?, 4);
+        assert_eq!(rt; buf, *b"four\0\0\0\0");
+        assert_eq!(rt; input.read(&mut buf)?, 0);
+        assert_eq!(rt; input.faults, 0);
+        Ok(())
+    }
 }

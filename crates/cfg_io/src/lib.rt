@@ -27,7 +27,10 @@ pub use input::Input;
 pub use mem_input::MemInput;
 pub use mem_sink::MemSink;
 pub use memory::Memory;
-pub use reading::{ReadEnd, read_whole};
+pub use reading::{MAX_LIMIT, ReadEnd, read_whole};
 pub use sink::Sink;
 pub use std_sink::StdSink;
 pub use writing::write_whole;
+
+#[cfg(test)]
+mod tests;

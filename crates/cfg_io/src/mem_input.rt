@@ -31,13 +31,14 @@ impl Model for MemInput {
     ghost Value = { MemInputState };
 
     ghost view = { λ m. record {
-        name = string_bytes m.name;
-        rest = drop m.at m.bytes.items;
-        most = m.most;
-        failing = m.failing.items;
-        calls = m.calls;
-        is_open = m.is_open;
-        faults = m.faults } };
+      name = string_bytes m.name;
+      rest = drop m.at m.bytes.items;
+      most = m.most;
+      failing = m.failing.items;
+      calls = m.calls;
+      is_open = m.is_open;
+      faults = m.faults;
+    } };
 
     ghost invariant = { λ m. (m.at ≤ length m.bytes.items) × (0 < m.most) };
 }
@@ -48,13 +49,14 @@ impl MemInput {
     pub fn new(name: String, bytes: Vec<u8>, most: usize, failing: Vec<u64>) -> Self
         requires { 0 < most }
         ensures { result ≡ record {
-            name = string_bytes name;
-            rest = bytes.items;
-            most = most;
-            failing = failing.items;
-            calls = 0;
-            is_open = false;
-            faults = 0 } }
+          name = string_bytes name;
+          rest = bytes.items;
+          most = most;
+          failing = failing.items;
+          calls = 0;
+          is_open = false;
+          faults = 0;
+        } }
     {
         MemInput {
             name,
@@ -80,15 +82,12 @@ impl Input for MemInput {
 
     fn open(&mut self, path: &str) -> Result<(), Failed>
         requires { opened_of self.old ≡ Nothing }
-        ensures opens { OnOk result (opened_of self.new ≡ Something (told_path true path.now)) }
-        ensures stays_closed { OnErr result (opened_of self.new ≡ Nothing) }
-        ensures takes_nothing { Some self.new.rest ≡ Some self.old.rest }
-        ensures never_falls { fault_count self.old.faults ≤ fault_count self.new.faults }
-        ensures failed { OnErr result (Rose (fault_count self.old.faults) (fault_count self.new.faults)) }
 
         // It fails exactly where its number is in the list or the path is another.
         ensures fails { OnErr result (FailsNext self.old.failing self.old.calls ⊎ (path.now ≢ self.old.name)) }
-        ensures succeeds { OnOk result ((FailsNext self.old.failing self.old.calls → ⊥) × (path.now ≡ self.old.name)) }
+        ensures ok_number { OnOk result (¬ FailsNext self.old.failing self.old.calls) }
+        ensures ok_path { OnOk result (path.now ≡ self.old.name) }
+
         ensures after_ok { OnOk result (self.new ≡ after_open self.old) }
         ensures after_err { OnErr result (self.new ≡ after_failed self.old) }
     {
@@ -108,14 +107,11 @@ impl Input for MemInput {
         ensures in_bounds { IfOk result (λ n. n ≤ length buf.new) }
         ensures takes { IfOk result (λ n. Takes (Some self.old.rest) (take n buf.new) (Some self.new.rest)) }
         ensures ends { IfOk result (λ n. IfSome (Some self.old.rest) (λ left. (n ≡ 0) ↔ (left ≡ []))) }
-        ensures failed_takes_nothing { OnErr result (Some self.new.rest ≡ Some self.old.rest) }
-        ensures stays_opened { opened_of self.new ≡ opened_of self.old }
-        ensures never_falls { fault_count self.old.faults ≤ fault_count self.new.faults }
-        ensures failed { OnErr result (Rose (fault_count self.old.faults) (fault_count self.new.faults)) }
 
         // It fails exactly where its number is in the list.
         ensures fails { OnErr result (FailsNext self.old.failing self.old.calls) }
-        ensures succeeds { OnOk result (FailsNext self.old.failing self.old.calls → ⊥) }
+        ensures ok_number { OnOk result (¬ FailsNext self.old.failing self.old.calls) }
+
         ensures count { IfOk result (λ n. n ≡ min (length buf.old) (min self.old.most (length self.old.rest))) }
         ensures bytes { IfOk result (λ n. buf.new ≡ take n self.old.rest ++ drop n buf.old) }
         ensures after_ok { IfOk result (λ n. self.new ≡ after_read self.old n) }

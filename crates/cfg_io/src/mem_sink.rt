@@ -28,12 +28,13 @@ impl Model for MemSink {
     ghost Value = { MemSinkState };
 
     ghost view = { λ m. record {
-        written = m.written.items;
-        room = m.room;
-        most = m.most;
-        failing = m.failing.items;
-        calls = m.calls;
-        faults = m.faults } };
+      written = m.written.items;
+      room = m.room;
+      most = m.most;
+      failing = m.failing.items;
+      calls = m.calls;
+      faults = m.faults;
+    } };
 
     ghost invariant = { λ m. (vec_len m.written ≤ m.room) × (m.room ≤ vec_capacity m.written) × (0 < m.most) };
 }
@@ -47,12 +48,13 @@ impl MemSink {
     pub fn new(alloc: Global, room: usize, most: usize, failing: Vec<u64>) -> Result<Self, Memory>
         requires { 0 < most }
         ensures { IfOk result (λ sink. sink ≡ record {
-            written = [];
-            room = room;
-            most = most;
-            failing = failing.items;
-            calls = 0;
-            faults = 0 }) }
+          written = [];
+          room = room;
+          most = most;
+          failing = failing.items;
+          calls = 0;
+          faults = 0;
+        }) }
     {
         let written = Vec::with_capacity(alloc, room)?;
         Ok(MemSink {
@@ -82,14 +84,12 @@ impl Sink for MemSink {
         requires { 0 < length piece.now }
         ensures some { IfOk result (λ n. 0 < n) }
         ensures in_bounds { IfOk result (λ n. n ≤ length piece.now) }
-        ensures appends { IfOk result (λ n. Appends (Some self.old.written) (take n piece.now) (Some self.new.written)) }
-        ensures failed_appends_nothing { OnErr result (Some self.new.written ≡ Some self.old.written) }
-        ensures never_falls { fault_count self.old.faults ≤ fault_count self.new.faults }
-        ensures failed { OnErr result (Rose (fault_count self.old.faults) (fault_count self.new.faults)) }
 
         // It fails exactly where its number is in the list or no room is left.
         ensures fails { OnErr result (FailsNext self.old.failing self.old.calls ⊎ (self.old.room ≤ length self.old.written)) }
-        ensures succeeds { OnOk result ((FailsNext self.old.failing self.old.calls → ⊥) × (length self.old.written < self.old.room)) }
+        ensures ok_number { OnOk result (¬ FailsNext self.old.failing self.old.calls) }
+        ensures ok_room { OnOk result (length self.old.written < self.old.room) }
+
         ensures count { IfOk result (λ n. n ≡ min (length piece.now) (min self.old.most (self.old.room - length self.old.written))) }
         ensures after_ok { IfOk result (λ n. self.new ≡ after_write self.old (take n piece.now)) }
         ensures after_err { OnErr result (self.new ≡ after_failed self.old) }

@@ -39,8 +39,8 @@ impl From<AllocError> for ReadEnd {
     }
 }
 
-/// The largest limit in bytes, 1 GiB.
-const MAX_LIMIT: usize = 1_073_741_824;
+/// The largest limit of [`read_whole`] in bytes, 1 GiB.
+pub const MAX_LIMIT: usize = 1_073_741_824;
 
 /// The buffer's first size in bytes.
 const FIRST_ROOM: usize = 65_536;

@@ -1,5 +1,5 @@
 //! A sink over a writer of std.
-ghost use Rattle.std.specs.Prelude.{◌≤◌, ◌<◌, length, None, IfSome};
+ghost use Rattle.std.specs.Prelude.{◌≡◌, ◌≤◌, ◌<◌, length, None, IfSome};
 ghost use Rattle.std.proofs.Common.{arith};
 ghost use Rattle.cfg_io.specs.Fault.{fault_count};
 
@@ -17,7 +17,10 @@ pub struct StdSink<W: Write> {
 
 impl<W: Write> StdSink<W> {
     /// A sink that writes to `writer`.
-    pub fn new(writer: W) -> Self {
+    pub fn new(writer: W) -> Self
+        ensures no_faults { ⟦<StdSink<W> as Sink>⟧.faults result ≡ 0 }
+        ensures tells_no_bytes { ⟦<StdSink<W> as Sink>⟧.written result ≡ None }
+    {
         StdSink { writer, faults: 0 }
     }
 }
@@ -48,4 +51,28 @@ impl<W: Write> Sink for StdSink<W> {
     }
 
     ghost faults_fit = { λ m. Prim.omega arith };
+}
+
+#[cfg(test)]
+mod tests {
+    use super::*;
+    use std::test::Fail;
+
+    #[test]
+    fn writes_until_there_is_no_room(rt: HostRuntime) -> Result<(), Fail> {
+        let mut list = Vec::new(rt.alloc());
+        let mut sink = StdSink::new(&mut list);
+        assert_eq!(rt; sink.write(b"four")?, 4);
+        assert_eq!(rt; sink.faults, 0);
+        assert_eq!(rt; list.as_slice(), b"four".as_slice());
+
+        // A slice takes no more bytes once it is full.
+        let mut room = [0; 3];
+        let mut sink = StdSink::new(room.as_mut_slice());
+        assert_eq!(rt; sink.write(b"four")?, 3);
+        assert!(rt; sink.write(b"r") == Err(Failed));
+        assert_eq!(rt; sink.faults, 1);
+        assert_eq!(rt; room, *b"fou");
+        Ok(())
+    }
 }

@@ -9,5 +9,5 @@ loop-filled-preserved g c = record {
   taken = Takes_more _ _ _ c.loop-filled.buffer.items c.read_piece.new.buffer.items c.loop-filled.filled c.in_ok-n.n c.loop-filled.invariant.taken c.read_piece.ensures.keeps c.in_ok-n.ensures.takes;
   never_falls = omega arith;
   stays_opened = cc;
-  tells_as_before = cc
+  tells_as_before = cc;
 }

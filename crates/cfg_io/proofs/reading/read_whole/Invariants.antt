@@ -10,7 +10,7 @@ invariant-loop-filled g l = record {
   taken : Takes (g.I.Input.rest l.fn.input) (take l.filled l.buffer.items) (g.I.Input.rest l.input);
   never_falls : g.I.Input.faults l.fn.input ≤ g.I.Input.faults l.input;
   stays_opened : g.I.Input.opened l.input ≡ g.I.Input.opened l.fn.input;
-  tells_as_before : g.I.Input.tells_path l.input ≡ g.I.Input.tells_path l.fn.input
+  tells_as_before : g.I.Input.tells_path l.input ≡ g.I.Input.tells_path l.fn.input;
 }
 
 abbrev pub decreases-loop-filled : goal.decreases-loop-filled

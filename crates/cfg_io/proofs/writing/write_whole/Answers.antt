@@ -8,5 +8,5 @@ pub loop-at-preserved : goal.loop-at-preserved
 loop-at-preserved g c = record {
   in_bytes = grind (arith, common_steps);
   never_falls = omega arith;
-  written = Appends_more _ _ _ c.args.bytes.now c.loop-at.at c.in_ok-at.field-0 c.loop-at.invariant.written (rw take_rest at c.in_ok-at.ensures.appends)
+  written = Appends_more _ _ _ c.args.bytes.now c.loop-at.at c.in_ok-at.field-0 c.loop-at.invariant.written (rw take_rest at c.in_ok-at.ensures.appends);
 }

@@ -7,7 +7,7 @@ abbrev pub invariant-loop-at : goal.invariant-loop-at
 invariant-loop-at g l = record {
   in_bytes : l.at ≤ length l.bytes;
   never_falls : g.O.Sink.faults l.fn.sink ≤ g.O.Sink.faults l.sink;
-  written : Appends (g.O.Sink.written l.fn.sink) (take l.at l.bytes) (g.O.Sink.written l.sink)
+  written : Appends (g.O.Sink.written l.fn.sink) (take l.at l.bytes) (g.O.Sink.written l.sink);
 }
 
 abbrev pub decreases-loop-at : goal.decreases-loop-at
