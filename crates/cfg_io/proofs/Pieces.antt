@@ -1,9 +1,8 @@
 -- Bytes taken, and bytes appended, one piece after another.
-use Rattle.std.proofs.Common.{◌≡◌, ℕ, ◌+◌, ◌≤◌, List, [], ◌++◌, length, take, drop, Some, None, Option, refl, sym, ap, ◌∙◌, subst, append_assoc, append-nil, arith}
-use Rattle.std.specs.Option.{option_map}
+use Rattle.std.proofs.Common.{◌≡◌, ℕ, ◌+◌, ◌≤◌, List, [], ◌++◌, length, take, drop, Some, None, Option, refl, sym, ap, ◌∙◌, subst, append_assoc, append-nil}
 use Rattle.std.proofs.Math.Seq.{take-add, take-length}
 use Rattle.std.proofs.lemmas.List.{take_at, length-take-le, take-append-drop, drop-drop}
-use Rattle.cfg_io.specs.Told.{Takes, TakesCount, TakesAtMost, Appends, AppendsPrefix}
+use Rattle.cfg_io.specs.Told.{Takes, Appends}
 
 -- nothing taken
 pub Takes-none : (o : Option (List ℕ)) → Takes o [] o

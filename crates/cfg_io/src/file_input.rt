@@ -1,8 +1,8 @@
 //! An input over a file of the system.
 ghost use Rattle.std.specs.Prelude.{◌≡◌, false, None, is_some, if◌then◌else◌};
-ghost use Rattle.std.proofs.Common.{arith};
-ghost use Rattle.cfg_io.specs.Fault.{fault_count};
-ghost use Rattle.cfg_io.specs.Opened.{Opened, Nothing, Something};
+ghost use Rattle.std.proofs.Math.Nat.{min-le_right};
+ghost use Rattle.cfg_io.specs.Fault.{fault_count, most_faults};
+ghost use Rattle.cfg_io.specs.Opened.{Nothing, Something};
 
 use crate::{Failed, Input};
 use std::fs;
@@ -70,7 +70,7 @@ impl<R: Files> Input for FileInput<R> {
         }
     }
 
-    ghost faults_fit = { λ m. Prim.omega arith };
+    ghost faults_fit = { λ x. min-le_right x.faults most_faults };
 }
 
 #[cfg(test)]

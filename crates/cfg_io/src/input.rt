@@ -28,7 +28,8 @@ pub trait Input {
     /// [`Failed`]: nothing is opened then.
     fn open(&mut self, path: &str) -> Result<(), Failed>
         requires { opened self.old ≡ Nothing }
-        ensures opens { OnOk result (opened self.new ≡ Something (told_path (tells_path self.old) path.now)) }
+        ensures opens { OnOk result
+            (opened self.new ≡ Something (told_path (tells_path self.old) path.now)) }
         ensures stays_closed { OnErr result (opened self.new ≡ Nothing) }
         ensures takes_nothing { rest self.new ≡ rest self.old }
         ensures tells_as_before { tells_path self.new ≡ tells_path self.old }

@@ -1,11 +1,11 @@
 //! An input in memory.
 ghost use Rattle.std.specs.Prelude.{◌≡◌, ◌≢◌, ◌⊎◌, ◌↔◌, ◌≤◌, ◌<◌, [], ◌++◌, length, take, drop, min, true, false, Some, IfSome, IfOk, OnOk, OnErr, string_bytes};
-ghost use Rattle.cfg_io.specs.Fault.{Rose, fault_count};
-ghost use Rattle.cfg_io.specs.Opened.{Opened, Nothing, Something, IsOpened, told_path};
+ghost use Rattle.cfg_io.specs.Fault.{fault_count, most_faults};
+ghost use Rattle.cfg_io.specs.Opened.{Nothing, IsOpened};
 ghost use Rattle.cfg_io.specs.Told.{Takes};
 ghost use Rattle.cfg_io.specs.Script.{FailsNext};
 ghost use Rattle.cfg_io.specs.MemInput.{MemInputState, opened_of, after_failed, after_open, after_read};
-ghost use Rattle.std.proofs.Common.{arith};
+ghost use Rattle.std.proofs.Math.Nat.{min-le_right};
 
 use crate::script::fails_next;
 use crate::{Failed, Input};
@@ -13,8 +13,8 @@ use std::marker::Model;
 
 /// An input that holds its bytes, for tests of what reads from an [`Input`].
 ///
-/// Its calls of `open` and `read` together are numbered from 1. It tells its path and its bytes, and
-/// no call takes memory.
+/// Its calls of `open` and `read` together are numbered from 1, without an end. It tells its path and
+/// its bytes, and no call takes memory.
 #[derive(Drop)]
 pub struct MemInput {
     name: String,
@@ -44,8 +44,11 @@ impl Model for MemInput {
 }
 
 impl MemInput {
-    /// An input that `name` opens and that has these bytes. It gives at most `most` of them per read,
-    /// at least 1, and its calls whose numbers are in `failing` fail.
+    /// An input with these bytes, of which it gives at most `most` per read, at least 1. Nothing is
+    /// opened.
+    ///
+    /// A call fails exactly where its number is in `failing`, or it is an `open` of another path than
+    /// `name`.
     pub fn new(name: String, bytes: Vec<u8>, most: usize, failing: Vec<u64>) -> Self
         requires { 0 < most }
         ensures { result ≡ record {
@@ -84,7 +87,8 @@ impl Input for MemInput {
         requires { opened_of self.old ≡ Nothing }
 
         // It fails exactly where its number is in the list or the path is another.
-        ensures fails { OnErr result (FailsNext self.old.failing self.old.calls ⊎ (path.now ≢ self.old.name)) }
+        ensures fails { OnErr result
+            (FailsNext self.old.failing self.old.calls ⊎ (path.now ≢ self.old.name)) }
         ensures ok_number { OnOk result (¬ FailsNext self.old.failing self.old.calls) }
         ensures ok_path { OnOk result (path.now ≡ self.old.name) }
 
@@ -105,18 +109,23 @@ impl Input for MemInput {
         requires is_opened { IsOpened (opened_of self.old) }
         requires has_room { 0 < length buf.old }
         ensures in_bounds { IfOk result (λ n. n ≤ length buf.new) }
-        ensures takes { IfOk result (λ n. Takes (Some self.old.rest) (take n buf.new) (Some self.new.rest)) }
-        ensures ends { IfOk result (λ n. IfSome (Some self.old.rest) (λ left. (n ≡ 0) ↔ (left ≡ []))) }
+        ensures takes { IfOk result
+            (λ n. Takes (Some self.old.rest) (take n buf.new) (Some self.new.rest)) }
+        ensures ends { IfOk result
+            (λ n. IfSome (Some self.old.rest) (λ left. (n ≡ 0) ↔ (left ≡ []))) }
 
         // It fails exactly where its number is in the list.
         ensures fails { OnErr result (FailsNext self.old.failing self.old.calls) }
         ensures ok_number { OnOk result (¬ FailsNext self.old.failing self.old.calls) }
 
-        ensures count { IfOk result (λ n. n ≡ min (length buf.old) (min self.old.most (length self.old.rest))) }
+        // It gives as many bytes as there are and fit, and the most of one read at most.
+        ensures count { IfOk result
+            (λ n. n ≡ min (length buf.old) (min self.old.most (length self.old.rest))) }
         ensures bytes { IfOk result (λ n. buf.new ≡ take n self.old.rest ++ drop n buf.old) }
+        ensures failed_bytes { OnErr result (buf.new ≡ buf.old) }
+
         ensures after_ok { IfOk result (λ n. self.new ≡ after_read self.old n) }
         ensures after_err { OnErr result (self.new ≡ after_failed self.old) }
-        ensures failed_buf { OnErr result (buf.new ≡ buf.old) }
     {
         let fails = fails_next(&self.failing, self.calls);
         self.calls = self.calls.saturating_add(1);
@@ -129,7 +138,7 @@ impl Input for MemInput {
         Ok(n)
     }
 
-    ghost faults_fit = { λ m. Prim.omega arith };
+    ghost faults_fit = { λ x. min-le_right x.faults most_faults };
 }
 
 // Copies the front of `bytes` to the front of `buf`, as many as there are and fit, `most` at most.

@@ -1,10 +1,9 @@
 //! A sink in memory.
 ghost use Rattle.std.specs.Prelude.{◌≡◌, ◌⊎◌, ◌-◌, ◌≤◌, ◌<◌, [], length, take, min, Some, IfOk, OnOk, OnErr, vec_len, vec_capacity};
-ghost use Rattle.cfg_io.specs.Fault.{Rose, fault_count};
-ghost use Rattle.cfg_io.specs.Told.{Appends};
+ghost use Rattle.cfg_io.specs.Fault.{fault_count, most_faults};
 ghost use Rattle.cfg_io.specs.Script.{FailsNext};
 ghost use Rattle.cfg_io.specs.MemSink.{MemSinkState, after_failed, after_write};
-ghost use Rattle.std.proofs.Common.{arith};
+ghost use Rattle.std.proofs.Math.Nat.{min-le_right};
 
 use crate::script::fails_next;
 use crate::{Failed, Memory, Sink};
@@ -13,7 +12,7 @@ use std::marker::Model;
 
 /// A sink that keeps what is written to it, for tests of what writes to a [`Sink`].
 ///
-/// Its writes are numbered from 1. It tells its bytes, and no write takes memory.
+/// Its writes are numbered from 1, without an end. It tells its bytes, and no write takes memory.
 #[derive(Drop)]
 pub struct MemSink {
     written: Vec<u8>,
@@ -36,13 +35,16 @@ impl Model for MemSink {
       faults = m.faults;
     } };
 
-    ghost invariant = { λ m. (vec_len m.written ≤ m.room) × (m.room ≤ vec_capacity m.written) × (0 < m.most) };
+    ghost invariant = { λ m. (vec_len m.written ≤ m.room)
+        × (m.room ≤ vec_capacity m.written)
+        × (0 < m.most) };
 }
 
 impl MemSink {
-    /// A sink with room for `room` bytes, all of which it takes now. It takes at most `most` bytes per
-    /// write, at least 1, and its writes whose numbers are in `failing` fail, as does each write once
-    /// no room is left.
+    /// A sink for `room` bytes, whose memory it takes now. A write takes at most `most` bytes, at
+    /// least 1.
+    ///
+    /// A write fails exactly where its number is in `failing`, or no room is left.
     ///
     /// [`Memory`]: there is no memory for that room.
     pub fn new(alloc: Global, room: usize, most: usize, failing: Vec<u64>) -> Result<Self, Memory>
@@ -86,11 +88,15 @@ impl Sink for MemSink {
         ensures in_bounds { IfOk result (λ n. n ≤ length piece.now) }
 
         // It fails exactly where its number is in the list or no room is left.
-        ensures fails { OnErr result (FailsNext self.old.failing self.old.calls ⊎ (self.old.room ≤ length self.old.written)) }
+        ensures fails { OnErr result
+            (FailsNext self.old.failing self.old.calls ⊎ (self.old.room ≤ length self.old.written)) }
         ensures ok_number { OnOk result (¬ FailsNext self.old.failing self.old.calls) }
         ensures ok_room { OnOk result (length self.old.written < self.old.room) }
 
-        ensures count { IfOk result (λ n. n ≡ min (length piece.now) (min self.old.most (self.old.room - length self.old.written))) }
+        // It takes as many bytes as there are and have room, and the most of one write at most.
+        ensures count { IfOk result
+            (λ n. n ≡ min (length piece.now)
+            (min self.old.most (self.old.room - length self.old.written))) }
         ensures after_ok { IfOk result (λ n. self.new ≡ after_write self.old (take n piece.now)) }
         ensures after_err { OnErr result (self.new ≡ after_failed self.old) }
     {
@@ -106,5 +112,5 @@ impl Sink for MemSink {
         Ok(n)
     }
 
-    ghost faults_fit = { λ m. Prim.omega arith };
+    ghost faults_fit = { λ x. min-le_right x.faults most_faults };
 }

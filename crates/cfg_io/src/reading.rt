@@ -1,5 +1,5 @@
 //! Reading an input to its end.
-ghost use Rattle.std.specs.Prelude.{◌≡◌, ◌+◌, ◌≤◌, ◌<◌, [], ◌++◌, length, take, drop, IfSome, IfOk, IsErrOf, OnOk, OnErr, vec_len};
+ghost use Rattle.std.specs.Prelude.{◌≡◌, ◌+◌, ◌≤◌, ◌<◌, [], length, take, drop, IfSome, IfOk, IsErrOf, OnOk, OnErr, vec_len};
 ghost use Rattle.cfg_io.specs.Fault.{Rose};
 ghost use Rattle.cfg_io.specs.Opened.{IsOpened};
 ghost use Rattle.cfg_io.specs.Told.{Takes, TakesCount, TakesAtMost};
@@ -60,9 +60,14 @@ pub fn read_whole<I: Input>(alloc: Global, input: &mut I, limit: usize) -> Resul
     ensures at_end { OnOk result (IfSome (I.rest input.new) (λ left. left ≡ [])) }
     ensures fits { IfOk result (λ bytes. vec_len bytes ≤ limit) }
 
-    ensures over_limit { IsErrOf result ReadEnd.OverLimit → TakesCount (I.rest input.old) (limit + 1) (I.rest input.new) }
-    ensures read { IsErrOf result ReadEnd.Read → TakesAtMost (I.rest input.old) limit (I.rest input.new) }
-    ensures memory { IsErrOf result ReadEnd.Memory → TakesAtMost (I.rest input.old) limit (I.rest input.new) }
+    // It is over the limit exactly where it took one byte more than that.
+    ensures over_limit { IsErrOf result ReadEnd.OverLimit
+        → TakesCount (I.rest input.old) (limit + 1) (I.rest input.new) }
+    ensures read { IsErrOf result ReadEnd.Read
+        → TakesAtMost (I.rest input.old) limit (I.rest input.new) }
+    ensures memory { IsErrOf result ReadEnd.Memory
+        → TakesAtMost (I.rest input.old) limit (I.rest input.new) }
+
     ensures failed { IsErrOf result ReadEnd.Read → Rose (I.faults input.old) (I.faults input.new) }
 
     ensures never_falls { I.faults input.old ≤ I.faults input.new }
@@ -98,7 +103,8 @@ fn read_piece<I: Input>(
     ensures filled_part { IfOk result (λ n. filled + n ≤ vec_len buffer.new) }
     ensures buffer_fits { vec_len buffer.new ≤ limit + 1 }
     ensures keeps { take filled buffer.new.items ≡ take filled buffer.old.items }
-    ensures takes { IfOk result (λ n. Takes (I.rest input.old) (take n (drop filled buffer.new.items)) (I.rest input.new)) }
+    ensures takes { IfOk result
+        (λ n. Takes (I.rest input.old) (take n (drop filled buffer.new.items)) (I.rest input.new)) }
     ensures at_end { IfOk result (λ n. n ≡ 0 → IfSome (I.rest input.new) (λ left. left ≡ [])) }
     ensures failed_takes_nothing { OnErr result (I.rest input.new ≡ I.rest input.old) }
     ensures in_limit { IsErrOf result ReadEnd.OverLimit → ⊥ }
@@ -118,7 +124,8 @@ fn read_at<I: Input>(input: &mut I, buffer: &mut [u8], at: usize) -> Result<usiz
 
     ensures in_bounds { IfOk result (λ n. at + n ≤ length buffer.new) }
     ensures keeps { take at buffer.new ≡ take at buffer.old }
-    ensures takes { IfOk result (λ n. Takes (I.rest input.old) (take n (drop at buffer.new)) (I.rest input.new)) }
+    ensures takes { IfOk result
+        (λ n. Takes (I.rest input.old) (take n (drop at buffer.new)) (I.rest input.new)) }
     ensures at_end { IfOk result (λ n. n ≡ 0 → IfSome (I.rest input.new) (λ left. left ≡ [])) }
     ensures failed_takes_nothing { OnErr result (I.rest input.new ≡ I.rest input.old) }
     ensures failed { OnErr result (Rose (I.faults input.old) (I.faults input.new)) }

@@ -23,7 +23,8 @@ pub trait Sink {
         requires { 0 < length piece.now }
         ensures some { IfOk result (λ n. 0 < n) }
         ensures in_bounds { IfOk result (λ n. n ≤ length piece.now) }
-        ensures appends { IfOk result (λ n. Appends (written self.old) (take n piece.now) (written self.new)) }
+        ensures appends { IfOk result
+            (λ n. Appends (written self.old) (take n piece.now) (written self.new)) }
         ensures failed_appends_nothing { OnErr result (written self.new ≡ written self.old) }
         ensures never_falls { faults self.old ≤ faults self.new }
         ensures failed { OnErr result (Rose (faults self.old) (faults self.new)) };

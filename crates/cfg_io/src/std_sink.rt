@@ -1,7 +1,7 @@
 //! A sink over a writer of std.
 ghost use Rattle.std.specs.Prelude.{◌≡◌, ◌≤◌, ◌<◌, length, None, IfSome};
-ghost use Rattle.std.proofs.Common.{arith};
-ghost use Rattle.cfg_io.specs.Fault.{fault_count};
+ghost use Rattle.std.proofs.Math.Nat.{min-le_right};
+ghost use Rattle.cfg_io.specs.Fault.{fault_count, most_faults};
 
 use crate::{Failed, Sink};
 use std::io::Write;
@@ -50,7 +50,7 @@ impl<W: Write> Sink for StdSink<W> {
         }
     }
 
-    ghost faults_fit = { λ m. Prim.omega arith };
+    ghost faults_fit = { λ x. min-le_right x.faults most_faults };
 }
 
 #[cfg(test)]
