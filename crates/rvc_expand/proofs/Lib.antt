@@ -1,1 +1,2 @@
 pub mod Quadrants
+pub mod OneHolds
