@@ -1,2 +1,3 @@
 pub mod Quadrants
 pub mod OneHolds
+mod Worked

@@ -49,12 +49,12 @@ count_of-forms h =
 pub at_most_one_holds : (h : ℕ) → AtMostOneHolds h
 at_most_one_holds h =
     elim (cases_eq (field h 1 0) 0) [
-        inl at_0 ↦ omega (arith, count_of-forms h, one_of_quadrant_0 h at_0, none_of_quadrant_1 h (omega arith), none_of_quadrant_2 h (omega arith))
-        | inr not_0 ↦ elim (cases_eq (field h 1 0) 1) [
-            inl at_1 ↦ omega (arith, count_of-forms h, none_of_quadrant_0 h not_0, one_of_quadrant_1 h at_1, none_of_quadrant_2 h (omega arith))
-            | inr not_1 ↦ elim (cases_eq (field h 1 0) 2) [
-                inl at_2 ↦ omega (arith, count_of-forms h, none_of_quadrant_0 h not_0, none_of_quadrant_1 h not_1, one_of_quadrant_2 h at_2)
-                | inr not_2 ↦ omega (arith, count_of-forms h, none_of_quadrant_0 h not_0, none_of_quadrant_1 h not_1, none_of_quadrant_2 h not_2)
-            ]
+      | inl at_0 ↦ omega (arith, count_of-forms h, one_of_quadrant_0 h at_0, none_of_quadrant_1 h (omega arith), none_of_quadrant_2 h (omega arith))
+      | inr not_0 ↦ elim (cases_eq (field h 1 0) 1) [
+        | inl at_1 ↦ omega (arith, count_of-forms h, none_of_quadrant_0 h not_0, one_of_quadrant_1 h at_1, none_of_quadrant_2 h (omega arith))
+        | inr not_1 ↦ elim (cases_eq (field h 1 0) 2) [
+          | inl at_2 ↦ omega (arith, count_of-forms h, none_of_quadrant_0 h not_0, none_of_quadrant_1 h not_1, one_of_quadrant_2 h at_2)
+          | inr not_2 ↦ omega (arith, count_of-forms h, none_of_quadrant_0 h not_0, none_of_quadrant_1 h not_1, none_of_quadrant_2 h not_2)
         ]
+      ]
     ]
