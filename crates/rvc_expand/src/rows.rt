@@ -16,10 +16,13 @@ use crate::instructions::{
     srai, srli, sub, subw, sw, xor,
 };
 
+/// x0, whose value is always 0.
 const ZERO: u32 = 0;
 
+/// x1, the return address.
 const LINK_REGISTER: u32 = 1;
 
+/// x2.
 const STACK_POINTER: u32 = 2;
 
 /// The 32-bit instruction that the 16-bit instruction `half` stands for (RISC-V Unprivileged ISA
@@ -48,20 +51,14 @@ fn expand_quadrant_0(half: u32) -> Option<u32>
     requires quadrant { field half 1 0 ≡ 0 }
     ensures { result ≡ first_word quadrant_0 half }
 {
+    let base = first_popular(half);
+    let data = second_popular(half);
     match field(half, 15, 13) {
         0b000 => expand_addi4spn(half),
-        0b010 => Some(lw(second_popular(half), first_popular(half), word_offset(half))),
-        0b011 => Some(ld(
-            second_popular(half),
-            first_popular(half),
-            double_offset(half),
-        )),
-        0b110 => Some(sw(second_popular(half), first_popular(half), word_offset(half))),
-        0b111 => Some(sd(
-            second_popular(half),
-            first_popular(half),
-            double_offset(half),
-        )),
+        0b010 => Some(lw(data, base, word_offset(half))),
+        0b011 => Some(ld(data, base, double_offset(half))),
+        0b110 => Some(sw(data, base, word_offset(half))),
+        0b111 => Some(sd(data, base, double_offset(half))),
         _ => None,
     }
 }
