@@ -3,6 +3,7 @@
 use Rattle.std.proofs.Common.{◌≡◌, ◌≢◌, ℕ, Bool, true, false, cond, List, [], ◌∷◌, ◌++◌, Option, Some, None, refl, ◌∙◌, arith}
 use Rattle.std.proofs.lemmas.Bool.{ne_eqb}
 use Rattle.rvc_expand.specs.Bits.{field}
+use Rattle.rvc_expand.specs.Laws.{NoneOfQuadrant3}
 use Rattle.rvc_expand.specs.Table.{Form, first_word, quadrant_0, quadrant_1, quadrant_2, forms, expansion}
 
 -- ---- joined lists of rows
@@ -63,3 +64,6 @@ expansion-quadrant_3 h is =
     (first_word-append_right quadrant_0 quadrant_1 h (outside_quadrant_0 h (omega arith))
     ∙ outside_quadrant_1 h (omega arith))
     ∙ outside_quadrant_2 h (omega arith)
+
+pub none_of_quadrant_3 : NoneOfQuadrant3
+none_of_quadrant_3 half is = expansion-quadrant_3 half is

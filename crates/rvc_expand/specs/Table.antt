@@ -1,7 +1,7 @@
 -- The compressed instructions of RV64C without the floating-point forms, one row a form (RISC-V
 -- Unprivileged ISA 20240411, chapter "C" Extension for Compressed Instructions, "RVC Instruction Set
 -- Listings"). Which hints and reserved encodings the rows hold of is this project's profile.
-use Rattle.std.specs.Prelude.{ℕ, ◌≤◌, count_by, Bool, not, ◌&&◌, ◌==◌, List, [], ◌∷◌, ◌++◌, Option, Some, None, if◌then◌else◌}
+use Rattle.std.specs.Prelude.{ℕ, Bool, not, ◌&&◌, ◌==◌, List, [], ◌∷◌, ◌++◌, Option, Some, None, if◌then◌else◌}
 use Rattle.rvc_expand.specs.Bits.{field}
 use Rattle.rvc_expand.specs.Halfword.{is_at, is_nonzero, first_register, second_register, first_popular, second_popular, shift_amount, small_immediate, lui_immediate, addi16sp_immediate, addi4spn_immediate, word_offset, double_offset, lwsp_offset, ldsp_offset, swsp_offset, sdsp_offset, jump_offset, branch_offset}
 use Rattle.rvc_expand.specs.Instructions.{addi, andi, slli, srli, srai, addiw, lui, lw, ld, sw, sd, add, sub, xor, or, and, addw, subw, jal, jalr, beq, bne, ebreak}
@@ -136,7 +136,3 @@ first_word (row ∷ rest) half = if row.holds half then Some (row.word half) els
 -- the 32-bit instruction that a halfword stands for, where the table has one
 unfoldable pub expansion : ℕ → Option ℕ
 expansion half = first_word forms half
-
--- at most one row of the table holds of the halfword
-abbrev pub AtMostOneHolds : ℕ → Type 0
-AtMostOneHolds half = count_by (λ row. row.holds half) forms ≤ 1

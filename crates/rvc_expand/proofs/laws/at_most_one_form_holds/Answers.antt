@@ -1,6 +1,5 @@
--- The rows of other quadrants do not hold, and of its own quadrant at most one does.
-use Rattle.rvc_expand.proofs.OneHolds.{at_most_one_holds}
+use Rattle.rvc_expand.proofs.OneHolds.{at_most_one_form_holds}
 use Rattle.rvc_expand.proofs.laws.at_most_one_form_holds.Goals as goal
 
 pub returns : goal.returns
-returns c = at_most_one_holds c.args.half
+returns c = at_most_one_form_holds
