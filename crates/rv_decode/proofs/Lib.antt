@@ -1,3 +1,5 @@
 pub mod Narrowing
 pub mod ByOpcode
 pub mod Offsets
+pub mod Apart
+pub mod WorkedWords

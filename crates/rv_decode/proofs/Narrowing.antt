@@ -63,7 +63,7 @@ fails_step true true m all more ih same h = ap (λ x. m && x) (ih h) ∙ and_fal
 fails_step true false m all more ih same h = ap (λ b. b && all) (same refl)
 
 -- where one clashes, not all are met
-clash_fails : (w : ℕ) (k : Condition) → meets w k ≡ true → (cs : List Condition) → list_any (clash k) cs ≡ true → list_all (meets w) cs ≡ false
+pub clash_fails : (w : ℕ) (k : Condition) → meets w k ≡ true → (cs : List Condition) → list_any (clash k) cs ≡ true → list_all (meets w) cs ≡ false
 clash_fails w k m [] h = cc
 clash_fails w k m (c ∷ cs) h =
     fails_step (same_field k c) (eqb k.value c.value) (meets w c) (list_all (meets w) cs) (list_any (clash k) cs)
