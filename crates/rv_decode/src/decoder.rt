@@ -11,7 +11,8 @@ use crate::fields::{
     release, rs1, rs2, s_immediate, shift_amount, u_immediate, word_shift_amount,
 };
 use crate::instructions::{
-    AtomicKind, BranchKind, CsrKind, ImmKind, ImmWKind, Insn, LoadKind, RegKind, RegWKind, StoreKind,
+    AtomicKind, BranchKind, CsrKind, ImmKind, ImmWKind, Insn, LoadKind, RegKind, RegWKind,
+    StoreKind,
 };
 use crate::opcodes::{
     AMO, AUIPC, BRANCH, JAL, JALR, LOAD, LUI, MISC_MEM, OP, OP_32, OP_IMM, OP_IMM_32, STORE, SYSTEM,
