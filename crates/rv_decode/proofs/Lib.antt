@@ -3,3 +3,4 @@ pub mod ByOpcode
 pub mod Offsets
 pub mod Apart
 pub mod WorkedWords
+pub mod ByFields
