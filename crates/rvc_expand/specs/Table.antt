@@ -40,8 +40,16 @@ quadrant_0 =
     ∷ form (λ h. is_at h 0b00 0b111) (λ h. sd (second_popular h) (first_popular h) (double_offset h))
     ∷ []
 
--- Quadrant 1. In funct3 100 bits 11 to 10 choose, then bit 12 and bits 6 to 5; 12 = 1 with 10 and 11
--- is reserved.
+-- the arithmetic forms of quadrant 1, at funct3 100: bits 11 to 10 choose
+abbrev pub is_arithmetic : ℕ → ℕ → Bool
+is_arithmetic half funct2 = is_at half 0b01 0b100 && field half 11 10 == funct2
+
+-- those of two registers, with 11 there: bit 12 and bits 6 to 5 choose
+abbrev pub is_register_arithmetic : ℕ → ℕ → ℕ → Bool
+is_register_arithmetic half bit_12 funct2 =
+    is_arithmetic half 0b11 && field half 12 12 == bit_12 && field half 6 5 == funct2
+
+-- Quadrant 1. Of the arithmetic forms of two registers 1 with 10 and 1 with 11 are reserved.
 unfoldable pub quadrant_1 : List Form
 quadrant_1 =
     -- C.NOP, C.ADDI
@@ -58,32 +66,23 @@ quadrant_1 =
     ∷ form (λ h. is_at h 0b01 0b011 && not (first_register h == stack_pointer) && is_nonzero (lui_immediate h))
     (λ h. lui (first_register h) (lui_immediate h))
     -- C.SRLI
-    ∷ form (λ h. is_at h 0b01 0b100 && field h 11 10 == 0b00)
-    (λ h. srli (first_popular h) (first_popular h) (shift_amount h))
+    ∷ form (λ h. is_arithmetic h 0b00) (λ h. srli (first_popular h) (first_popular h) (shift_amount h))
     -- C.SRAI
-    ∷ form (λ h. is_at h 0b01 0b100 && field h 11 10 == 0b01)
-    (λ h. srai (first_popular h) (first_popular h) (shift_amount h))
+    ∷ form (λ h. is_arithmetic h 0b01) (λ h. srai (first_popular h) (first_popular h) (shift_amount h))
     -- C.ANDI
-    ∷ form (λ h. is_at h 0b01 0b100 && field h 11 10 == 0b10)
-    (λ h. andi (first_popular h) (first_popular h) (small_immediate h))
+    ∷ form (λ h. is_arithmetic h 0b10) (λ h. andi (first_popular h) (first_popular h) (small_immediate h))
     -- C.SUB
-    ∷ form (λ h. is_at h 0b01 0b100 && field h 11 10 == 0b11 && field h 12 12 == 0 && field h 6 5 == 0b00)
-    (λ h. sub (first_popular h) (first_popular h) (second_popular h))
+    ∷ form (λ h. is_register_arithmetic h 0 0b00) (λ h. sub (first_popular h) (first_popular h) (second_popular h))
     -- C.XOR
-    ∷ form (λ h. is_at h 0b01 0b100 && field h 11 10 == 0b11 && field h 12 12 == 0 && field h 6 5 == 0b01)
-    (λ h. xor (first_popular h) (first_popular h) (second_popular h))
+    ∷ form (λ h. is_register_arithmetic h 0 0b01) (λ h. xor (first_popular h) (first_popular h) (second_popular h))
     -- C.OR
-    ∷ form (λ h. is_at h 0b01 0b100 && field h 11 10 == 0b11 && field h 12 12 == 0 && field h 6 5 == 0b10)
-    (λ h. or (first_popular h) (first_popular h) (second_popular h))
+    ∷ form (λ h. is_register_arithmetic h 0 0b10) (λ h. or (first_popular h) (first_popular h) (second_popular h))
     -- C.AND
-    ∷ form (λ h. is_at h 0b01 0b100 && field h 11 10 == 0b11 && field h 12 12 == 0 && field h 6 5 == 0b11)
-    (λ h. and (first_popular h) (first_popular h) (second_popular h))
+    ∷ form (λ h. is_register_arithmetic h 0 0b11) (λ h. and (first_popular h) (first_popular h) (second_popular h))
     -- C.SUBW
-    ∷ form (λ h. is_at h 0b01 0b100 && field h 11 10 == 0b11 && field h 12 12 == 1 && field h 6 5 == 0b00)
-    (λ h. subw (first_popular h) (first_popular h) (second_popular h))
+    ∷ form (λ h. is_register_arithmetic h 1 0b00) (λ h. subw (first_popular h) (first_popular h) (second_popular h))
     -- C.ADDW
-    ∷ form (λ h. is_at h 0b01 0b100 && field h 11 10 == 0b11 && field h 12 12 == 1 && field h 6 5 == 0b01)
-    (λ h. addw (first_popular h) (first_popular h) (second_popular h))
+    ∷ form (λ h. is_register_arithmetic h 1 0b01) (λ h. addw (first_popular h) (first_popular h) (second_popular h))
     -- C.J
     ∷ form (λ h. is_at h 0b01 0b101) (λ h. jal zero_register (jump_offset h))
     -- C.BEQZ
@@ -91,6 +90,11 @@ quadrant_1 =
     -- C.BNEZ
     ∷ form (λ h. is_at h 0b01 0b111) (λ h. bne (first_popular h) zero_register (branch_offset h))
     ∷ []
+
+-- the moves, additions and jumps by registers of quadrant 2, at funct3 100: bit 12 chooses, and which
+-- registers are x0
+abbrev pub is_move_or_jump : ℕ → ℕ → Bool
+is_move_or_jump half bit_12 = is_at half 0b10 0b100 && field half 12 12 == bit_12
 
 -- Quadrant 2. Funct3 001 and 101 belong to the D extension.
 unfoldable pub quadrant_2 : List Form
@@ -104,19 +108,19 @@ quadrant_2 =
     ∷ form (λ h. is_at h 0b10 0b011 && is_nonzero (first_register h))
     (λ h. ld (first_register h) stack_pointer (ldsp_offset h))
     -- C.JR
-    ∷ form (λ h. is_at h 0b10 0b100 && field h 12 12 == 0 && second_register h == 0 && is_nonzero (first_register h))
+    ∷ form (λ h. is_move_or_jump h 0 && second_register h == 0 && is_nonzero (first_register h))
     (λ h. jalr zero_register (first_register h) 0)
     -- C.MV
-    ∷ form (λ h. is_at h 0b10 0b100 && field h 12 12 == 0 && is_nonzero (second_register h))
+    ∷ form (λ h. is_move_or_jump h 0 && is_nonzero (second_register h))
     (λ h. add (first_register h) zero_register (second_register h))
     -- C.EBREAK
-    ∷ form (λ h. is_at h 0b10 0b100 && field h 12 12 == 1 && second_register h == 0 && first_register h == 0)
+    ∷ form (λ h. is_move_or_jump h 1 && second_register h == 0 && first_register h == 0)
     (λ h. ebreak)
     -- C.JALR
-    ∷ form (λ h. is_at h 0b10 0b100 && field h 12 12 == 1 && second_register h == 0 && is_nonzero (first_register h))
+    ∷ form (λ h. is_move_or_jump h 1 && second_register h == 0 && is_nonzero (first_register h))
     (λ h. jalr link_register (first_register h) 0)
     -- C.ADD
-    ∷ form (λ h. is_at h 0b10 0b100 && field h 12 12 == 1 && is_nonzero (second_register h))
+    ∷ form (λ h. is_move_or_jump h 1 && is_nonzero (second_register h))
     (λ h. add (first_register h) (first_register h) (second_register h))
     -- C.SWSP
     ∷ form (λ h. is_at h 0b10 0b110) (λ h. sw (second_register h) stack_pointer (swsp_offset h))
