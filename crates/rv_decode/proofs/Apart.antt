@@ -1,5 +1,5 @@
 -- No two rows of the table hold of one word.
-use Rattle.std.proofs.Common.{◌≡◌, ℕ, zero, suc, Bool, true, false, cond, ◌&&◌, ◌||◌, List, [], ◌∷◌, Option, Some, None, refl, sym, ap, ◌∙◌, arith, slice_get}
+use Rattle.std.proofs.Common.{◌≡◌, ℕ, zero, suc, Bool, true, false, cond, ◌&&◌, ◌||◌, List, [], ◌∷◌, Option, Some, None, refl, sym, ap, ◌∙◌, slice_get}
 use Rattle.std.specs.List.{list_all, list_any}
 use Rattle.rv_decode.specs.Table.{Condition, Row, meets, holds, first_meaning, rows, upper_rows, jump_rows, branch_rows, load_rows, store_rows, imm_rows, imm_w_rows, reg_rows, reg_w_rows, atomic_rows_of, atomic_rows, fence_rows, system_rows, instruction}
 use Rattle.rv_decode.specs.Laws.{AtMostOneRowHolds, ARowDecides, EachComesFromARow, NoneWhereNoRowHolds}

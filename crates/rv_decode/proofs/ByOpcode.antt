@@ -1,9 +1,8 @@
 -- What a word means by its opcode, and by the fields that the opcode's rows ask for.
-use Rattle.std.proofs.Common.{◌≡◌, ◌≢◌, ℕ, ◌<◌, ◌^◌, Bool, true, false, cond, eqb, ◌&&◌, List, Option, Some, None, refl, sym, ap, subst, ◌∙◌, eq-eqb, ◌==◌, if◌then◌else◌, arith}
+use Rattle.std.proofs.Common.{◌≡◌, ◌≢◌, ℕ, ◌<◌, ◌^◌, Bool, true, false, eqb, ◌&&◌, Some, None, refl, sym, ◌∙◌, eq-eqb, ◌==◌, if◌then◌else◌, arith}
 use Rattle.std.proofs.lemmas.Bool.Decides.{nat_tests}
 use Rattle.rv_decode.specs.Fields.{opcode, rd, funct3, rs1, funct7, funct6, funct5, rs2, csr, i_immediate, j_offset, u_immediate}
-use Rattle.rv_decode.specs.Table.{Condition, Row, meets, opcode_is, funct3_is, funct7_is, first_meaning, rows, upper_rows, jump_rows, branch_rows, load_rows, store_rows, imm_rows, imm_w_rows, reg_rows, reg_w_rows, atomic_rows_of, atomic_rows, fence_rows, system_rows, instruction, branch, load, store, imm, shift, imm_w, shift_w, reg, reg_w, atomic, csr_access}
-use Rattle.rv_decode.specs.declared.instructions.Insn.{Insn}
+use Rattle.rv_decode.specs.Table.{Condition, meets, opcode_is, funct3_is, funct7_is, first_meaning, rows, upper_rows, jump_rows, branch_rows, load_rows, store_rows, imm_rows, imm_w_rows, reg_rows, reg_w_rows, atomic_rows_of, atomic_rows, fence_rows, system_rows, instruction, branch, load, store, imm, shift, imm_w, shift_w, reg, reg_w, atomic, csr_access}
 use Rattle.rv_decode.specs.declared.instructions.Insn.TheVariants.{Lui, Auipc, Jal, Jalr, Fence, FenceI, Ecall, Ebreak}
 use Rattle.rv_decode.specs.declared.instructions.BranchKind.TheVariants.{Beq, Bne, Blt, Bge, Bltu, Bgeu}
 use Rattle.rv_decode.specs.declared.instructions.LoadKind.TheVariants.{Lb, Lh, Lw, Ld, Lbu, Lhu, Lwu}

@@ -4,3 +4,4 @@ pub mod Offsets
 pub mod Apart
 pub mod WorkedWords
 pub mod ByFields
+pub mod Lengths

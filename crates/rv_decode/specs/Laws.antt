@@ -1,5 +1,6 @@
 -- What the instruction table keeps, whatever the word.
-use Rattle.std.specs.Prelude.{◌≡◌, ◌↔◌, ℕ, Some, None, IsTrue, IsFalse, slice_get}
+use Rattle.std.specs.Prelude.{◌≡◌, ◌≢◌, ◌↔◌, ℕ, Some, None, IsTrue, IsFalse, slice_get}
+use Rattle.rv_decode.specs.Fields.{field}
 use Rattle.rv_decode.specs.Table.{Row, holds, rows, instruction}
 use Rattle.rv_decode.specs.declared.instructions.Insn.{Insn}
 
@@ -22,3 +23,8 @@ EachComesFromARow = (w : ℕ) (found : Insn) → instruction w ≡ Some found �
 -- A word is no instruction exactly where no row holds of it.
 abbrev pub NoneWhereNoRowHolds : Type 0
 NoneWhereNoRowHolds = (w : ℕ) → (instruction w ≡ None) ↔ ((i : ℕ) (r : Row) → IsRowAt i r → IsFalse (holds r w))
+
+-- Only words of 32-bit instructions are instructions (section 1.5): their bits 1 to 0 are 11, and their
+-- bits 4 to 2 are not 111.
+abbrev pub EachHas32Bits : Type 0
+EachHas32Bits = (w : ℕ) (found : Insn) → instruction w ≡ Some found → (field w 1 0 ≡ 3) × (field w 4 2 ≢ 7)

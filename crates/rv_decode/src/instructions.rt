@@ -6,12 +6,12 @@
 /// One instruction.
 #[derive(Clone, Copy, Debug, PartialEq, Eq)]
 pub enum Insn {
-    /// LUI: `imm` is bits 31 to 12 of the word in place, sign extended (section 2.4).
+    /// LUI: `imm` is bits 31 to 12 of the word in place, sign extended (section 2.4.1).
     Lui {
         rd: u8,
         imm: i64,
     },
-    /// AUIPC: `imm` is bits 31 to 12 of the word in place, sign extended (section 2.4).
+    /// AUIPC: `imm` is bits 31 to 12 of the word in place, sign extended (section 2.4.1).
     Auipc {
         rd: u8,
         imm: i64,

@@ -15,5 +15,6 @@ pub use instructions::{
     StoreKind,
 };
 pub use laws::{
-    a_row_decides, at_most_one_row_holds, each_comes_from_a_row, none_where_no_row_holds,
+    a_row_decides, at_most_one_row_holds, each_comes_from_a_row, each_has_32_bits,
+    none_where_no_row_holds,
 };

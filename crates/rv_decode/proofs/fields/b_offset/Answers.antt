@@ -1,5 +1,5 @@
 use Rattle.std.proofs.Common.{arith}
-use Rattle.std.proofs.lemmas.Int.{ints, to_z-of_z}
+use Rattle.std.proofs.lemmas.Int.{to_z-of_z}
 use Rattle.rv_decode.proofs.Offsets.{b_bits}
 use Rattle.rv_decode.proofs.fields.b_offset.Goals as goal
 
