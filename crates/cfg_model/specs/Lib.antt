@@ -11,3 +11,4 @@ pub mod Listing
 pub mod Function
 pub mod Graph
 pub mod Cuts
+pub mod Unique

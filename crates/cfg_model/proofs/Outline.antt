@@ -1,0 +1,3 @@
+-- Lemmas on lists in order, leaders, blocks and edges.
+pub mod Lists
+pub mod Graphs
