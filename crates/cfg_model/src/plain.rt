@@ -4,6 +4,8 @@ ghost use Rattle.std.specs.Prelude.{IfOk, Contains};
 ghost use Rattle.cfg_model.specs.Reach.{AreSeeds};
 ghost use Rattle.cfg_model.specs.Graph.{IsEarlyGraph};
 
+mod closure;
+
 use crate::flow::Chains;
 use crate::graph::Graph;
 use crate::memory::Memory;
