@@ -1,3 +1,6 @@
 -- Lemmas on lists in order, leaders, blocks and edges.
 pub mod Lists
 pub mod Graphs
+pub mod Gaining
+pub mod Code
+pub mod Runs

@@ -12,3 +12,7 @@ pub mod Function
 pub mod Graph
 pub mod Cuts
 pub mod Unique
+pub mod Gains
+pub mod Marks
+pub mod Runs
+pub mod Ways

@@ -4,7 +4,10 @@ ghost use Rattle.std.specs.Prelude.{IfOk, Contains};
 ghost use Rattle.cfg_model.specs.Reach.{AreSeeds};
 ghost use Rattle.cfg_model.specs.Graph.{IsEarlyGraph};
 
+mod blocks;
 mod closure;
+mod edges;
+mod leaders;
 
 use crate::flow::Chains;
 use crate::graph::Graph;

@@ -1,7 +1,14 @@
 -- Lists in order that have the same items are equal.
-use Rattle.std.proofs.Common.{◌≡◌, ℕ, suc, ◌<◌, ◌⊎◌, List, [], ◌∷◌, ◌++◌, length, get_or, refl, sym, ap, ◌∙◌, subst, inl, inr, ⊎_elim, arith}
-use Rattle.std.specs.List.{AllPairs, Contains}
-use Rattle.std.proofs.lemmas.List.Elements.{Contains-append_cases, Contains-append_left, Contains-append_right, Contains-push_cases, Contains-push}
+use Rattle.std.proofs.Common.{◌≡◌, ℕ, suc, ◌<◌, ◌⊎◌, ◌≤◌, ◌↔◌, List, [], ◌∷◌, ◌++◌, length, get_or, Result, Ok, Err, IsTrue, is_ok, eqb, refl, sym, ap, ◌∙◌, subst, inl, inr, ⊎_elim, arith}
+use Rattle.std.specs.List.{AllPairs, Contains, dedup}
+use Rattle.std.specs.List.Sorted.{IsStrictlyIncreasing, IsBinarySearchResult, IsPermutation}
+use Rattle.std.specs.Ordering.{nat_cmp}
+use Rattle.std.proofs.lemmas.Bool.{cases_lt, false≢true}
+use Rattle.std.proofs.lemmas.List.{get_or_default}
+use Rattle.std.proofs.lemmas.List.Sorted.{searched, Contains-permutation, IsPermutation-sym}
+use Rattle.std.proofs.lemmas.List.Kept.{Contains-dedup_nat, Contains-from_dedup}
+use Rattle.std.proofs.lemmas.Map.Keys.{non_decreasing_from_sorted, sorted_from_strictly_increasing}
+use Rattle.std.proofs.lemmas.List.Elements.{Contains-append_cases, Contains-append_left, Contains-append_right, Contains-push_cases, Contains-push, Contains-get_or}
 use Rattle.cfg_model.specs.Listing.{Lists}
 
 pub Contains-cons_cases : {X : Type 0} (x : X) (xs : List X) (z : X) → Contains (x ∷ xs) z → (x ≡ z) ⊎ Contains xs z
@@ -63,3 +70,26 @@ same_lists R apart (x ∷ xs) (y ∷ ys) p q h i =
 -- two lists of exactly what holds, in order, are equal
 pub one_listing : {X : Type 0} (Before : X → X → Type 0) (Holds : X → Type 0) → IsAsymmetric Before → (xs ys : List X) → Lists Before Holds xs → Lists Before Holds ys → xs ≡ ys
 one_listing Before Holds apart xs ys a b = same_lists Before apart xs ys a.in_order b.in_order (λ z h. b.complete z (a.sound z h)) (λ z h. a.complete z (b.sound z h))
+
+not_there : (xs : List ℕ) (a i : ℕ) → Contains xs a → ((k : ℕ) → k < i → get_or xs k 0 < a) → ((k : ℕ) → i ≤ k → k < length xs → a < get_or xs k 0) → ⊥
+not_there xs a i h below above =
+    let is : get_or xs h.0 0 ≡ a = get_or_default xs h.0 0 a h.1 ∙ h.2 in
+    ⊎_elim
+    (λ lt. let b : get_or xs h.0 0 < a = below h.0 lt in omega arith)
+    (λ ge. let b : a < get_or xs h.0 0 = above h.0 ge h.1 in omega arith)
+    (cases_lt h.0 i)
+
+-- what a binary search says of a list that rises
+pub found_iff : (xs : List ℕ) (a : ℕ) (r : Result ℕ ℕ) → IsStrictlyIncreasing xs → IsBinarySearchResult (λ y. nat_cmp y a) xs r → IsTrue (is_ok r) ↔ Contains xs a
+found_iff xs a (Ok i) rises says =
+    let at = searched xs a (Ok i) says (λ k j. non_decreasing_from_sorted xs (sorted_from_strictly_increasing xs rises) k j 0) in
+    (λ h. subst (Contains xs) at.1 (Contains-get_or xs i 0 at.0), λ h. refl)
+found_iff xs a (Err i) rises says =
+    let at = searched xs a (Err i) says (λ k j. non_decreasing_from_sorted xs (sorted_from_strictly_increasing xs rises) k j 0) in
+    (λ h. absurd (false≢true h), λ h. absurd (not_there xs a i h at.1 at.2))
+
+-- a sort and a `dedup` keep the items
+pub same_after_dedup : (xs ys zs : List ℕ) → IsPermutation xs ys → zs ≡ dedup eqb ys → (a : ℕ) → Contains zs a ↔ Contains xs a
+same_after_dedup xs ys zs moves is a =
+    (λ h. Contains-permutation ys xs a (IsPermutation-sym xs ys moves) (Contains-from_dedup eqb ys a (subst (λ l. Contains l a) is h)),
+     λ h. subst (λ l. Contains l a) (sym is) (Contains-dedup_nat ys a (Contains-permutation xs ys a moves h)))
