@@ -4,3 +4,5 @@ pub mod Graphs
 pub mod Gaining
 pub mod Code
 pub mod Runs
+pub mod Leaders
+pub mod EdgeOrder

@@ -37,3 +37,7 @@ WaysFrom map returning s k edge = WaysBy map returning s k (flow_at map k) edge
 -- An edge of the block of s, where blocks are cut at the list.
 abbrev pub IsEdgeWithin : InstructionMap → List ℕ → List ℕ → ℕ → Edge → Type 0
 IsEdgeWithin map leaders returning s edge = (k : ℕ) × IsLastWithin map leaders s k × WaysFrom map returning s k edge
+
+-- An edge of one of the blocks that start at these addresses.
+abbrev pub IsEdgeFrom : InstructionMap → List ℕ → List ℕ → List ℕ → Edge → Type 0
+IsEdgeFrom map leaders returning starts edge = (s : ℕ) × Contains starts s × IsEdgeWithin map leaders returning s edge

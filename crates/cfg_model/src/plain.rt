@@ -8,6 +8,7 @@ mod blocks;
 mod closure;
 mod edges;
 mod leaders;
+mod outline;
 
 use crate::flow::Chains;
 use crate::graph::Graph;
