@@ -6,3 +6,4 @@ pub mod Code
 pub mod Runs
 pub mod Leaders
 pub mod EdgeOrder
+pub mod Blocks

@@ -1,10 +1,11 @@
 -- Lists in order that have the same items are equal.
-use Rattle.std.proofs.Common.{◌≡◌, ℕ, suc, ◌<◌, ◌⊎◌, ◌≤◌, ◌↔◌, List, [], ◌∷◌, ◌++◌, length, get_or, Result, Ok, Err, IsTrue, is_ok, eqb, refl, sym, ap, ◌∙◌, subst, inl, inr, ⊎_elim, arith}
-use Rattle.std.specs.List.{AllPairs, Contains, dedup}
+use Rattle.std.proofs.Common.{◌≡◌, ℕ, zero, suc, ◌+◌, ◌<◌, ◌⊎◌, ◌≤◌, ◌↔◌, List, [], ◌∷◌, ◌++◌, length, get_or, take, Some, Result, Ok, Err, IsTrue, is_ok, eqb, refl, sym, ap, ◌∙◌, subst, inl, inr, ⊎_elim, arith}
+use Rattle.std.specs.List.{AllPairs, AllZip, Contains, dedup, slice_get}
 use Rattle.std.specs.List.Sorted.{IsStrictlyIncreasing, IsBinarySearchResult, IsPermutation}
 use Rattle.std.specs.Ordering.{nat_cmp}
 use Rattle.std.proofs.lemmas.Bool.{cases_lt, false≢true}
-use Rattle.std.proofs.lemmas.List.{get_or_default}
+use Rattle.std.proofs.lemmas.List.{get_or_default, take_more, take_all}
+use Rattle.std.proofs.lemmas.Option.{slice_get_within, get_or_from_slice_get}
 use Rattle.std.proofs.lemmas.List.Sorted.{searched, Contains-permutation, IsPermutation-sym}
 use Rattle.std.proofs.lemmas.List.Kept.{Contains-dedup_nat, Contains-from_dedup}
 use Rattle.std.proofs.lemmas.Map.Keys.{non_decreasing_from_sorted, sorted_from_strictly_increasing}
@@ -93,3 +94,33 @@ pub same_after_dedup : (xs ys zs : List ℕ) → IsPermutation xs ys → zs ≡ 
 same_after_dedup xs ys zs moves is a =
     (λ h. Contains-permutation ys xs a (IsPermutation-sym xs ys moves) (Contains-from_dedup eqb ys a (subst (λ l. Contains l a) is h)),
      λ h. subst (λ l. Contains l a) (sym is) (Contains-dedup_nat ys a (Contains-permutation xs ys a moves h)))
+
+-- two lists side by side
+
+pub zip_push : {A B : Type 0} (R : A → B → Type 0) (xs : List A) (ys : List B) (x : A) (y : B) → AllZip R xs ys → R x y → AllZip R (xs ++ x ∷ []) (ys ++ y ∷ [])
+zip_push R [] [] x y h r = (r, tt)
+zip_push R [] (b ∷ ys) x y h r = absurd h
+zip_push R (a ∷ xs) [] x y h r = absurd h
+zip_push R (a ∷ xs) (b ∷ ys) x y h r = (h.0, zip_push R xs ys x y h.1 r)
+
+pub zip_length : {A B : Type 0} (R : A → B → Type 0) (xs : List A) (ys : List B) → AllZip R xs ys → length xs ≡ length ys
+zip_length R [] [] h = refl
+zip_length R [] (b ∷ ys) h = absurd h
+zip_length R (a ∷ xs) [] h = absurd h
+zip_length R (a ∷ xs) (b ∷ ys) h = ap suc (zip_length R xs ys h.1)
+
+pub zip_at : {A B : Type 0} (R : A → B → Type 0) (xs : List A) (ys : List B) (i : ℕ) (d : A) (e : B) → AllZip R xs ys → i < length xs → R (get_or xs i d) (get_or ys i e)
+zip_at R [] [] i d e h within = absurd (omega arith)
+zip_at R [] (b ∷ ys) i d e h within = absurd h
+zip_at R (a ∷ xs) [] i d e h within = absurd h
+zip_at R (a ∷ xs) (b ∷ ys) zero d e h within = h.0
+zip_at R (a ∷ xs) (b ∷ ys) (suc i) d e h within = zip_at R xs ys i d e h.1 (omega arith)
+
+-- a step of a loop over the first list, and its end
+pub zip_more : {A B : Type 0} (R : A → B → Type 0) (xs : List A) (i : ℕ) (x : A) (ys zs : List B) (y : B) → slice_get xs i ≡ Some x → AllZip R (take i xs) ys → zs ≡ ys ++ y ∷ [] → R x y → AllZip R (take (i + 1) xs) zs
+zip_more R xs i x ys zs y at zip is r =
+    let whole : take (i + 1) xs ≡ take i xs ++ x ∷ [] = take_more xs i x (slice_get_within xs i x at) ∙ ap (λ z. take i xs ++ z ∷ []) (get_or_from_slice_get xs i x x at) in
+    subst (λ l. AllZip R l zs) (sym whole) (subst (AllZip R (take i xs ++ x ∷ [])) (sym is) (zip_push R (take i xs) ys x y zip r))
+
+pub zip_all : {A B : Type 0} (R : A → B → Type 0) (xs : List A) (n : ℕ) (ys : List B) → length xs ≤ n → AllZip R (take n xs) ys → AllZip R xs ys
+zip_all R xs n ys long zip = subst (λ l. AllZip R l ys) (take_all n xs long) zip
