@@ -1,1 +1,4 @@
-pub mod Rounds
+pub mod Complete
+pub mod Growth
+pub mod Members
+pub mod Steps

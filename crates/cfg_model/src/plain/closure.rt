@@ -7,11 +7,11 @@
 ghost use Rattle.std.specs.Prelude.{◌≡◌, ◌↔◌, ◌⊎◌, ◌<◌, ◌+◌, [], ◌∷◌, ◌++◌, ℕ, ◌^◌, IfOk, OnOk, IsTrue, Contains, length, option_to_list, IsSome};
 ghost use Rattle.std.specs.List.Sorted.{IsStrictlyIncreasing};
 ghost use Rattle.std.specs.BTreeSet.{btree_set_len};
-ghost use Rattle.cfg_model.specs.Instructions.{targets_at};
+ghost use Rattle.cfg_model.specs.Instructions.{IsLawful, targets_at};
 ghost use Rattle.cfg_model.specs.Successors.{IsCall};
 ghost use Rattle.cfg_model.specs.Reach.{AreSeeds};
 ghost use Rattle.cfg_model.specs.Closure.{IsClosure};
-ghost use Rattle.cfg_model.specs.Rounds.{ReturnsBy, Meet, IsWithin, HaveSame, Adds, Follows, AreKnown, AreReached, AreReturning, IsClosedUnder, AreAllKnownOf};
+ghost use Rattle.cfg_model.specs.Rounds.{ReturnsBy, Meet, IsWithin, HaveSame, Adds, Follows, AreKnown, AreReached, AreReturning, IsClosedUnder, AreAllMarked, Marks};
 
 use crate::flow::{Chains, Flow};
 use crate::memory::Memory;
@@ -162,6 +162,7 @@ fn follow_one<C: Chains>(
 ) -> Result<(), Memory>
     requires same { HaveSame found.old.order.items found.old.members.keys }
     requires known { IsSome (C.map code.now a) }
+    ensures lawful { IsLawful (C.map code.now) }
     ensures same { OnOk result (HaveSame found.new.order.items found.new.members.keys) }
     ensures follows { OnOk result (Follows (C.map code.now) returning.now.keys a found.old.order.items found.new.order.items) }
 {
@@ -200,34 +201,40 @@ fn follow_table<C: Chains>(code: &C, a: u64, entries: u32, found: &mut Found) ->
 
 /// Marks addresses of `order` that return where those known to return do, from the back to the
 /// front, each on what is known by then. Answers whether any was marked.
-fn mark<C: Chains>(code: &C, order: &[u64], returning: &mut BTreeSet<u64>) -> Result<bool, Memory>
+fn mark<C: Chains>(
+    code: &C,
+    order: &[u64],
+    returning: &mut BTreeSet<u64>,
+) -> Result<bool, Memory>
     requires known { AreKnown (C.map code.now) order.now }
     requires returning { AreReturning (C.map code.now) returning.old.keys }
     requires within { IsWithin returning.old.keys order.now }
     ensures returning { OnOk result (AreReturning (C.map code.now) returning.new.keys) }
     ensures within { OnOk result (IsWithin returning.new.keys order.now) }
-    ensures more { IfOk result (λ more. IsTrue more → btree_set_len returning.old < btree_set_len returning.new) }
+    ensures marked { IfOk result (λ marked. IsTrue marked → btree_set_len returning.old < btree_set_len returning.new) }
     ensures small { OnOk result (btree_set_len returning.new < 2 ^ 63) }
-    ensures last { IfOk result (λ more. ¬ IsTrue more → AreAllKnownOf (C.map code.now) order.now returning.new.keys) }
-    ensures same { IfOk result (λ more. ¬ IsTrue more → returning.new.keys ≡ returning.old.keys) }
+    ensures same { IfOk result (λ marked. ¬ IsTrue marked → returning.new.keys ≡ returning.old.keys) }
+    ensures all { IfOk result (λ marked. ¬ IsTrue marked → AreAllMarked (C.map code.now) order.now returning.old.keys) }
 {
-    let mut more = false;
+    let before = returning.len();
     for i in (0..order.len()).rev() {
-        if mark_one(code, order[i], returning)? {
-            more = true;
-        }
+        mark_one(code, order[i], returning)?;
     }
-    Ok(more)
+    Ok(returning.len() > before)
 }
 
-/// Marks `a` where it returns and was not known to. Answers whether it did so.
-fn mark_one<C: Chains>(code: &C, a: u64, returning: &mut BTreeSet<u64>) -> Result<bool, Memory>
-    requires { IsSome (C.map code.now a) }
+/// Marks `a` where it returns and was not known to.
+fn mark_one<C: Chains>(code: &C, a: u64, returning: &mut BTreeSet<u64>) -> Result<(), Memory>
+    requires known { IsSome (C.map code.now a) }
+    requires returning { AreReturning (C.map code.now) returning.old.keys }
+    ensures returning { OnOk result (AreReturning (C.map code.now) returning.new.keys) }
+    ensures only { OnOk result ((b : ℕ) → Contains returning.new.keys b → Contains returning.old.keys b ⊎ (b ≡ a)) }
+    ensures marks { OnOk result (Marks (C.map code.now) (a ∷ []) returning.old.keys returning.new.keys) }
 {
-    if has(returning, a) || !returns_now(code, a, returning) {
-        return Ok(false);
+    if !has(returning, a) && returns_now(code, a, returning) {
+        insert(returning, a)?;
     }
-    insert(returning, a)
+    Ok(())
 }
 
 /// Whether the instruction at `a` returns where the addresses known to return do.
