@@ -1,1 +1,5 @@
 pub mod Outline
+pub mod Complete
+pub mod Growth
+pub mod Members
+pub mod Steps

@@ -4,6 +4,7 @@ pub mod Successors
 pub mod Status
 pub mod Reach
 pub mod Closure
+pub mod Rounds
 pub mod Leader
 pub mod Block
 pub mod Edge
