@@ -44,38 +44,10 @@ there_listed (Some b) a h = listed_one b a h
 pub All-from_contains : {X : Type 0} (P : X → Type 0) (xs : List X) → ((x : X) → Contains xs x → P x) → All P xs
 All-from_contains P xs f = λ k d within. f _ (Contains-get_or xs k d within)
 
--- what a reached instruction leads to is that of an instruction
+-- a successor, by the flow
 
 pub successor_by : (map : InstructionMap) (k a : ℕ) (flow : Flow) → flow_at map k ≡ Some flow → Contains (successors_by (targets_at map k) flow) a → IsSuccessor map k a
 successor_by map k a flow h c = subst (λ o. Contains (successors_of_flow (targets_at map k) o) a) (sym h) c
-
-pub named_known : (map : InstructionMap) (k b : ℕ) (flow : Flow) → IsLawful map → flow_at map k ≡ Some flow → Contains (named_by flow) b → IsSome (map b)
-named_known map k b flow lawful h c =
-    let i = at_flow map k flow h in
-    All-contains (λ x. IsSome (map x)) (named_by flow) b (subst (λ f. All (λ x. IsSome (map x)) (named_by f)) i.2 (lawful k i.0 i.1).named) c
-
-pub kept_known : (map : InstructionMap) (k b : ℕ) (flow : Flow) → IsLawful map → flow_at map k ≡ Some flow → Contains (targets_at map k) b → IsSome (map b)
-kept_known map k b flow lawful h c =
-    let i = at_flow map k flow h in
-    All-contains (λ x. IsSome (map x)) i.0.targets b (lawful k i.0 i.1).kept (subst (λ l. Contains l b) (kept_targets map k i.0 i.1) c)
-
-pub successor_known : (map : InstructionMap) (k b : ℕ) → IsLawful map → (o : Option Flow) → flow_at map k ≡ o → Contains (successors_of_flow (targets_at map k) o) b → IsSome (map b)
-successor_known map k b lawful None h c = absurd (Contains-none b c)
-successor_known map k b lawful (Some (Straight next)) h c = named_known map k b (Straight next) lawful h c
-successor_known map k b lawful (Some (Branch taken fall)) h c = named_known map k b (Branch taken fall) lawful h c
-successor_known map k b lawful (Some (Jump target)) h c = named_known map k b (Jump target) lawful h c
-successor_known map k b lawful (Some (Call target fall)) h c = absurd (Contains-none b c)
-successor_known map k b lawful (Some (IndirectCall fall)) h c = named_known map k b (IndirectCall fall) lawful h c
-successor_known map k b lawful (Some (Table entries full)) h c = kept_known map k b (Table entries full) lawful h c
-successor_known map k b lawful (Some Return) h c = absurd (Contains-none b c)
-successor_known map k b lawful (Some Unknown) h c = absurd (Contains-none b c)
-successor_known map k b lawful (Some Stop) h c = absurd (Contains-none b c)
-
-pub reached_known : (map : InstructionMap) (seeds : List ℕ) → IsLawful map → AreSeeds map seeds → {a : ℕ} → Reached map seeds a → IsSome (map a)
-reached_known map seeds lawful are (Reached.seed {a = a} h) = All-contains (λ x. IsSome (map x)) seeds a are.known h
-reached_known map seeds lawful are (Reached.onward {a = a} {b = b} r s) = successor_known map a b lawful (flow_at map a) refl s
-reached_known map seeds lawful are (Reached.called {a = a} {target = target} {fall = fall} r call) = named_known map a target (Call target fall) lawful call (Contains-here target (option_to_list fall))
-reached_known map seeds lawful are (Reached.past_call {a = a} {target = target} {fall = fall} r call ret) = named_known map a fall (Call target (Some fall)) lawful call (Contains-append_right (target ∷ []) (fall ∷ []) fall (Contains-here fall []))
 
 -- what a reached instruction makes a leader is one
 
@@ -168,7 +140,3 @@ module _ (map : InstructionMap) (seeds reached returning : List ℕ) (closure : 
           (λ e. marked_leads e.0 a ((closure.all_reached e.0).0 e.1) (flow_at map e.0) refl e.2)
           (gains.nothing_else a h),
        λ l. ⊎_elim (λ s. gains.kept a s) (λ e. gains.added a e) (starts_marked l.starts))
-
-  -- each reached address is that of an instruction
-  pub all_known : IsLawful map → AreSeeds map seeds → All (λ a. IsSome (map a)) reached
-  all_known lawful are = All-from_contains (λ a. IsSome (map a)) reached (λ a h. reached_known map seeds lawful are ((closure.all_reached a).0 h))

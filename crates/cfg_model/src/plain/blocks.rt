@@ -12,7 +12,6 @@ use crate::graph::{Block, EndKind};
 
 /// The last address of the block that starts at `s`, where blocks are cut at `leaders`.
 pub(crate) fn last_of<C: Chains>(code: &C, leaders: &[u64], s: u64) -> u64
-    requires lawful { IsLawful (C.map code.now) }
     requires has { IsSome (C.map code.now s) }
     requires rising { IsStrictlyIncreasing leaders.now }
     ensures last { IsLastWithin (C.map code.now) leaders.now s result }
@@ -30,6 +29,7 @@ pub(crate) fn last_of<C: Chains>(code: &C, leaders: &[u64], s: u64) -> u64
 fn onward<C: Chains>(code: &C, leaders: &[u64], k: u64) -> Option<u64>
     requires has { IsSome (C.map code.now k) }
     requires rising { IsStrictlyIncreasing leaders.now }
+    ensures lawful { IsLawful (C.map code.now) }
     ensures onward { IfSome result (λ next. GoesOnTo (C.map code.now) k next × (¬ Contains leaders.now next)) }
     ensures ends { IfNone result (StopsAt (C.map code.now) leaders.now k) }
 {
@@ -49,8 +49,7 @@ fn is_listed(addresses: &[u64], a: u64) -> bool
 
 /// The block from `s` to the instruction at `k`.
 pub(crate) fn block_of<C: Chains>(code: &C, s: u64, k: u64) -> Block
-    requires lawful { IsLawful (C.map code.now) }
-    requires has { IsSome (C.map code.now k) }
+    requires { IsSome (C.map code.now k) }
     ensures { IsBlockOf (C.map code.now) s k result }
 {
     let kind = end_kind_of(code.flow(k));

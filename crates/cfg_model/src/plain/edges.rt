@@ -1,7 +1,7 @@
 //! The edges of a basic block, from its last instruction.
 
 ghost use Rattle.std.specs.Prelude.{◌≡◌, ◌⊎◌, ℕ, Contains, IsSome, OnOk, length};
-ghost use Rattle.cfg_model.specs.Instructions.{IsLawful, targets_at};
+ghost use Rattle.cfg_model.specs.Instructions.{targets_at};
 ghost use Rattle.cfg_model.specs.Gains.{Gains};
 ghost use Rattle.cfg_model.specs.Ways.{edge_to, IsEdgeTo, WaysFrom};
 
@@ -18,8 +18,7 @@ pub(crate) fn add_edges<C: Chains>(
     k: u64,
     edges: &mut Vec<Edge>,
 ) -> Result<(), Memory>
-    requires lawful { IsLawful (C.map code.now) }
-    requires has { IsSome (C.map code.now k) }
+    requires { IsSome (C.map code.now k) }
     ensures { OnOk result (Gains edges.old.items edges.new.items (WaysFrom (C.map code.now) closure.now.returning.keys s k)) }
 {
     match code.flow(k) {

@@ -4,7 +4,6 @@ ghost use Rattle.std.specs.Prelude.{◌≡◌, ◌↔◌, ◌⊎◌, ℕ, All, C
 ghost use Rattle.std.specs.List.Sorted.{IsStrictlyIncreasing};
 ghost use Rattle.cfg_model.specs.Instructions.{IsLawful, targets_at};
 ghost use Rattle.cfg_model.specs.Chain.{GoesOnTo};
-ghost use Rattle.cfg_model.specs.Reach.{AreSeeds};
 ghost use Rattle.cfg_model.specs.Closure.{IsClosure};
 ghost use Rattle.cfg_model.specs.Leader.{IsLeader};
 ghost use Rattle.cfg_model.specs.Gains.{Gains};
@@ -22,8 +21,7 @@ pub(crate) fn leaders_of<C: Chains>(
     closure: &Closure,
     seeds: &[u64],
 ) -> Result<Vec<u64>, Memory>
-    requires lawful { IsLawful (C.map code.now) }
-    requires seeds { AreSeeds (C.map code.now) seeds.now }
+    requires known { All (λ a. IsSome (C.map code.now a)) closure.now.reached.items }
     requires closure { IsClosure (C.map code.now) seeds.now closure.now.reached.items closure.now.returning.keys }
     ensures rising { IfOk result (λ v. IsStrictlyIncreasing v.items) }
     ensures exact { IfOk result (λ v. (a : ℕ) → Contains v.items a ↔ IsLeader (C.map code.now) seeds.now a) }
@@ -49,8 +47,7 @@ fn marks_of<C: Chains>(
     closure: &Closure,
     seeds: &[u64],
 ) -> Result<Vec<u64>, Memory>
-    requires lawful { IsLawful (C.map code.now) }
-    requires known { All (λ a. IsSome (C.map code.now a)) closure.now.reached.items }
+    requires { All (λ a. IsSome (C.map code.now a)) closure.now.reached.items }
     ensures { IfOk result (λ v. Gains seeds.now v.items (MarkedFrom (C.map code.now) closure.now.reached.items closure.now.returning.keys closure.now.reached.items)) }
 {
     let mut marks = Vec::from_slice(alloc, seeds)?;
@@ -67,7 +64,6 @@ fn mark<C: Chains>(
     k: u64,
     marks: &mut Vec<u64>,
 ) -> Result<(), Memory>
-    requires lawful { IsLawful (C.map code.now) }
     requires known { All (λ a. IsSome (C.map code.now a)) closure.now.reached.items }
     requires has { IsSome (C.map code.now k) }
     ensures { OnOk result (Gains marks.old.items marks.new.items (MarkedAt (C.map code.now) closure.now.reached.items closure.now.returning.keys k)) }
@@ -147,7 +143,6 @@ fn mark_join<C: Chains>(
     next: u64,
     marks: &mut Vec<u64>,
 ) -> Result<(), Memory>
-    requires lawful { IsLawful (C.map code.now) }
     requires known { All (λ a. IsSome (C.map code.now a)) closure.now.reached.items }
     requires straight { GoesOnTo (C.map code.now) k next }
     ensures { OnOk result (Gains marks.old.items marks.new.items (JoinsAt (C.map code.now) closure.now.reached.items k next)) }

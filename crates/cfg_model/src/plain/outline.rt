@@ -3,6 +3,12 @@
 ghost use Rattle.std.specs.Prelude.{◌≡◌, ◌↔◌, ℕ, [], All, AllPairs, Contains, IfOk, IsSome};
 ghost use Rattle.std.specs.List.{AllZip};
 ghost use Rattle.std.specs.List.Sorted.{IsStrictlyIncreasing};
+ghost use Rattle.cfg_model.specs.Rounds.{AreKnown};
+ghost use Rattle.cfg_model.specs.Closure.{IsClosure};
+ghost use Rattle.cfg_model.specs.Graph.{EdgeBefore, IsOutline};
+ghost use Rattle.cfg_model.specs.Gains.{Gains};
+ghost use Rattle.cfg_model.specs.Runs.{IsBlockWithin};
+ghost use Rattle.cfg_model.specs.Ways.{IsEdgeFrom};
 
 use crate::flow::Chains;
 use crate::graph::{Block, Edge};
@@ -12,14 +18,6 @@ use crate::plain::closure::Closure;
 use crate::plain::edges::add_edges;
 use crate::plain::leaders::leaders_of;
 use std::alloc::Global;
-
-ghost use Rattle.cfg_model.specs.Instructions.{IsLawful};
-ghost use Rattle.cfg_model.specs.Reach.{AreSeeds};
-ghost use Rattle.cfg_model.specs.Closure.{IsClosure};
-ghost use Rattle.cfg_model.specs.Graph.{EdgeBefore, IsOutline};
-ghost use Rattle.cfg_model.specs.Gains.{Gains};
-ghost use Rattle.cfg_model.specs.Runs.{IsBlockWithin};
-ghost use Rattle.cfg_model.specs.Ways.{IsEdgeFrom};
 
 /// The basic blocks of the program `code` from `seeds` and the edges between them, each list in
 /// order, or want of memory.
@@ -32,8 +30,7 @@ pub(crate) fn outline_of<C: Chains>(
     closure: &Closure,
     seeds: &[u64],
 ) -> Result<(Vec<Block>, Vec<Edge>), Memory>
-    requires lawful { IsLawful (C.map code.now) }
-    requires seeds { AreSeeds (C.map code.now) seeds.now }
+    requires known { AreKnown (C.map code.now) closure.now.reached.items }
     requires closure { IsClosure (C.map code.now) seeds.now closure.now.reached.items closure.now.returning.keys }
     ensures { IfOk result (λ o. IsOutline (C.map code.now) seeds.now o.0.items o.1.items) }
 {
@@ -49,7 +46,6 @@ fn cut_at<C: Chains>(
     closure: &Closure,
     leaders: &[u64],
 ) -> Result<(Vec<Block>, Vec<Edge>), Memory>
-    requires lawful { IsLawful (C.map code.now) }
     requires known { All (λ a. IsSome (C.map code.now a)) leaders.now }
     requires rising { IsStrictlyIncreasing leaders.now }
     ensures blocks { IfOk result (λ o. AllZip (IsBlockWithin (C.map code.now) leaders.now) leaders.now o.0.items) }

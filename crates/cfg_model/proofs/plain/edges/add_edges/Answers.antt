@@ -6,7 +6,7 @@ use Rattle.cfg_model.proofs.Outline.Code.{table_entries}
 use Rattle.cfg_model.proofs.plain.edges.add_edges.Goals as goal
 
 pub add_table-requires : goal.add_table-requires
-add_table-requires g c = (c.type_bounds.sync-C, table_entries (g.C.Chains.map c.args.code.now) c.args.k c.in-Table.entries c.in-Table.full c.requires.lawful c.in-Table.ensures.flow)
+add_table-requires g c = (c.type_bounds.sync-C, table_entries (g.C.Chains.map c.args.code.now) c.args.k c.in-Table.entries c.in-Table.full c.in-Table.ensures.lawful c.in-Table.ensures.flow)
 
 pub returns-in-Straight : goal.returns-in-Straight
 returns-in-Straight g c =

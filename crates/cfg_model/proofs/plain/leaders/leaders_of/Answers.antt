@@ -1,8 +1,5 @@
-use Rattle.cfg_model.proofs.Outline.Leaders.{leaders_exact, all_known}
+use Rattle.cfg_model.proofs.Outline.Leaders.{leaders_exact}
 use Rattle.cfg_model.proofs.plain.leaders.leaders_of.Goals as goal
-
-pub marks_of-requires-clause-known : goal.marks_of-requires-clause-known
-marks_of-requires-clause-known g c = λ lifetimes outlives. all_known (g.C.Chains.map c.args.code.now) c.args.seeds.now c.args.closure.now.reached.items c.args.closure.now.returning.keys c.requires.closure c.requires.lawful c.requires.seeds
 
 pub returns-clause-exact : goal.returns-clause-exact
 returns-clause-exact g c = λ a.
