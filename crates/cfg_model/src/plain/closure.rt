@@ -63,6 +63,7 @@ pub(crate) fn closure_of<C: Chains>(
 ) -> Result<Closure, Memory>
     requires seeds { AreSeeds (C.map code.now) seeds.now }
     ensures closure { IfOk result (λ c. IsClosure (C.map code.now) seeds.now c.reached.items c.returning.keys) }
+    ensures known { IfOk result (λ c. AreKnown (C.map code.now) c.reached.items) }
 {
     let mut found = Found::of(alloc, seeds)?;
     let mut returning = BTreeSet::new(alloc);
