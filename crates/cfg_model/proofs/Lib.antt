@@ -1,4 +1,5 @@
 pub mod Complete
 pub mod Growth
 pub mod Members
+pub mod Passes
 pub mod Steps

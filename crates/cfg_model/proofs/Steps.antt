@@ -1,5 +1,7 @@
 -- One instruction of known flow: what it leads to, and whether it returns.
-use Rattle.std.proofs.Common.{◌≡◌, ◌↔◌, ℕ, ◌⊎◌, List, [], ◌∷◌, ◌++◌, length, Contains, All, Option, Some, None, IsSome, IsTrue, Bool, true, false, option_to_list, refl, sym, subst, ap, inl, inr}
+use Rattle.std.proofs.Common.{◌≡◌, ◌↔◌, ℕ, ◌⊎◌, List, [], ◌∷◌, ◌++◌, length, Contains, All, Option, Some, None, IsSome, IsTrue, Bool, true, false, option_to_list, ◌+◌, ◌<◌, ◌≤◌, get_or, slice_get, below_more, refl, sym, ◌∙◌, subst, ap, inl, inr, arith}
+use Rattle.std.proofs.lemmas.Option.{get_or_from_slice_get, slice_get_within}
+use Rattle.std.proofs.lemmas.List.{get_or_default}
 use Rattle.std.specs.Option.{option_map, option_map_or}
 use Rattle.std.proofs.lemmas.List.Elements.{All-contains}
 use Rattle.cfg_model.specs.declared.flow.Flow.{Flow}
@@ -7,7 +9,7 @@ use Rattle.cfg_model.specs.declared.flow.Flow.TheVariants.{Straight, Branch, Jum
 use Rattle.cfg_model.specs.Instructions.{Instruction, InstructionMap, IsLawful, IsLawfulAt, FlowFits, flow_at, targets_at, named_by}
 use Rattle.cfg_model.specs.Successors.{IsSuccessor, IsCall, LeavesFunction, successors_by, successors_of_flow}
 use Rattle.cfg_model.specs.Rounds.{Leads, ReturnsBy, Meet, Adds, Follows, to_successor, to_target, to_fall, by_itself, by_successor, by_call}
-use Rattle.cfg_model.proofs.Growth.{none_in_nil, contains_one, contains_first, contains_rest, contains_cons_cases, is_some_of, contains_some}
+use Rattle.cfg_model.proofs.Growth.{none_in_nil, contains_one, contains_first, contains_rest, contains_cons_cases, is_some_of, contains_some, adds_none}
 
 -- ---- what the laws of a program say of one flow
 
@@ -247,3 +249,55 @@ returns_by_call map returning a target fall e = (
     (λ p. let same : fall ≡ Some p.1.address = is_some_of fall p.1.address p.1.in_first in
         by_call (subst (λ (o : Option ℕ). IsCall map a target o) same e) p.0 p.1.in_second),
     both_from_returns map returning a target fall e)
+
+-- ---- a loop over the kept targets
+
+-- no item of xs before place i is in ys
+pub record NoneBefore (i : ℕ) (xs ys : List ℕ) : Type 0 where
+  pub each : (k : ℕ) → k < i → ¬ Contains ys (get_or xs k 0)
+
+pub none_before_more :
+    (xs ys : List ℕ) (i x : ℕ) → slice_get xs i ≡ Some x → ¬ Contains ys x →
+    NoneBefore i xs ys → NoneBefore (i + 1) xs ys
+none_before_more xs ys i x e apart below =
+    let here : ¬ Contains ys (get_or xs i 0) = rw (get_or_from_slice_get xs i x 0 e) apart in
+    record { each = below_more (λ k. ¬ Contains ys (get_or xs k 0)) i below.each here }
+
+pub meet_at : (xs ys : List ℕ) (i x : ℕ) → slice_get xs i ≡ Some x → Contains ys x → Meet xs ys
+meet_at xs ys i x e h = record {
+    address = x;
+    in_first = (i, slice_get_within xs i x e, get_or_from_slice_get xs i x x e);
+    in_second = h;
+  }
+
+pub none_meet : (xs ys : List ℕ) (i : ℕ) → length xs ≤ i → NoneBefore i xs ys → Meet xs ys → ⊥
+none_meet xs ys i le below m =
+    let k : ℕ = m.in_first.0 in
+    let lt : k < length xs = m.in_first.1 in
+    let at : get_or xs k 0 ≡ m.address = get_or_default xs k 0 m.address lt ∙ m.in_first.2 in
+    below.each k (omega arith) (rw at m.in_second)
+
+-- ---- arms that join several flows
+
+pub follows_nothing :
+    (map : InstructionMap) (returning : List ℕ) (a : ℕ) (flow : Flow) (old : List ℕ) →
+    flow_at map a ≡ Some flow → (flow ≡ Return) ⊎ ((flow ≡ Unknown) ⊎ (flow ≡ Stop)) →
+    Follows map returning a old old
+follows_nothing map returning a flow old e (inl k) =
+    let at : flow_at map a ≡ Some Return = cc in
+    follows_by_flow map returning a Return old old at (λ t f q. cc) (adds_none old)
+follows_nothing map returning a flow old e (inr (inl k)) =
+    let at : flow_at map a ≡ Some Unknown = cc in
+    follows_by_flow map returning a Unknown old old at (λ t f q. cc) (adds_none old)
+follows_nothing map returning a flow old e (inr (inr k)) =
+    let at : flow_at map a ≡ Some Stop = cc in
+    follows_by_flow map returning a Stop old old at (λ t f q. cc) (adds_none old)
+
+pub returns_by_branch :
+    (map : InstructionMap) (returning : List ℕ) (a : ℕ) (taken fall : Option ℕ) (b n : ℕ) →
+    flow_at map a ≡ Some (Branch taken fall) → taken ≡ Some b → fall ≡ Some n →
+    (Contains returning b ⊎ Contains returning n) ↔ ReturnsBy map returning a
+returns_by_branch map returning a taken fall b n e t f =
+    let at : flow_at map a ≡ Some (Branch (Some b) (Some n)) = cc in
+    chain (meet_two b n returning)
+    (returns_by_flow map returning a (Branch (Some b) (Some n)) at (λ x y q. cc) (λ h. h))
