@@ -1,4 +1,4 @@
-use Rattle.std.proofs.Common.{◌≡◌, ◌<◌, ◌≤◌, ℕ, length, get_or, sym, ◌∙◌, subst, arith}
+use Rattle.std.proofs.Common.{◌≡◌, ◌<◌, ◌≤◌, ℕ, length, get_or, ◌∙◌, subst, arith}
 use Rattle.std.proofs.lemmas.List.{get_or_default}
 use Rattle.cfg_model.specs.Rounds.{Follows}
 use Rattle.cfg_model.proofs.Passes.{following_start, following_more, closed_at_end}
@@ -12,11 +12,11 @@ loop-i-preserved g c =
     let order = c.loop-i.found.order.items in
     let lt : c.loop-i.i < length order = omega arith in
     let item : c.index-a.result.now ≡ get_or order c.loop-i.i 0 =
-        c.index-a.ensures ∙ get_or_default order c.loop-i.i c.index-a.result.now 0 lt in
+    c.index-a.ensures ∙ get_or_default order c.loop-i.i c.index-a.result.now 0 lt in
     following_more _ _ _ _ _ _ _ c.loop-i.i c.in_ok-follow_one.ensures.lawful c.requires.returning lt
     c.loop-i.invariant
     (subst (λ (x : ℕ). Follows (g.C.Chains.map c.args.code.now) c.args.returning.now.keys x order c.follow_one.new.found.order.items)
-        item c.in_ok-follow_one.ensures.follows)
+    item c.in_ok-follow_one.ensures.follows)
     c.in_ok-follow_one.ensures.same
 
 pub returns-clause-closed : goal.returns-clause-closed

@@ -1,4 +1,4 @@
-use Rattle.std.proofs.Common.{◌∷◌, [], Some, option_to_list}
+use Rattle.std.proofs.Common.{◌∷◌, [], option_to_list}
 use Rattle.std.proofs.lemmas.Result.{on_ok_weaker}
 use Rattle.cfg_model.specs.declared.flow.Flow.TheVariants.{Straight, Branch, Jump, IndirectCall, Table}
 use Rattle.cfg_model.proofs.Growth.{adds_both}
@@ -15,8 +15,8 @@ pub returns-in_ok-add_any-in-Branch-clause-follows : goal.returns-in_ok-add_any-
 returns-in_ok-add_any-in-Branch-clause-follows g c =
     on_ok_weaker c.add_any-in-Branch.result
     (λ p. follows_by_flow _ _ _ (Branch c.in-Branch.taken c.in-Branch.fall) _ _ c.in-Branch.ensures.flow (λ t f e. cc)
-        (adds_both _ _ _ (option_to_list c.in-Branch.taken) (option_to_list c.in-Branch.fall)
-            c.in_ok-add_any-in-Branch.ensures.adds p))
+    (adds_both _ _ _ (option_to_list c.in-Branch.taken) (option_to_list c.in-Branch.fall)
+    c.in_ok-add_any-in-Branch.ensures.adds p))
     c.add_any-in-Branch.ensures.adds
 
 pub returns-in-Jump-clause-follows : goal.returns-in-Jump-clause-follows
@@ -29,7 +29,7 @@ pub returns-in_ok-add_any-in-Call-clause-follows : goal.returns-in_ok-add_any-in
 returns-in_ok-add_any-in-Call-clause-follows g c =
     follows_returning _ _ _ _ _ _ _ c.in-Call.ensures.flow (c.has.ensures.0 c.if-has.true)
     (adds_both _ _ _ (c.in-Call.target ∷ []) (option_to_list c.in-Call.fall)
-        c.in_ok-add-in-Call.ensures.adds c.in_ok-add_any-in-Call.ensures.adds)
+    c.in_ok-add-in-Call.ensures.adds c.in_ok-add_any-in-Call.ensures.adds)
 
 pub returns-else-has-clause-follows : goal.returns-else-has-clause-follows
 returns-else-has-clause-follows g c =

@@ -9,7 +9,7 @@ loop-i-preserved g c =
     let kept = targets_at (g.C.Chains.map c.args.code.now) c.args.a in
     let within : c.loop-i.i < length kept = omega arith in
     let item : c.target.result ≡ get_or kept c.loop-i.i 0 =
-        sym (get_or_from_slice_get kept c.loop-i.i c.target.result 0 c.target.ensures.target) in
+    sym (get_or_from_slice_get kept c.loop-i.i c.target.result 0 c.target.ensures.target) in
     record {
       same = c.in_ok-add.ensures.same;
       adds = adds_more _ _ _ kept c.loop-i.i 0 _ within item c.loop-i.invariant.adds c.in_ok-add.ensures.adds;

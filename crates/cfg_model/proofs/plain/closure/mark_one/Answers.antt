@@ -10,8 +10,8 @@ returns-in_ok-insert-clause-returning g c =
 pub returns-else-not-has-clause-marks : goal.returns-else-not-has-clause-marks
 returns-else-not-has-clause-marks g c =
     elim c.else-not-has.branch [
-        else-not-has-via-then-not-has+else-returns_now w ↦
-            rests_apart _ _ c.args.a
-            (λ r. let t = w.returns_now.ensures.1 r in let f = w.if-returns_now.false in absurd (cc))
+      | else-not-has-via-then-not-has+else-returns_now w ↦
+          rests_apart _ _ c.args.a
+          (λ r. let t = w.returns_now.ensures.1 r in let f = w.if-returns_now.false in absurd (cc))
       | else-not-has-via-else-not-has w ↦ rests_there _ _ c.args.a (c.has.ensures.0 w.if-not-has.false)
     ]

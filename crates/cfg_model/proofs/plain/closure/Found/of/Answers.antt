@@ -4,10 +4,10 @@ use Rattle.cfg_model.proofs.plain.closure.Found.of.Goals as goal
 
 pub loop-a-preserved : goal.loop-a-preserved
 loop-a-preserved c = record {
-    same = c.in_ok-add.ensures.same;
-    adds = adds_more _ _ _ c.args.seeds.now c.loop-a.a-index 0 _ c.loop-a-test.true refl
+  same = c.in_ok-add.ensures.same;
+  adds = adds_more _ _ _ c.args.seeds.now c.loop-a.a-index 0 _ c.loop-a-test.true refl
       c.loop-a.invariant.adds c.in_ok-add.ensures.adds;
-  }
+}
 
 pub returns-clause-seeds : goal.returns-clause-seeds
 returns-clause-seeds c =
