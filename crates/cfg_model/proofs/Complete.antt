@@ -1,5 +1,5 @@
 -- A state that no round changes is complete, and a round adds only what the definitions allow.
-use Rattle.std.proofs.Common.{◌≡◌, ℕ, List, Contains}
+use Rattle.std.proofs.Common.{ℕ, List, Contains}
 use Rattle.cfg_model.specs.Instructions.{InstructionMap}
 use Rattle.cfg_model.specs.Status.{Returns}
 use Rattle.cfg_model.specs.Status as status
@@ -44,11 +44,13 @@ pub closure_from_closed :
     IsClosedUnder map returning reached → AreAllMarked map reached returning →
     IsClosure map seeds reached returning
 closure_from_closed map seeds reached returning first sound within returns closed all = record {
-    all_reached = λ a. (sound.each a, reached_from_closed map seeds reached returning first closed all a);
-    all_returning = λ a. ((λ c. (sound.each a (within.each a c), returns.each a c)),
-        (λ h. returning_from_closed map reached returning closed all a
-            (reached_from_closed map seeds reached returning first closed all a h.0) h.1));
-  }
+  all_reached = λ a. (sound.each a, reached_from_closed map seeds reached returning first closed all a);
+  all_returning = λ a. (
+    (λ c. (sound.each a (within.each a c), returns.each a c)),
+    (λ h. returning_from_closed map reached returning closed all a
+        (reached_from_closed map seeds reached returning first closed all a h.0) h.1),
+  );
+}
 
 -- ---- what the definitions allow
 

@@ -2,4 +2,5 @@ pub mod Outline
 pub mod Complete
 pub mod Growth
 pub mod Members
+pub mod Passes
 pub mod Steps

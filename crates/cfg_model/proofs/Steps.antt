@@ -1,5 +1,7 @@
 -- One instruction of known flow: what it leads to, and whether it returns.
-use Rattle.std.proofs.Common.{◌≡◌, ◌↔◌, ℕ, ◌⊎◌, List, [], ◌∷◌, ◌++◌, length, Contains, All, Option, Some, None, IsSome, IsTrue, Bool, true, false, option_to_list, refl, sym, subst, ap, inl, inr}
+use Rattle.std.proofs.Common.{◌≡◌, ◌↔◌, ℕ, ◌⊎◌, List, [], ◌∷◌, ◌++◌, length, Contains, All, Option, Some, None, IsSome, Bool, option_to_list, ◌+◌, ◌<◌, ◌≤◌, get_or, slice_get, below_more, refl, sym, ◌∙◌, subst, inl, inr, arith}
+use Rattle.std.proofs.lemmas.Option.{get_or_from_slice_get, slice_get_within}
+use Rattle.std.proofs.lemmas.List.{get_or_default}
 use Rattle.std.specs.Option.{option_map, option_map_or}
 use Rattle.std.proofs.lemmas.List.Elements.{All-contains}
 use Rattle.cfg_model.specs.declared.flow.Flow.{Flow}
@@ -7,7 +9,7 @@ use Rattle.cfg_model.specs.declared.flow.Flow.TheVariants.{Straight, Branch, Jum
 use Rattle.cfg_model.specs.Instructions.{Instruction, InstructionMap, IsLawful, IsLawfulAt, FlowFits, flow_at, targets_at, named_by}
 use Rattle.cfg_model.specs.Successors.{IsSuccessor, IsCall, LeavesFunction, successors_by, successors_of_flow}
 use Rattle.cfg_model.specs.Rounds.{Leads, ReturnsBy, Meet, Adds, Follows, to_successor, to_target, to_fall, by_itself, by_successor, by_call}
-use Rattle.cfg_model.proofs.Growth.{none_in_nil, contains_one, contains_first, contains_rest, contains_cons_cases, is_some_of, contains_some}
+use Rattle.cfg_model.proofs.Growth.{none_in_nil, contains_one, contains_first, contains_rest, contains_cons_cases, is_some_of, contains_some, adds_none}
 
 -- ---- what the laws of a program say of one flow
 
@@ -67,7 +69,7 @@ pub entries_kept :
 entries_kept map lawful a entries full e =
     let h = flow_inverted (map a) (Table entries full) e in
     let fits : FlowFits a h.0 (Table entries full) =
-        subst (λ (f : Flow). FlowFits a h.0 f) h.2 (lawful a h.0 h.1).fits in
+    subst (λ (f : Flow). FlowFits a h.0 f) h.2 (lawful a h.0 h.1).fits in
     rw h.1 fits.0
 
 -- ---- what an instruction leads to
@@ -101,15 +103,15 @@ pub follows_by_flow :
     flow_at map a ≡ Some flow → IsNoCall flow →
     Adds old new (successors_by (targets_at map a) flow) → Follows map returning a old new
 follows_by_flow map returning a flow old new e apart h = record {
-    rest = h.rest;
-    goes_on = h.goes_on;
-    has = λ b l. h.has b (successor_from_leads map returning a flow e apart b l);
-    only = λ b k.
+  rest = h.rest;
+  goes_on = h.goes_on;
+  has = λ b l. h.has b (successor_from_leads map returning a flow e apart b l);
+  only = λ b k.
       elim (h.only b k) [
-              inl m ↦ inl m
-          | inr m ↦ inr (to_successor (successor_from_flow map a flow e b m))
-          ];
-  }
+        | inl m ↦ inl m
+        | inr m ↦ inr (to_successor (successor_from_flow map a flow e b m))
+      ];
+}
 
 -- a call of an address that is not known to return leads to it alone
 leads_waiting :
@@ -128,15 +130,15 @@ pub follows_waiting :
     IsCall map a target fall → ¬ Contains returning target →
     Adds old new (target ∷ []) → Follows map returning a old new
 follows_waiting map returning a target fall old new e apart h = record {
-    rest = h.rest;
-    goes_on = h.goes_on;
-    has = λ b l. h.has b (leads_waiting map returning a target fall e apart b l);
-    only = λ b k.
+  rest = h.rest;
+  goes_on = h.goes_on;
+  has = λ b l. h.has b (leads_waiting map returning a target fall e apart b l);
+  only = λ b k.
       elim (h.only b k) [
-              inl m ↦ inl m
-          | inr m ↦ inr (subst (λ (x : ℕ). Leads map returning a x) (sym (contains_one target b m)) (to_target e))
-          ];
-  }
+        | inl m ↦ inl m
+        | inr m ↦ inr (subst (λ (x : ℕ). Leads map returning a x) (sym (contains_one target b m)) (to_target e))
+      ];
+}
 
 -- a call of an address that returns leads to it and to the fall
 leads_returning :
@@ -163,43 +165,42 @@ pub follows_returning :
     IsCall map a target fall → Contains returning target →
     Adds old new (target ∷ option_to_list fall) → Follows map returning a old new
 follows_returning map returning a target fall old new e r h = record {
-    rest = h.rest;
-    goes_on = h.goes_on;
-    has = λ b l. h.has b (leads_returning map returning a target fall e b l);
-    only = λ b k.
+  rest = h.rest;
+  goes_on = h.goes_on;
+  has = λ b l. h.has b (leads_returning map returning a target fall e b l);
+  only = λ b k.
       elim (h.only b k) [
-              inl m ↦ inl m
-          | inr m ↦ inr
-              (elim (contains_cons_cases target (option_to_list fall) b m) [
-                      inl s ↦ subst (λ (x : ℕ). Leads map returning a x) (sym s) (to_target e)
-                  | inr s ↦ fall_led_to map returning a target fall e r b (is_some_of fall b s)
-                  ])
-          ];
-  }
+        | inl m ↦ inl m
+        | inr m ↦ inr
+            (elim (contains_cons_cases target (option_to_list fall) b m) [
+              | inl s ↦ subst (λ (x : ℕ). Leads map returning a x) (sym s) (to_target e)
+              | inr s ↦ fall_led_to map returning a target fall e r b (is_some_of fall b s)
+            ])
+      ];
+}
 
 -- ---- whether an instruction returns
 
 pub chain : {A B C : Type 0} → A ↔ B → B ↔ C → A ↔ C
 chain p q = ((λ a. q.0 (p.0 a)), (λ c. p.1 (q.1 c)))
 
-pub meet_none : (returning : List ℕ) → Meet [] returning → ⊥
-meet_none returning m = none_in_nil m.address m.in_first
-
 pub meet_one : (a : ℕ) (returning : List ℕ) → Contains returning a ↔ Meet (a ∷ []) returning
 meet_one a returning = (
-    (λ h. record { address = a; in_first = contains_first a []; in_second = h }),
-    (λ m. subst (λ (x : ℕ). Contains returning x) (contains_one a m.address m.in_first) m.in_second))
+  (λ h. record { address = a; in_first = contains_first a []; in_second = h }),
+  (λ m. subst (λ (x : ℕ). Contains returning x) (contains_one a m.address m.in_first) m.in_second),
+)
 
 pub meet_two : (a b : ℕ) (returning : List ℕ) → (Contains returning a ⊎ Contains returning b) ↔ Meet (a ∷ b ∷ []) returning
 meet_two a b returning = (
-    (λ h. elim h [
-            inl k ↦ record { address = a; in_first = contains_first a (b ∷ []); in_second = k }
-        | inr k ↦ record { address = b; in_first = contains_rest a (b ∷ []) b (contains_first b []); in_second = k }
-        ]),
-    (λ m. elim (contains_cons_cases a (b ∷ []) m.address m.in_first) [
-            inl s ↦ inl (subst (λ (x : ℕ). Contains returning x) s m.in_second)
-        | inr s ↦ inr (subst (λ (x : ℕ). Contains returning x) (contains_one b m.address s) m.in_second)
-        ]))
+  (λ h. elim h [
+    | inl k ↦ record { address = a; in_first = contains_first a (b ∷ []); in_second = k }
+    | inr k ↦ record { address = b; in_first = contains_rest a (b ∷ []) b (contains_first b []); in_second = k }
+  ]),
+  (λ m. elim (contains_cons_cases a (b ∷ []) m.address m.in_first) [
+    | inl s ↦ inl (subst (λ (x : ℕ). Contains returning x) s m.in_second)
+    | inr s ↦ inr (subst (λ (x : ℕ). Contains returning x) (contains_one b m.address s) m.in_second)
+  ]),
+)
 
 meet_from_returns :
     (map : InstructionMap) (returning : List ℕ) (a : ℕ) (flow : Flow) → flow_at map a ≡ Some flow →
@@ -217,8 +218,9 @@ pub returns_by_flow :
     IsNoCall flow → ¬ LeavesFunction (Some flow) →
     Meet (successors_by (targets_at map a) flow) returning ↔ ReturnsBy map returning a
 returns_by_flow map returning a flow e apart stays = (
-    (λ m. by_successor (successor_from_flow map a flow e m.address m.in_first) m.in_second),
-    meet_from_returns map returning a flow e apart stays)
+  (λ m. by_successor (successor_from_flow map a flow e m.address m.in_first) m.in_second),
+  meet_from_returns map returning a flow e apart stays,
+)
 
 pub returns_by_itself :
     (map : InstructionMap) (returning : List ℕ) (a : ℕ) (flow : Flow) → flow_at map a ≡ Some flow →
@@ -235,15 +237,69 @@ both_from_returns map returning a target fall e (by_successor {b = b} s k) =
     absurd (none_in_nil b (successor_to_flow map a (Call target fall) e b s))
 both_from_returns map returning a target fall e (by_call {target = t} {fall = n} c h k) =
     let same : t ≡ target = cc in
-    let falls : fall ≡ Some n = cc in
-    (subst (λ (x : ℕ). Contains returning x) same h,
-        record { address = n; in_first = contains_some fall n falls; in_second = k })
+    let falls : fall ≡ Some n = cc in (
+      subst (λ (x : ℕ). Contains returning x) same h,
+      record { address = n; in_first = contains_some fall n falls; in_second = k },
+    )
 
 pub returns_by_call :
     (map : InstructionMap) (returning : List ℕ) (a target : ℕ) (fall : Option ℕ) →
     IsCall map a target fall →
     (Contains returning target × Meet (option_to_list fall) returning) ↔ ReturnsBy map returning a
 returns_by_call map returning a target fall e = (
-    (λ p. let same : fall ≡ Some p.1.address = is_some_of fall p.1.address p.1.in_first in
-        by_call (subst (λ (o : Option ℕ). IsCall map a target o) same e) p.0 p.1.in_second),
-    both_from_returns map returning a target fall e)
+  (λ p. let same : fall ≡ Some p.1.address = is_some_of fall p.1.address p.1.in_first in
+      by_call (subst (λ (o : Option ℕ). IsCall map a target o) same e) p.0 p.1.in_second),
+  both_from_returns map returning a target fall e,
+)
+
+-- ---- a loop over the kept targets
+
+-- no item of xs before place i is in ys
+pub record NoneBefore (i : ℕ) (xs ys : List ℕ) : Type 0 where
+  pub each : (k : ℕ) → k < i → ¬ Contains ys (get_or xs k 0)
+
+pub none_before_more :
+    (xs ys : List ℕ) (i x : ℕ) → slice_get xs i ≡ Some x → ¬ Contains ys x →
+    NoneBefore i xs ys → NoneBefore (i + 1) xs ys
+none_before_more xs ys i x e apart below =
+    let here : ¬ Contains ys (get_or xs i 0) = rw (get_or_from_slice_get xs i x 0 e) apart in
+    record { each = below_more (λ k. ¬ Contains ys (get_or xs k 0)) i below.each here }
+
+pub meet_at : (xs ys : List ℕ) (i x : ℕ) → slice_get xs i ≡ Some x → Contains ys x → Meet xs ys
+meet_at xs ys i x e h = record {
+  address = x;
+  in_first = (i, slice_get_within xs i x e, get_or_from_slice_get xs i x x e);
+  in_second = h;
+}
+
+pub none_meet : (xs ys : List ℕ) (i : ℕ) → length xs ≤ i → NoneBefore i xs ys → Meet xs ys → ⊥
+none_meet xs ys i le below m =
+    let k : ℕ = m.in_first.0 in
+    let lt : k < length xs = m.in_first.1 in
+    let at : get_or xs k 0 ≡ m.address = get_or_default xs k 0 m.address lt ∙ m.in_first.2 in
+    below.each k (omega arith) (rw at m.in_second)
+
+-- ---- arms that join several flows
+
+pub follows_nothing :
+    (map : InstructionMap) (returning : List ℕ) (a : ℕ) (flow : Flow) (old : List ℕ) →
+    flow_at map a ≡ Some flow → (flow ≡ Return) ⊎ ((flow ≡ Unknown) ⊎ (flow ≡ Stop)) →
+    Follows map returning a old old
+follows_nothing map returning a flow old e (inl k) =
+    let at : flow_at map a ≡ Some Return = cc in
+    follows_by_flow map returning a Return old old at (λ t f q. cc) (adds_none old)
+follows_nothing map returning a flow old e (inr (inl k)) =
+    let at : flow_at map a ≡ Some Unknown = cc in
+    follows_by_flow map returning a Unknown old old at (λ t f q. cc) (adds_none old)
+follows_nothing map returning a flow old e (inr (inr k)) =
+    let at : flow_at map a ≡ Some Stop = cc in
+    follows_by_flow map returning a Stop old old at (λ t f q. cc) (adds_none old)
+
+pub returns_by_branch :
+    (map : InstructionMap) (returning : List ℕ) (a : ℕ) (taken fall : Option ℕ) (b n : ℕ) →
+    flow_at map a ≡ Some (Branch taken fall) → taken ≡ Some b → fall ≡ Some n →
+    (Contains returning b ⊎ Contains returning n) ↔ ReturnsBy map returning a
+returns_by_branch map returning a taken fall b n e t f =
+    let at : flow_at map a ≡ Some (Branch (Some b) (Some n)) = cc in
+    chain (meet_two b n returning)
+    (returns_by_flow map returning a (Branch (Some b) (Some n)) at (λ x y q. cc) (λ h. h))

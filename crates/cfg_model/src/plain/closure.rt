@@ -202,11 +202,7 @@ fn follow_table<C: Chains>(code: &C, a: u64, entries: u32, found: &mut Found) ->
 
 /// Marks addresses of `order` that return where those known to return do, from the back to the
 /// front, each on what is known by then. Answers whether any was marked.
-fn mark<C: Chains>(
-    code: &C,
-    order: &[u64],
-    returning: &mut BTreeSet<u64>,
-) -> Result<bool, Memory>
+fn mark<C: Chains>(code: &C, order: &[u64], returning: &mut BTreeSet<u64>) -> Result<bool, Memory>
     requires known { AreKnown (C.map code.now) order.now }
     requires returning { AreReturning (C.map code.now) returning.old.keys }
     requires within { IsWithin returning.old.keys order.now }

@@ -1,4 +1,3 @@
-use Rattle.std.proofs.Common.{◌≡◌, length}
 use Rattle.cfg_model.proofs.Members.{search_finds}
 use Rattle.cfg_model.proofs.plain.closure.Closure.reaches.Goals as goal
 
