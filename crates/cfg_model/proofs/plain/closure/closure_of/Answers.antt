@@ -1,4 +1,5 @@
 use Rattle.std.proofs.Common.{◌≡◌}
+use Rattle.std.proofs.lemmas.Result.{IfOk-weaker}
 use Rattle.cfg_model.proofs.Passes.{round_start, round_followed, round_marked, closure_at_end, from_both}
 use Rattle.cfg_model.proofs.plain.closure.closure_of.Goals as goal
 
@@ -33,4 +34,7 @@ returns g c =
     record {
       closure = from_both c.into_closure.result _ _ _ c.into_closure.ensures.reached c.into_closure.ensures.returning
           (λ x r s. rw (r, s, same) whole);
+      known = IfOk-weaker c.into_closure.result _ _
+          (λ x r. record { each = λ a h. c.in_ok-follow.ensures.known.each a ((c.in_ok-follow.ensures.same.each a).1 (rw r at h)) })
+          c.into_closure.ensures.reached;
     }
