@@ -7,5 +7,4 @@ pub fn one_graph()
     ensures whole { GraphIsUnique }
     ensures early { EarlyGraphIsUnique }
     ensures outline { OutlineIsUnique }
-{
-}
+{}

@@ -88,23 +88,26 @@ module _ (map : InstructionMap) (seeds leaders : List ℕ) (exact : (a : ℕ) �
 
   last_of : (s k : ℕ) → IsLastWithin map leaders s k → IsLastOf map seeds s k
   last_of s k last = record {
-      runs = runs_to last.runs;
-      stops = ⊎_elim (λ t. inl t) (λ m. inr (m.0, m.1, (exact m.0).0 m.2)) last.stops;
+    runs = runs_to last.runs;
+    stops = ⊎_elim (λ t. inl t) (λ m. inr (m.0, m.1, (exact m.0).0 m.2)) last.stops;
   }
 
   last_within : (s k : ℕ) → IsLastOf map seeds s k → IsLastWithin map leaders s k
   last_within s k last = record {
-      runs = runs_within last.runs;
-      stops = ⊎_elim (λ t. inl t) (λ m. inr (m.0, m.1, (exact m.0).1 m.2)) last.stops;
+    runs = runs_within last.runs;
+    stops = ⊎_elim (λ t. inl t) (λ m. inr (m.0, m.1, (exact m.0).1 m.2)) last.stops;
   }
 
   pub block_sound : (s : ℕ) (block : Block) → Contains leaders s → IsBlockWithin map leaders s block → IsBlock map seeds block
-  block_sound s block c within = (within.0, record {
+  block_sound s block c within = (
+    within.0,
+    record {
       leader = subst (IsLeader map seeds) (sym within.2.start) ((exact s).0 c);
       last = subst (λ x. IsLastOf map seeds x within.0) (sym within.2.start) (last_of s within.0 within.1);
       ends = within.2.ends;
       kind = within.2.kind;
-  })
+    },
+  )
 
   pub block_within : (block : Block) → IsBlock map seeds block → IsBlockWithin map leaders block.start block
   block_within block is = (is.0, last_within block.start is.0 is.1.last, record { start = refl; ends = is.1.ends; kind = is.1.kind })
@@ -200,30 +203,32 @@ module _ (map : InstructionMap) (seeds leaders : List ℕ) (exact : (a : ℕ) �
     edge_sound edge h =
         let leads = way_leads h.0 h.2.0 edge (flow_at map h.2.0) refl h.2.2 in
         record {
-            last = h.2.0;
-            from = subst (IsLeader map seeds) (sym leads.0) ((exact h.0).0 h.1);
-            ends = subst (λ s. IsLastOf map seeds s h.2.0) (sym leads.0) (last_of h.0 h.2.0 h.2.1);
-            leads = leads.1;
+          last = h.2.0;
+          from = subst (IsLeader map seeds) (sym leads.0) ((exact h.0).0 h.1);
+          ends = subst (λ s. IsLastOf map seeds s h.2.0) (sym leads.0) (last_of h.0 h.2.0 h.2.1);
+          leads = leads.1;
         }
 
     pub edge_complete : (edge : Edge) → IsEdge map seeds edge → IsEdgeFrom map leaders returning leaders edge
-    edge_complete edge is =
-        (edge.from, (exact edge.from).1 is.from,
-            (is.last, last_within edge.from is.last is.ends, leads_way edge.from (reached_along is.from.reached is.ends.runs) is.leads))
+    edge_complete edge is = (
+      edge.from,
+      (exact edge.from).1 is.from,
+      (is.last, last_within edge.from is.last is.ends, leads_way edge.from (reached_along is.from.reached is.ends.runs) is.leads),
+    )
 
     pub outline_exact : (blocks : List Block) (found edges : List Edge)
         → IsStrictlyIncreasing leaders → AllZip (IsBlockWithin map leaders) leaders blocks
         → Gains [] found (IsEdgeFrom map leaders returning leaders) → AllPairs EdgeBefore edges → ((edge : Edge) → Contains edges edge ↔ Contains found edge)
         → IsOutline map seeds blocks edges
     outline_exact blocks found edges rises zip gains ordered same = record {
-        all_blocks = record {
-            in_order = blocks_in_order blocks zip rises;
-            sound = blocks_sound blocks zip;
-            complete = blocks_complete blocks zip;
-        };
-        all_edges = record {
-            in_order = ordered;
-            sound = λ edge h. ⊎_elim (λ none. absurd (Contains-none edge none)) (λ from. edge_sound edge from) (gains.nothing_else edge ((same edge).0 h));
-            complete = λ edge is. (same edge).1 (gains.added edge (edge_complete edge is));
-        };
+      all_blocks = record {
+        in_order = blocks_in_order blocks zip rises;
+        sound = blocks_sound blocks zip;
+        complete = blocks_complete blocks zip;
+      };
+      all_edges = record {
+        in_order = ordered;
+        sound = λ edge h. ⊎_elim (λ none. absurd (Contains-none edge none)) (λ from. edge_sound edge from) (gains.nothing_else edge ((same edge).0 h));
+        complete = λ edge is. (same edge).1 (gains.added edge (edge_complete edge is));
+      };
     }

@@ -83,11 +83,13 @@ before_from_less : (a b : Edge) → cmp-value.it a b ≡ Less → EdgeBefore a b
 before_from_less a b h =
     ⊎_elim
     (λ from. inl from)
-    (λ rest. inr (rest.0,
-        ⊎_elim
-        (λ to. inl to)
-        (λ last. inr (last.0, less_first (rank a.kind) (rank b.kind) last.1))
-        (then_less a.to b.to (nat_cmp (rank a.kind) (rank b.kind)) rest.1)))
+    (λ rest. inr (
+      rest.0,
+      ⊎_elim
+          (λ to. inl to)
+          (λ last. inr (last.0, less_first (rank a.kind) (rank b.kind) last.1))
+          (then_less a.to b.to (nat_cmp (rank a.kind) (rank b.kind)) rest.1),
+    ))
     (then_less a.from b.from (ordering_then (nat_cmp a.to b.to) (nat_cmp (rank a.kind) (rank b.kind))) (sym (edge_order a b) ∙ h))
 
 abbrev edge_of : ℕ → ℕ → EdgeKind → Edge
@@ -111,6 +113,7 @@ edges_in_order ys zs sorted is = subst (AllPairs EdgeBefore) (sym is)
     (λ i j d below within. before_from_less _ _ (Less-from_sorted cmp-value.it (dedup eq-value.it ys) i j d (IsStrictlySortedBy-dedup total-law matches_eq-law ys sorted) below within))
 
 pub same_edges : (xs ys zs : List Edge) → IsPermutation xs ys → zs ≡ dedup eq-value.it ys → (edge : Edge) → Contains zs edge ↔ Contains xs edge
-same_edges xs ys zs moves is edge =
-    (λ h. Contains-permutation ys xs edge (IsPermutation-sym xs ys moves) (Contains-from_dedup eq-value.it ys edge (subst (λ l. Contains l edge) is h)),
-     λ h. subst (λ l. Contains l edge) (sym is) (Contains-dedup laws-law same_from_eq ys edge (Contains-permutation xs ys edge moves h)))
+same_edges xs ys zs moves is edge = (
+  λ h. Contains-permutation ys xs edge (IsPermutation-sym xs ys moves) (Contains-from_dedup eq-value.it ys edge (subst (λ l. Contains l edge) is h)),
+  λ h. subst (λ l. Contains l edge) (sym is) (Contains-dedup laws-law same_from_eq ys edge (Contains-permutation xs ys edge moves h)),
+)

@@ -10,35 +10,35 @@ use Rattle.cfg_model.proofs.Outline.Lists.{Contains-none}
 -- nothing is added where nothing holds
 pub Gains-none : {X : Type 0} (xs : List X) (P : X → Type 0) → ((x : X) → P x → ⊥) → Gains xs xs P
 Gains-none xs P none = record {
-    kept = λ x h. h;
-    added = λ x h. absurd (none x h);
-    nothing_else = λ x h. inl h;
+  kept = λ x h. h;
+  added = λ x h. absurd (none x h);
+  nothing_else = λ x h. inl h;
 }
 
 pub Gains-push : {X : Type 0} (xs : List X) (y : X) → Gains xs (xs ++ y ∷ []) (λ x. x ≡ y)
 Gains-push xs y = record {
-    kept = λ x h. Contains-append_left xs (y ∷ []) x h;
-    added = λ x h. subst (Contains (xs ++ y ∷ [])) (sym h) (Contains-push xs y);
-    nothing_else = λ x h. ⊎_elim (λ before. inl before) (λ is. inr (sym is)) (Contains-push_cases xs y x h);
+  kept = λ x h. Contains-append_left xs (y ∷ []) x h;
+  added = λ x h. subst (Contains (xs ++ y ∷ [])) (sym h) (Contains-push xs y);
+  nothing_else = λ x h. ⊎_elim (λ before. inl before) (λ is. inr (sym is)) (Contains-push_cases xs y x h);
 }
 
 -- one step after another
 pub Gains-then : {X : Type 0} (xs ys zs : List X) (P Q : X → Type 0) → Gains xs ys P → Gains ys zs Q → Gains xs zs (λ x. P x ⊎ Q x)
 Gains-then xs ys zs P Q first second = record {
-    kept = λ x h. second.kept x (first.kept x h);
-    added = λ x h. ⊎_elim (λ p. second.kept x (first.added x p)) (λ q. second.added x q) h;
-    nothing_else = λ x h. ⊎_elim
-        (λ before. ⊎_elim (λ old. inl old) (λ p. inr (inl p)) (first.nothing_else x before))
-        (λ q. inr (inr q))
-        (second.nothing_else x h);
+  kept = λ x h. second.kept x (first.kept x h);
+  added = λ x h. ⊎_elim (λ p. second.kept x (first.added x p)) (λ q. second.added x q) h;
+  nothing_else = λ x h. ⊎_elim
+      (λ before. ⊎_elim (λ old. inl old) (λ p. inr (inl p)) (first.nothing_else x before))
+      (λ q. inr (inr q))
+      (second.nothing_else x h);
 }
 
 -- what is added, said in other words
 pub Gains-same : {X : Type 0} (xs ys : List X) (P Q : X → Type 0) → ((x : X) → P x → Q x) → ((x : X) → Q x → P x) → Gains xs ys P → Gains xs ys Q
 Gains-same xs ys P Q there back adds = record {
-    kept = adds.kept;
-    added = λ x h. adds.added x (back x h);
-    nothing_else = λ x h. ⊎_elim (λ old. inl old) (λ p. inr (there x p)) (adds.nothing_else x h);
+  kept = adds.kept;
+  added = λ x h. adds.added x (back x h);
+  nothing_else = λ x h. ⊎_elim (λ old. inl old) (λ p. inr (there x p)) (adds.nothing_else x h);
 }
 
 -- a first step, after which nothing more holds
@@ -67,13 +67,13 @@ pub Gains-push_each : {X Y : Type 0} (ts : List X) (t : X) (Q : X → Y → Type
 Gains-push_each ts t Q old new newer before now =
     Gains-same old newer (λ y. Each ts Q y ⊎ Q t y) (Each (ts ++ t ∷ []) Q)
     (λ y h. ⊎_elim
-        (λ e. (e.0, Contains-append_left ts (t ∷ []) e.0 e.1, e.2))
-        (λ q. (t, Contains-push ts t, q))
-        h)
+    (λ e. (e.0, Contains-append_left ts (t ∷ []) e.0 e.1, e.2))
+    (λ q. (t, Contains-push ts t, q))
+    h)
     (λ y e. ⊎_elim
-        (λ earlier. inl (e.0, earlier, e.2))
-        (λ is. inr (subst (λ x. Q x y) (sym is) e.2))
-        (Contains-push_cases ts t e.0 e.1))
+    (λ earlier. inl (e.0, earlier, e.2))
+    (λ is. inr (subst (λ x. Q x y) (sym is) e.2))
+    (Contains-push_cases ts t e.0 e.1))
     (Gains-then old new newer (Each ts Q) (Q t) before now)
 
 -- a step of a loop over a list

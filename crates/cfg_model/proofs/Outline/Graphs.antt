@@ -19,20 +19,21 @@ edges_asymmetric a b h i =
     ⊎_elim
     (λ from. ⊎_elim (λ back. omega arith) (λ same. let e : b.from ≡ a.from = same.0 in omega arith) i)
     (λ same. let e : a.from ≡ b.from = same.0 in
-        ⊎_elim
-        (λ back. omega arith)
-        (λ again. ⊎_elim
-            (λ to. ⊎_elim (λ back. omega arith) (λ last. let e : b.to ≡ a.to = last.0 in omega arith) again.1)
-            (λ last. let e : a.to ≡ b.to = last.0 in let k : rank a.kind < rank b.kind = last.1 in
-                ⊎_elim (λ back. omega arith) (λ final. let l : rank b.kind < rank a.kind = final.1 in omega arith) again.1)
-            same.1)
-        i)
+    ⊎_elim
+    (λ back. omega arith)
+    (λ again. ⊎_elim
+    (λ to. ⊎_elim (λ back. omega arith) (λ last. let e : b.to ≡ a.to = last.0 in omega arith) again.1)
+    (λ last. let e : a.to ≡ b.to = last.0 in let k : rank a.kind < rank b.kind = last.1 in
+    ⊎_elim (λ back. omega arith) (λ final. let l : rank b.kind < rank a.kind = final.1 in omega arith) again.1)
+    same.1)
+    i)
     h
 
 pub one_outline : OutlineIsUnique
-one_outline map seeds blocks others edges more a b =
-    (one_listing BlockBefore _ blocks_asymmetric blocks others a.all_blocks b.all_blocks,
-     one_listing EdgeBefore _ edges_asymmetric edges more a.all_edges b.all_edges)
+one_outline map seeds blocks others edges more a b = (
+  one_listing BlockBefore _ blocks_asymmetric blocks others a.all_blocks b.all_blocks,
+  one_listing EdgeBefore _ edges_asymmetric edges more a.all_edges b.all_edges,
+)
 
 abbrev graph_of : ℕ → List Function → List Block → List Edge → Graph
 graph_of entry functions blocks edges = record { entry = entry; functions = functions; blocks = blocks; edges = edges }

@@ -62,7 +62,7 @@ module _ (map : InstructionMap) (seeds reached returning : List ℕ) (closure : 
   join_leader k next a r h joins =
       subst (IsLeader map seeds) (sym joins.is)
       (onward_leader k next (Straight next) r h (Contains-here next [])
-          (StartsBlock.join r h joins.size ((closure.all_reached joins.other.long).0 joins.other.found) joins.other.goes joins.other.size))
+      (StartsBlock.join r h joins.size ((closure.all_reached joins.other.long).0 joins.other.found) joins.other.goes joins.other.size))
 
   branch_leader : (k a : ℕ) (taken fall : Option ℕ) → Reached map seeds k → flow_at map k ≡ Some (Branch taken fall) → IsThere taken a ⊎ IsThere fall a → IsLeader map seeds a
   branch_leader k a taken fall r h way =
@@ -134,9 +134,10 @@ module _ (map : InstructionMap) (seeds reached returning : List ℕ) (closure : 
 
   -- so the addresses that are marked are exactly the leaders
   pub leaders_exact : (marks : List ℕ) → Gains seeds marks (Each reached (MarkedAt map reached returning)) → (a : ℕ) → Contains marks a ↔ IsLeader map seeds a
-  leaders_exact marks gains a =
-      (λ h. ⊎_elim
-          (λ s. record { reached = Reached.seed s; starts = StartsBlock.seed s })
-          (λ e. marked_leads e.0 a ((closure.all_reached e.0).0 e.1) (flow_at map e.0) refl e.2)
-          (gains.nothing_else a h),
-       λ l. ⊎_elim (λ s. gains.kept a s) (λ e. gains.added a e) (starts_marked l.starts))
+  leaders_exact marks gains a = (
+    λ h. ⊎_elim
+        (λ s. record { reached = Reached.seed s; starts = StartsBlock.seed s })
+        (λ e. marked_leads e.0 a ((closure.all_reached e.0).0 e.1) (flow_at map e.0) refl e.2)
+        (gains.nothing_else a h),
+    λ l. ⊎_elim (λ s. gains.kept a s) (λ e. gains.added a e) (starts_marked l.starts),
+  )

@@ -91,9 +91,10 @@ found_iff xs a (Err i) rises says =
 
 -- a sort and a `dedup` keep the items
 pub same_after_dedup : (xs ys zs : List ℕ) → IsPermutation xs ys → zs ≡ dedup eqb ys → (a : ℕ) → Contains zs a ↔ Contains xs a
-same_after_dedup xs ys zs moves is a =
-    (λ h. Contains-permutation ys xs a (IsPermutation-sym xs ys moves) (Contains-from_dedup eqb ys a (subst (λ l. Contains l a) is h)),
-     λ h. subst (λ l. Contains l a) (sym is) (Contains-dedup_nat ys a (Contains-permutation xs ys a moves h)))
+same_after_dedup xs ys zs moves is a = (
+  λ h. Contains-permutation ys xs a (IsPermutation-sym xs ys moves) (Contains-from_dedup eqb ys a (subst (λ l. Contains l a) is h)),
+  λ h. subst (λ l. Contains l a) (sym is) (Contains-dedup_nat ys a (Contains-permutation xs ys a moves h)),
+)
 
 -- two lists side by side
 

@@ -39,12 +39,7 @@ fn add_edge(from: u64, kind: EdgeKind, to: u64, edges: &mut Vec<Edge>) -> Result
     Ok(())
 }
 
-fn add_some(
-    from: u64,
-    kind: EdgeKind,
-    to: Option<u64>,
-    edges: &mut Vec<Edge>,
-) -> Result<(), Memory>
+fn add_some(from: u64, kind: EdgeKind, to: Option<u64>, edges: &mut Vec<Edge>) -> Result<(), Memory>
     ensures { OnOk result (Gains edges.old.items edges.new.items (IsEdgeTo from kind to)) }
 {
     match to {

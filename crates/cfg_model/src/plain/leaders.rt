@@ -58,12 +58,7 @@ fn marks_of<C: Chains>(
 }
 
 /// Gains the addresses that the instruction at `k` makes leaders.
-fn mark<C: Chains>(
-    code: &C,
-    closure: &Closure,
-    k: u64,
-    marks: &mut Vec<u64>,
-) -> Result<(), Memory>
+fn mark<C: Chains>(code: &C, closure: &Closure, k: u64, marks: &mut Vec<u64>) -> Result<(), Memory>
     requires known { All (λ a. IsSome (C.map code.now a)) closure.now.reached.items }
     requires has { IsSome (C.map code.now k) }
     ensures { OnOk result (Gains marks.old.items marks.new.items (MarkedAt (C.map code.now) closure.now.reached.items closure.now.returning.keys k)) }
@@ -120,12 +115,7 @@ fn mark_call(
 }
 
 /// Of a table jump: its kept targets.
-fn mark_table<C: Chains>(
-    code: &C,
-    k: u64,
-    entries: u32,
-    marks: &mut Vec<u64>,
-) -> Result<(), Memory>
+fn mark_table<C: Chains>(code: &C, k: u64, entries: u32, marks: &mut Vec<u64>) -> Result<(), Memory>
     requires { entries ≡ length (targets_at (C.map code.now) k) }
     ensures { OnOk result (Gains marks.old.items marks.new.items (Contains (targets_at (C.map code.now) k))) }
 {

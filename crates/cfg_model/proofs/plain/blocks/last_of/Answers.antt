@@ -11,6 +11,6 @@ pub loop-next-preserved : goal.loop-next-preserved
 loop-next-preserved g c =
     let next = c.in-Some.ensures.onward in
     record {
-        runs = run_step (g.C.Chains.map c.args.code.now) c.args.leaders.now c.args.s c.loop-next.k c.in-Some.next c.loop-next.invariant.runs next.0 next.1;
-        known = (goes_up (g.C.Chains.map c.args.code.now) c.loop-next.k c.in-Some.next c.onward.ensures.lawful next.0).2;
+      runs = run_step (g.C.Chains.map c.args.code.now) c.args.leaders.now c.args.s c.loop-next.k c.in-Some.next c.loop-next.invariant.runs next.0 next.1;
+      known = (goes_up (g.C.Chains.map c.args.code.now) c.loop-next.k c.in-Some.next c.onward.ensures.lawful next.0).2;
     }

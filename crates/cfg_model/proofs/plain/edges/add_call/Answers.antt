@@ -11,8 +11,8 @@ pub returns-then-returns : goal.returns-then-returns
 returns-then-returns c =
     on_ok_weaker c.add_some.result
     (λ second. Gains-where c.args.edges.now.items c.add_edge.new.edges.items c.add_some.new.edges.items
-        (λ edge. edge ≡ edge_to c.args.from kinds.Call c.args.target) (IsEdgeTo c.args.from kinds.After c.args.fall) (Contains c.args.closure.now.returning.keys c.args.target)
-        (c.returns.ensures.0 c.if-returns.true) c.in_ok-add_edge.ensures second)
+    (λ edge. edge ≡ edge_to c.args.from kinds.Call c.args.target) (IsEdgeTo c.args.from kinds.After c.args.fall) (Contains c.args.closure.now.returning.keys c.args.target)
+    (c.returns.ensures.0 c.if-returns.true) c.in_ok-add_edge.ensures second)
     c.add_some.ensures
 
 pub returns-else-returns : goal.returns-else-returns

@@ -10,8 +10,8 @@ pub returns-then-returns : goal.returns-then-returns
 returns-then-returns c =
     on_ok_weaker c.mark_some.result
     (λ second. Gains-where c.args.marks.now.items c.mark_one.new.marks.items c.mark_some.new.marks.items
-        (λ x. x ≡ c.args.target) (IsThere c.args.fall) (Contains c.args.closure.now.returning.keys c.args.target)
-        (c.returns.ensures.0 c.if-returns.true) c.in_ok-mark_one.ensures second)
+    (λ x. x ≡ c.args.target) (IsThere c.args.fall) (Contains c.args.closure.now.returning.keys c.args.target)
+    (c.returns.ensures.0 c.if-returns.true) c.in_ok-mark_one.ensures second)
     c.mark_some.ensures
 
 pub returns-else-returns : goal.returns-else-returns

@@ -8,6 +8,6 @@ use Rattle.cfg_model.proofs.plain.outline.cut_at.Given as goal
 
 abbrev pub invariant-loop-s : goal.invariant-loop-s
 invariant-loop-s g l = record {
-    blocks : AllZip (IsBlockWithin (g.C.Chains.map l.code) l.leaders) (take l.s-index l.leaders) l.blocks.items;
-    edges : Gains [] l.edges.items (Each (take l.s-index l.leaders) (IsEdgeWithin (g.C.Chains.map l.code) l.leaders l.closure.returning.keys));
+  blocks : AllZip (IsBlockWithin (g.C.Chains.map l.code) l.leaders) (take l.s-index l.leaders) l.blocks.items;
+  edges : Gains [] l.edges.items (Each (take l.s-index l.leaders) (IsEdgeWithin (g.C.Chains.map l.code) l.leaders l.closure.returning.keys));
 }

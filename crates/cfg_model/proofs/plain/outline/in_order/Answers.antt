@@ -7,6 +7,6 @@ pub returns : goal.returns
 returns c =
     let is = dedup_is eq-value.it c.sort_unstable.new.self.items c.dedup.new.self.items c.dedup.ensures.filtered in
     record {
-        in_order = edges_in_order c.sort_unstable.new.self.items c.dedup.new.self.items c.sort_unstable.ensures.sorted is;
-        same = same_edges c.args.edges.items c.sort_unstable.new.self.items c.dedup.new.self.items c.sort_unstable.ensures.permutation is;
+      in_order = edges_in_order c.sort_unstable.new.self.items c.dedup.new.self.items c.sort_unstable.ensures.sorted is;
+      same = same_edges c.args.edges.items c.sort_unstable.new.self.items c.dedup.new.self.items c.sort_unstable.ensures.permutation is;
     }
