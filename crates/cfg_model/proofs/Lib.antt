@@ -4,3 +4,4 @@ pub mod Growth
 pub mod Members
 pub mod Passes
 pub mod Steps
+pub mod Sample

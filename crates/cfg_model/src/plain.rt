@@ -9,6 +9,8 @@ mod closure;
 mod edges;
 mod leaders;
 mod outline;
+#[cfg(test)]
+mod tests;
 
 use crate::flow::Chains;
 use crate::graph::{Blocks, Edges, Functions, Graph};
