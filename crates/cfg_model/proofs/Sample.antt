@@ -1,6 +1,5 @@
 -- A program given as a list is lawful where the tests of the list say so.
-use Rattle.std.proofs.Common.{◌≡◌, ℕ, zero, suc, ◌+◌, ◌<◌, ◌^◌, ◌⊎◌, Bool, true, false, ◌&&◌, ◌||◌, List, [], ◌∷◌, length, Option, Some, None, IsSome, ltb-true, eqb-true, refl, sym, ap, ◌∙◌, subst, inl, inr, ⊎_elim, arith}
-use Rattle.std.specs.List.{list_all}
+use Rattle.std.proofs.Common.{◌≡◌, ℕ, zero, suc, ◌+◌, ◌^◌, ◌⊎◌, Bool, true, false, ◌&&◌, ◌||◌, List, [], ◌∷◌, length, Some, None, IsSome, ltb-true, eqb-true, refl, sym, subst, inl, inr, ⊎_elim, arith}
 use Rattle.std.specs.Option.{option_map, option_map_or, is_some}
 use Rattle.std.proofs.lemmas.Bool.{false≢true}
 use Rattle.std.proofs.lemmas.List.Elements.{All-nil}
@@ -48,11 +47,11 @@ slot_lawful slots a s h =
     let middle = and_true _ (flow_fits (a + s.0) s.1) front.0 in
     let size = and_true _ _ middle.0 in
     record {
-        size = ⊎_elim (λ two. inl (eqb-true s.0 2 two)) (λ four. inr (eqb-true s.0 4 four)) (or_true _ _ size.0);
-        ends = ltb-true (a + s.0) (2 ^ 64) size.1;
-        fits = flow_from_fits a s.0 s.1 middle.1;
-        named = AllPass-from_list_all (λ b. is_some (listed_at slots b)) (named_by s.1) front.1;
-        kept = All-nil (λ b. IsSome (listed_at slots b));
+      size = ⊎_elim (λ two. inl (eqb-true s.0 2 two)) (λ four. inr (eqb-true s.0 4 four)) (or_true _ _ size.0);
+      ends = ltb-true (a + s.0) (2 ^ 64) size.1;
+      fits = flow_from_fits a s.0 s.1 middle.1;
+      named = AllPass-from_list_all (λ b. is_some (listed_at slots b)) (named_by s.1) front.1;
+      kept = All-nil (λ b. IsSome (listed_at slots b));
     }
 
 pub list_lawful : (slots : List Slot) → are_lawful slots ≡ true → IsLawful (listed_at slots)

@@ -1,10 +1,10 @@
 -- Small programs for tests, given as lists.
-use Rattle.std.specs.Prelude.{ℕ, ◌+◌, ◌*◌, ◌^◌, ◌==◌, nat_lt, suc, Bool, true, false, ◌&&◌, ◌||◌, List, [], ◌∷◌, Option, Some, None, is_some, slice_index_or}
+use Rattle.std.specs.Prelude.{ℕ, ◌+◌, ◌^◌, ◌==◌, nat_lt, suc, Bool, true, false, ◌&&◌, ◌||◌, List, [], ◌∷◌, Option, Some, None, is_some, slice_index_or}
 use Rattle.std.specs.List.{list_all}
 use Rattle.std.specs.Option.{option_map}
 use Rattle.cfg_model.specs.declared.flow.Flow.{Flow}
-use Rattle.cfg_model.specs.declared.flow.Flow.TheVariants.{Straight, Branch, Jump, Call, IndirectCall, Table, Return, Unknown, Stop}
-use Rattle.cfg_model.specs.Instructions.{Instruction, InstructionMap, named_by}
+use Rattle.cfg_model.specs.declared.flow.Flow.TheVariants.{Straight, Table}
+use Rattle.cfg_model.specs.Instructions.{InstructionMap, named_by}
 
 -- The length and the flow of an instruction that is no table jump; None where none stands.
 abbrev pub Slot : Type 0

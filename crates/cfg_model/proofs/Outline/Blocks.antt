@@ -1,5 +1,5 @@
 -- Blocks and edges cut at the leaders are those of the definition.
-use Rattle.std.proofs.Common.{◌≡◌, ℕ, ◌+◌, ◌<◌, ◌⊎◌, ◌↔◌, List, [], ◌∷◌, length, get_or, Option, Some, None, refl, sym, ap, ◌∙◌, subst, inl, inr, ⊎_elim, arith}
+use Rattle.std.proofs.Common.{◌≡◌, ℕ, ◌+◌, ◌<◌, ◌⊎◌, ◌↔◌, List, [], length, get_or, Option, Some, None, refl, sym, ap, ◌∙◌, subst, inl, inr, ⊎_elim, arith}
 use Rattle.std.specs.List.{AllPairs, AllZip, Contains}
 use Rattle.std.proofs.lemmas.List.Elements.{Contains-get_or}
 use Rattle.std.proofs.lemmas.List.Kept.{AllPairs-from_increasing}
@@ -12,14 +12,13 @@ use Rattle.cfg_model.specs.declared.graph.Edge.{Edge}
 use Rattle.cfg_model.specs.declared.graph.EdgeKind.{EdgeKind}
 use Rattle.cfg_model.specs.declared.graph.EdgeKind.TheVariants as kinds
 use Rattle.cfg_model.specs.declared.graph.EndKind.{EndKind}
-use Rattle.cfg_model.specs.Instructions.{InstructionMap, flow_at, length_at, targets_at}
+use Rattle.cfg_model.specs.Instructions.{InstructionMap, flow_at}
 use Rattle.cfg_model.specs.Chain.{GoesOnTo, IsTerminator, EndsChain}
 use Rattle.cfg_model.specs.Successors.{IsCall}
-use Rattle.cfg_model.specs.Status.{Returns}
 use Rattle.cfg_model.specs.Reach.{Reached}
 use Rattle.cfg_model.specs.Closure.{IsClosure}
 use Rattle.cfg_model.specs.Leader.{IsLeader}
-use Rattle.cfg_model.specs.Block.{RunsTo, MeetsLeader, IsLastOf, IsBlockTo, IsBlock, end_kind}
+use Rattle.cfg_model.specs.Block.{RunsTo, IsLastOf, IsBlock, end_kind}
 use Rattle.cfg_model.specs.Edge.{LeadsTo, IsEdge}
 use Rattle.cfg_model.specs.Graph.{BlockBefore, EdgeBefore, IsOutline}
 use Rattle.cfg_model.specs.Gains.{Gains}

@@ -1,10 +1,9 @@
 -- What a lawful program says of one instruction.
-use Rattle.std.proofs.Common.{◌≡◌, ℕ, ◌+◌, ◌<◌, ◌^◌, ◌⊎◌, List, [], ◌∷◌, ◌++◌, length, Option, Some, None, Bool, IsSome, refl, sym, ap, ◌∙◌, subst, inl, inr, ⊎_elim, arith}
-use Rattle.std.specs.List.{All, Contains}
-use Rattle.std.specs.Option.{option_map, option_map_or, option_to_list}
+use Rattle.std.proofs.Common.{◌≡◌, ℕ, [], length, Option, Some, None, Bool, refl, sym, ap, ◌∙◌, subst}
+use Rattle.std.specs.Option.{option_map, option_map_or}
 use Rattle.cfg_model.specs.declared.flow.Flow.{Flow}
-use Rattle.cfg_model.specs.declared.flow.Flow.TheVariants.{Straight, Branch, Jump, Call, IndirectCall, Table, Return, Unknown, Stop}
-use Rattle.cfg_model.specs.Instructions.{InstructionMap, Instruction, IsLawful, IsLawfulAt, FlowFits, flow_at, length_at, targets_at}
+use Rattle.cfg_model.specs.declared.flow.Flow.TheVariants.{Table}
+use Rattle.cfg_model.specs.Instructions.{InstructionMap, Instruction, IsLawful, FlowFits, flow_at, targets_at}
 
 pub option_map_some : {A B : Type 0} (f : A → B) (o : Option A) (y : B) → option_map f o ≡ Some y → (x : A) × (o ≡ Some x) × (f x ≡ y)
 option_map_some f None y h = cc

@@ -1,22 +1,21 @@
 -- The leaders that reached instructions make are those of the definition.
-use Rattle.std.proofs.Common.{◌≡◌, ℕ, ◌⊎◌, ◌↔◌, List, [], ◌∷◌, ◌++◌, Option, Some, None, IsSome, refl, sym, ap, ◌∙◌, subst, inl, inr, ⊎_elim}
+use Rattle.std.proofs.Common.{◌≡◌, ℕ, ◌⊎◌, ◌↔◌, List, [], ◌∷◌, Option, Some, None, refl, sym, ap, subst, inl, inr, ⊎_elim}
 use Rattle.std.specs.List.{All, Contains}
 use Rattle.std.specs.Option.{option_to_list}
-use Rattle.std.proofs.lemmas.List.Elements.{All-contains, Contains-append_left, Contains-append_right, Contains-get_or}
+use Rattle.std.proofs.lemmas.List.Elements.{Contains-append_left, Contains-append_right, Contains-get_or}
 use Rattle.cfg_model.specs.declared.flow.Flow.{Flow}
 use Rattle.cfg_model.specs.declared.flow.Flow.TheVariants.{Straight, Branch, Jump, Call, IndirectCall, Table, Return, Unknown, Stop}
-use Rattle.cfg_model.specs.Instructions.{InstructionMap, IsLawful, named_by, flow_at, targets_at}
+use Rattle.cfg_model.specs.Instructions.{InstructionMap, flow_at, targets_at}
 use Rattle.cfg_model.specs.Chain.{GoesOnTo}
 use Rattle.cfg_model.specs.Successors.{IsSuccessor, IsCall, successors_by, successors_of_flow}
 use Rattle.cfg_model.specs.Status.{Returns}
-use Rattle.cfg_model.specs.Reach.{Reached, AreSeeds}
+use Rattle.cfg_model.specs.Reach.{Reached}
 use Rattle.cfg_model.specs.Closure.{IsClosure}
 use Rattle.cfg_model.specs.Leader.{IsLeader, StartsBlock, targets_by, fall_by}
 use Rattle.cfg_model.specs.Gains.{Gains}
 use Rattle.cfg_model.specs.Marks.{IsThere, JoinsAt, MarkedBy, MarkedAt}
 use Rattle.cfg_model.proofs.Outline.Lists.{Contains-none, Contains-here, Contains-cons_cases}
 use Rattle.cfg_model.proofs.Outline.Gaining.{Each}
-use Rattle.cfg_model.proofs.Outline.Code.{at_flow, kept_targets}
 
 -- an optional address, and the list of it
 

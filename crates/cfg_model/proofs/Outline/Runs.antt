@@ -1,10 +1,10 @@
 -- Runs of a chain, cut at a list of leaders, and what a lawful program says of them.
-use Rattle.std.proofs.Common.{◌≡◌, ℕ, ◌+◌, ◌-◌, ◌<◌, ◌≤◌, ◌^◌, ◌⊎◌, List, [], Option, Some, None, IsSome, refl, sym, ap, ◌∙◌, subst, inl, inr, ⊎_elim, arith}
+use Rattle.std.proofs.Common.{◌≡◌, ℕ, ◌+◌, ◌<◌, ◌^◌, List, [], IsSome, subst, ⊎_elim, arith}
 use Rattle.std.specs.List.{All, Contains}
 use Rattle.std.proofs.lemmas.List.Elements.{All-contains}
 use Rattle.cfg_model.proofs.Outline.Lists.{Contains-here}
 use Rattle.cfg_model.specs.declared.flow.Flow.TheVariants.{Straight}
-use Rattle.cfg_model.specs.Instructions.{InstructionMap, IsLawful, FlowFits, named_by, flow_at}
+use Rattle.cfg_model.specs.Instructions.{InstructionMap, IsLawful, FlowFits, named_by}
 use Rattle.cfg_model.specs.Chain.{GoesOnTo}
 use Rattle.cfg_model.specs.Runs.{RunsWithin}
 use Rattle.cfg_model.proofs.Outline.Code.{at_flow}

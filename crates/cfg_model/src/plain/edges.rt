@@ -32,6 +32,7 @@ pub(crate) fn add_edges<C: Chains>(
     }
 }
 
+/// Adds this edge.
 fn add_edge(from: u64, kind: EdgeKind, to: u64, edges: &mut Vec<Edge>) -> Result<(), Memory>
     ensures { OnOk result (Gains edges.old.items edges.new.items (λ edge. edge ≡ edge_to from kind to)) }
 {
@@ -39,6 +40,7 @@ fn add_edge(from: u64, kind: EdgeKind, to: u64, edges: &mut Vec<Edge>) -> Result
     Ok(())
 }
 
+/// Adds this edge, if it leads anywhere.
 fn add_some(from: u64, kind: EdgeKind, to: Option<u64>, edges: &mut Vec<Edge>) -> Result<(), Memory>
     ensures { OnOk result (Gains edges.old.items edges.new.items (IsEdgeTo from kind to)) }
 {

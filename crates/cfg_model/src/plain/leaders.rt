@@ -74,6 +74,7 @@ fn mark<C: Chains>(code: &C, closure: &Closure, k: u64, marks: &mut Vec<u64>) ->
     }
 }
 
+/// Adds this address.
 fn mark_one(a: u64, marks: &mut Vec<u64>) -> Result<(), Memory>
     ensures { OnOk result (Gains marks.old.items marks.new.items (λ b. b ≡ a)) }
 {
@@ -81,6 +82,7 @@ fn mark_one(a: u64, marks: &mut Vec<u64>) -> Result<(), Memory>
     Ok(())
 }
 
+/// Adds this address, if any.
 fn mark_some(a: Option<u64>, marks: &mut Vec<u64>) -> Result<(), Memory>
     ensures { OnOk result (Gains marks.old.items marks.new.items (IsThere a)) }
 {
@@ -90,6 +92,7 @@ fn mark_some(a: Option<u64>, marks: &mut Vec<u64>) -> Result<(), Memory>
     }
 }
 
+/// Of a branch: both of its ways that are in the graph.
 fn mark_both(a: Option<u64>, b: Option<u64>, marks: &mut Vec<u64>) -> Result<(), Memory>
     ensures { OnOk result (Gains marks.old.items marks.new.items (λ x. IsThere a x ⊎ IsThere b x)) }
 {
@@ -97,7 +100,7 @@ fn mark_both(a: Option<u64>, b: Option<u64>, marks: &mut Vec<u64>) -> Result<(),
     mark_some(b, marks)
 }
 
-/// Of a call: its target, and its fall where the target returns.
+/// Of a call: its target, and where it returns to if the target returns.
 fn mark_call(
     closure: &Closure,
     target: u64,

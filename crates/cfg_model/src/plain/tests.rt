@@ -211,13 +211,7 @@ fn endless_recursion(rt: HostRuntime) -> Result<(), Fail> {
         target: 0,
         fall: Some(4),
     };
-    let slots = [
-        Some((4, call)),
-        None,
-        None,
-        None,
-        Some((4, Flow::Return)),
-    ];
+    let slots = [Some((4, call)), None, None, None, Some((4, Flow::Return))];
     let blocks = [block(0, 4, EndKind::Call)];
     let edges = [edge(0, 0, EdgeKind::Call)];
     expect(&rt, rt.alloc(), &slots, &blocks, &edges)

@@ -1,4 +1,4 @@
-use Rattle.std.proofs.Common.{◌≡◌, Bool, ◌↔◌, IsTrue, sym, subst}
+use Rattle.std.proofs.Common.{Bool, ◌↔◌, IsTrue, sym, subst}
 use Rattle.std.specs.List.{Contains}
 use Rattle.cfg_model.proofs.Outline.Lists.{found_iff}
 use Rattle.cfg_model.proofs.plain.blocks.is_listed.Goals as goal

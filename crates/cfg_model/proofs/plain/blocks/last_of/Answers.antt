@@ -1,5 +1,3 @@
-use Rattle.std.proofs.Common.{IsSome}
-use Rattle.std.specs.List.{Contains}
 use Rattle.cfg_model.specs.Runs.{RunsWithin}
 use Rattle.cfg_model.proofs.Outline.Runs.{run_step, goes_up}
 use Rattle.cfg_model.proofs.plain.blocks.last_of.Goals as goal

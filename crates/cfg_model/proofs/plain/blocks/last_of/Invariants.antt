@@ -1,4 +1,4 @@
-use Rattle.std.proofs.Common.{ℕ, ◌-◌, ◌^◌, IsSome}
+use Rattle.std.proofs.Common.{◌-◌, ◌^◌, IsSome}
 use Rattle.cfg_model.specs.Runs.{RunsWithin}
 use Rattle.cfg_model.proofs.plain.blocks.last_of.Given as goal
 

@@ -1,4 +1,4 @@
-use Rattle.std.proofs.Common.{ℕ, Option, sym, subst, OnOk}
+use Rattle.std.proofs.Common.{Option, sym, subst, OnOk}
 use Rattle.cfg_model.specs.declared.flow.Flow.{Flow}
 use Rattle.cfg_model.specs.Gains.{Gains}
 use Rattle.cfg_model.specs.Marks.{MarkedBy}

@@ -1,4 +1,4 @@
-use Rattle.std.proofs.Common.{List, ℕ, get_or, arith, subst}
+use Rattle.std.proofs.Common.{List, ℕ, get_or, subst}
 use Rattle.std.proofs.lemmas.Option.{slice_get-get_or}
 use Rattle.cfg_model.specs.Gains.{Gains}
 use Rattle.cfg_model.specs.Marks.{MarkedAt}
