@@ -7,3 +7,4 @@ pub mod Runs
 pub mod Leaders
 pub mod EdgeOrder
 pub mod Blocks
+pub mod OneBlock

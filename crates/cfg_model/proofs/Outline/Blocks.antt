@@ -1,9 +1,8 @@
 -- Blocks and edges cut at the leaders are those of the definition.
-use Rattle.std.proofs.Common.{◌≡◌, ℕ, ◌+◌, ◌<◌, ◌⊎◌, ◌↔◌, List, [], length, get_or, Option, Some, None, refl, sym, ap, ◌∙◌, subst, inl, inr, ⊎_elim, arith}
+use Rattle.std.proofs.Common.{◌≡◌, ℕ, ◌<◌, ◌⊎◌, ◌↔◌, List, [], length, get_or, Option, Some, None, refl, sym, ap, ◌∙◌, subst, inl, inr, ⊎_elim, arith}
 use Rattle.std.specs.List.{AllPairs, AllZip, Contains}
 use Rattle.std.proofs.lemmas.List.Elements.{Contains-get_or}
 use Rattle.std.proofs.lemmas.List.Kept.{AllPairs-from_increasing}
-use Rattle.std.proofs.lemmas.Option.{same_Some}
 use Rattle.std.specs.List.Sorted.{IsStrictlyIncreasing}
 use Rattle.cfg_model.specs.declared.flow.Flow.{Flow}
 use Rattle.cfg_model.specs.declared.flow.Flow.TheVariants.{Straight, Branch, Jump, Call, IndirectCall, Table, Return, Unknown, Stop}
@@ -11,60 +10,21 @@ use Rattle.cfg_model.specs.declared.graph.Block.{Block}
 use Rattle.cfg_model.specs.declared.graph.Edge.{Edge}
 use Rattle.cfg_model.specs.declared.graph.EdgeKind.{EdgeKind}
 use Rattle.cfg_model.specs.declared.graph.EdgeKind.TheVariants as kinds
-use Rattle.cfg_model.specs.declared.graph.EndKind.{EndKind}
 use Rattle.cfg_model.specs.Instructions.{InstructionMap, flow_at}
-use Rattle.cfg_model.specs.Chain.{GoesOnTo, IsTerminator, EndsChain}
 use Rattle.cfg_model.specs.Successors.{IsCall}
 use Rattle.cfg_model.specs.Reach.{Reached}
 use Rattle.cfg_model.specs.Closure.{IsClosure}
 use Rattle.cfg_model.specs.Leader.{IsLeader}
-use Rattle.cfg_model.specs.Block.{RunsTo, IsLastOf, IsBlock, end_kind}
+use Rattle.cfg_model.specs.Block.{RunsTo, IsLastOf, IsBlock}
 use Rattle.cfg_model.specs.Edge.{LeadsTo, IsEdge}
 use Rattle.cfg_model.specs.Graph.{BlockBefore, EdgeBefore, IsOutline}
 use Rattle.cfg_model.specs.Gains.{Gains}
-use Rattle.cfg_model.specs.Runs.{RunsWithin, StopsAt, IsLastWithin, IsBlockOf, IsBlockWithin}
+use Rattle.cfg_model.specs.Runs.{RunsWithin, IsLastWithin, IsBlockWithin}
 use Rattle.cfg_model.specs.Ways.{edge_to, IsEdgeTo, WaysBy, WaysFrom, IsEdgeWithin, IsEdgeFrom}
 use Rattle.cfg_model.proofs.Outline.Lists.{Contains-here, Contains-none, zip_at, zip_length}
 use Rattle.cfg_model.proofs.Outline.Gaining.{Gains-same}
+use Rattle.cfg_model.proofs.Outline.OneBlock.{one_last, one_block}
 use Rattle.cfg_model.proofs.Outline.Leaders.{successor_by}
-
--- each address has one last address, and so one block
-
-straight_once : (map : InstructionMap) (k a b : ℕ) → GoesOnTo map k a → GoesOnTo map k b → a ≡ b
-straight_once map k a b h i = let e : ◌≡◌ {A = Option Flow} (Some (Straight a)) (Some (Straight b)) = sym h ∙ i in cc
-
-not_both : (map : InstructionMap) (k next : ℕ) → GoesOnTo map k next → IsTerminator map k → ⊥
-not_both map k next h t = subst EndsChain h t
-
-stops_once : (map : InstructionMap) (leaders : List ℕ) (k next : ℕ) → StopsAt map leaders k → GoesOnTo map k next → ¬ Contains leaders next → ⊥
-stops_once map leaders k next stops goes none =
-    ⊎_elim
-    (λ t. not_both map k next goes t)
-    (λ m. none (subst (Contains leaders) (straight_once map k m.0 next m.1 goes) m.2))
-    stops
-
-pub one_last : {map : InstructionMap} {leaders : List ℕ} {s k : ℕ} → RunsWithin map leaders s k → StopsAt map leaders k → (j : ℕ) → RunsWithin map leaders s j → StopsAt map leaders j → k ≡ j
-one_last RunsWithin.here stops j RunsWithin.here ends = refl
-one_last {map = map} {leaders = leaders} {s = s} RunsWithin.here stops j (RunsWithin.on {next = next} goes none rest) ends = absurd (stops_once map leaders s next stops goes none)
-one_last {map = map} {leaders = leaders} {s = s} (RunsWithin.on {next = next} goes none rest) stops j RunsWithin.here ends = absurd (stops_once map leaders s next ends goes none)
-one_last {map = map} {leaders = leaders} {s = s} (RunsWithin.on {next = a} goes none rest) stops j (RunsWithin.on {next = b} on clear more) ends =
-    one_last rest stops j (subst (λ x. RunsWithin map leaders x j) (straight_once map s b a on goes) more) ends
-
-abbrev block_made : ℕ → ℕ → EndKind → Block
-block_made start end kind = record { start = start; end = end; kind = kind }
-
-pub one_block_of : (map : InstructionMap) (s k : ℕ) (a b : Block) → IsBlockOf map s k a → IsBlockOf map s k b → a ≡ b
-one_block_of map s k a b p q =
-    let bytes : p.ends.0 ≡ q.ends.0 = same_Some p.ends.0 q.ends.0 (sym p.ends.1 ∙ q.ends.1) in
-    let flow : p.kind.0 ≡ q.kind.0 = same_Some p.kind.0 q.kind.0 (sym p.kind.1 ∙ q.kind.1) in
-    ap (λ x. block_made x a.end a.kind) (p.start ∙ sym q.start)
-    ∙ ap (λ x. block_made b.start x a.kind) (p.ends.2 ∙ ap (λ n. k + n) bytes ∙ sym q.ends.2)
-    ∙ ap (λ x. block_made b.start b.end x) (p.kind.2 ∙ ap end_kind flow ∙ sym q.kind.2)
-
-pub one_block : (map : InstructionMap) (leaders : List ℕ) (s : ℕ) (a b : Block) → IsBlockWithin map leaders s a → IsBlockWithin map leaders s b → a ≡ b
-one_block map leaders s a b p q =
-    let last : p.0 ≡ q.0 = one_last p.1.runs p.1.stops q.0 q.1.runs q.1.stops in
-    one_block_of map s q.0 a b (subst (λ k. IsBlockOf map s k a) last p.2) q.2
 
 -- what the last instruction of a block gives are the edges of the block
 pub ways_within : (map : InstructionMap) (leaders returning : List ℕ) (s k : ℕ) (old new : List Edge) → IsLastWithin map leaders s k → Gains old new (WaysFrom map returning s k) → Gains old new (IsEdgeWithin map leaders returning s)

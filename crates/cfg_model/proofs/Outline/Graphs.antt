@@ -1,11 +1,14 @@
 -- A program has one graph.
-use Rattle.std.proofs.Common.{◌≡◌, ℕ, ◌<◌, List, sym, ap, ◌∙◌, ⊎_elim, arith}
+use Rattle.std.proofs.Common.{◌≡◌, ℕ, ◌<◌, ◌↔◌, Bool, true, false, IsTrue, List, refl, subst, sym, ap, ◌∙◌, ⊎_elim, arith}
 use Rattle.cfg_model.specs.declared.graph.Block.{Block}
 use Rattle.cfg_model.specs.declared.graph.Edge.{Edge}
 use Rattle.cfg_model.specs.declared.graph.Function.{Function}
 use Rattle.cfg_model.specs.declared.graph.Graph.{Graph}
+use Rattle.cfg_model.specs.Status.{Returns}
+use Rattle.cfg_model.specs.Function.{InBody}
+use Rattle.cfg_model.specs.Listing.{Lists}
 use Rattle.cfg_model.specs.Graph.{BlockBefore, FunctionBefore, EdgeBefore, rank}
-use Rattle.cfg_model.specs.Unique.{GraphIsUnique, EarlyGraphIsUnique, OutlineIsUnique}
+use Rattle.cfg_model.specs.Unique.{GraphIsUnique, EarlyGraphIsUnique, OutlineIsUnique, FunctionIsUnique}
 use Rattle.cfg_model.proofs.Outline.Lists.{IsAsymmetric, one_listing}
 
 pub blocks_asymmetric : IsAsymmetric BlockBefore
@@ -57,3 +60,25 @@ pub one_early_graph : EarlyGraphIsUnique
 one_early_graph map seeds entry a b p q =
     let both = one_outline map seeds a.blocks b.blocks a.edges b.edges p.outline q.outline in
     same_graph a b (p.starts ∙ sym q.starts) (p.functions ∙ sym q.functions) both.0 both.1
+
+-- a function is known by its entry
+
+same_answer : (a b : Bool) (P : Type 0) → IsTrue a ↔ P → IsTrue b ↔ P → a ≡ b
+same_answer true true P p q = refl
+same_answer true false P p q = sym (q.1 (p.0 refl))
+same_answer false true P p q = p.1 (q.0 refl)
+same_answer false false P p q = refl
+
+addresses_asymmetric : IsAsymmetric ◌<◌
+addresses_asymmetric a b h i = omega arith
+
+abbrev function_of : ℕ → Bool → List ℕ → Function
+function_of entry returns body = record { entry = entry; returns = returns; body = body }
+
+pub function_unique : FunctionIsUnique
+function_unique map seeds f g p q e =
+    let status = subst (λ x. IsTrue f.returns ↔ Returns map x) e p.status in
+    let body = subst (λ x. Lists ◌<◌ (InBody map seeds x) f.body) e p.body in
+    ap (λ x. function_of x f.returns f.body) e
+    ∙ ap (λ x. function_of g.entry x f.body) (same_answer f.returns g.returns (Returns map g.entry) status q.status)
+    ∙ ap (λ x. function_of g.entry g.returns x) (one_listing ◌<◌ (InBody map seeds g.entry) addresses_asymmetric f.body g.body body q.body)
