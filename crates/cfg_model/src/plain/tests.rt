@@ -11,17 +11,19 @@ use std::alloc::Global;
 use std::process::Abort;
 use std::test::Fail;
 
-/// A program without table jumps: the length and the flow of the instruction at each address.
+/// A program: the length and the flow of the instruction at each address, and the kept targets of
+/// every table jump.
 #[derive(Drop)]
 struct Sample<'a> {
     slots: &'a [Option<(u8, Flow)>],
-    ghost lawful: { IsTrue (are_lawful slots.now) },
+    targets: &'a [u64],
+    ghost lawful: { IsTrue (are_lawful slots.now targets.now) },
 }
 
 impl Sample<'_> {
     fn slot(&self, a: u64) -> Option<(u8, Flow)>
         ensures slot { result ≡ slot_at self.now.slots.now a }
-        ensures lawful { IsLawful (listed_at self.now.slots.now) }
+        ensures lawful { IsLawful (listed_at self.now.slots.now self.now.targets.now) }
     {
         match self.slots.get(a as usize) {
             Some(slot) => *slot,
@@ -31,7 +33,7 @@ impl Sample<'_> {
 }
 
 impl Chains for Sample<'_> {
-    ghost map = { λ s. listed_at s.slots.now };
+    ghost map = { λ s. listed_at s.slots.now s.targets.now };
 
     fn has(&self, a: u64) -> bool {
         self.slot(a).is_some()
@@ -51,8 +53,8 @@ impl Chains for Sample<'_> {
         }
     }
 
-    fn target(&self, _a: u64, _i: u32) -> u64 {
-        unreachable!()
+    fn target(&self, _a: u64, i: u32) -> u64 {
+        self.targets[i as usize]
     }
 }
 
@@ -61,13 +63,14 @@ fn expect(
     rt: &impl Abort,
     alloc: Global,
     slots: &[Option<(u8, Flow)>],
+    targets: &[u64],
     blocks: &[Block],
     edges: &[Edge],
 ) -> Result<(), Fail>
-    requires lawful { IsTrue (are_lawful slots.now) }
+    requires lawful { IsTrue (are_lawful slots.now targets.now) }
     requires start { IsSome (slot_at slots.now 0) }
 {
-    let code = Sample { slots };
+    let code = Sample { slots, targets };
     let graph = plain_graph(alloc, &code, &[0], 0)?;
     assert_eq!(rt; graph.entry, 0);
     assert_eq!(rt; graph.functions.as_slice().len(), 0);
@@ -116,7 +119,7 @@ fn branch_back(rt: HostRuntime) -> Result<(), Fail> {
         edge(4, 4, EdgeKind::Taken),
         edge(4, 12, EdgeKind::Fall),
     ];
-    expect(&rt, rt.alloc(), &slots, &blocks, &edges)
+    expect(&rt, rt.alloc(), &slots, &[], &blocks, &edges)
 }
 
 /// Two streams of instructions, of which the second is found late, that join at 4.
@@ -149,7 +152,7 @@ fn two_streams(rt: HostRuntime) -> Result<(), Fail> {
         edge(4, 2, EdgeKind::Taken),
         edge(4, 8, EdgeKind::Fall),
     ];
-    expect(&rt, rt.alloc(), &slots, &blocks, &edges)
+    expect(&rt, rt.alloc(), &slots, &[], &blocks, &edges)
 }
 
 /// Two functions that call each other, and return.
@@ -201,7 +204,7 @@ fn mutual_recursion(rt: HostRuntime) -> Result<(), Fail> {
         edge(12, 0, EdgeKind::Call),
         edge(12, 16, EdgeKind::After),
     ];
-    expect(&rt, rt.alloc(), &slots, &blocks, &edges)
+    expect(&rt, rt.alloc(), &slots, &[], &blocks, &edges)
 }
 
 /// A function that calls itself never returns, so what stands behind the call is not reached.
@@ -214,5 +217,62 @@ fn endless_recursion(rt: HostRuntime) -> Result<(), Fail> {
     let slots = [Some((4, call)), None, None, None, Some((4, Flow::Return))];
     let blocks = [block(0, 4, EndKind::Call)];
     let edges = [edge(0, 0, EdgeKind::Call)];
-    expect(&rt, rt.alloc(), &slots, &blocks, &edges)
+    expect(&rt, rt.alloc(), &slots, &[], &blocks, &edges)
+}
+
+/// A call through a register, and a jump whose target is not known.
+#[test]
+fn through_registers(rt: HostRuntime) -> Result<(), Fail> {
+    let call = Flow::IndirectCall { fall: Some(4) };
+    let slots = [
+        Some((2, Flow::Straight { next: 2 })),
+        None,
+        Some((2, call)),
+        None,
+        Some((2, Flow::Straight { next: 6 })),
+        None,
+        Some((2, Flow::Unknown)),
+    ];
+    let blocks = [
+        block(0, 4, EndKind::IndirectCall),
+        block(4, 8, EndKind::Unknown),
+    ];
+    let edges = [edge(0, 4, EdgeKind::After)];
+    expect(&rt, rt.alloc(), &slots, &[], &blocks, &edges)
+}
+
+/// A branch that is cut off, and a jump to itself.
+#[test]
+fn cut_off(rt: HostRuntime) -> Result<(), Fail> {
+    let branch = Flow::Branch {
+        taken: None,
+        fall: Some(2),
+    };
+    let slots = [Some((2, branch)), None, Some((2, Flow::Jump { target: 2 }))];
+    let blocks = [block(0, 2, EndKind::BranchOut), block(2, 4, EndKind::Jump)];
+    let edges = [edge(0, 2, EdgeKind::Fall), edge(2, 2, EdgeKind::Jump)];
+    expect(&rt, rt.alloc(), &slots, &[], &blocks, &edges)
+}
+
+/// A jump through a table that was cut, two of whose entries are the same.
+#[test]
+fn table_jump(rt: HostRuntime) -> Result<(), Fail> {
+    let table = Flow::Table {
+        entries: 3,
+        full: false,
+    };
+    let slots = [
+        Some((2, table)),
+        None,
+        Some((2, Flow::Return)),
+        None,
+        Some((2, Flow::Stop)),
+    ];
+    let blocks = [
+        block(0, 2, EndKind::TableCut),
+        block(2, 4, EndKind::Return),
+        block(4, 6, EndKind::Stop),
+    ];
+    let edges = [edge(0, 2, EdgeKind::Table), edge(0, 4, EdgeKind::Table)];
+    expect(&rt, rt.alloc(), &slots, &[4, 2, 4], &blocks, &edges)
 }
