@@ -1,7 +1,6 @@
 use Rattle.std.proofs.Common.{◌≡◌, ℕ, ◌<◌, List, Some, length, subst, sym, get_or}
 use Rattle.std.specs.List.{slice_get}
 use Rattle.std.proofs.lemmas.Option.{slice_get-get_or}
-use Rattle.cfg_model.specs.Sample.{listed_at}
 use Rattle.cfg_model.proofs.Sample.{list_lawful, same_targets}
 use Rattle.cfg_model.proofs.plain.tests.SampleChains.target.Goals as goal
 
