@@ -11,3 +11,15 @@ pub mod Listing
 pub mod Function
 pub mod Graph
 pub mod Cuts
+pub mod State
+pub mod Waits
+pub mod Meeting
+pub mod Event
+pub mod Fact
+pub mod Reason
+pub mod Left
+pub mod Kept
+pub mod Shard
+pub mod Sound
+pub mod Shown
+pub mod StateLaws

@@ -3,6 +3,7 @@
 //! - [`flow`]: the control flow of one instruction, and [`Chains`], a program seen as a finite map
 //!   from addresses to instructions.
 //! - [`graph`]: functions, basic blocks and edges as plain data, and their lists.
+//! - [`state`]: what a builder notes of a start and of a terminator that waits.
 //! - `specs/`: chains, return status, reachable addresses, leaders, blocks, edges, functions and
 //!   the graph of a program, as definitions on the map alone.
 #![tactic(auto)]
@@ -11,6 +12,7 @@ pub mod flow;
 pub mod graph;
 pub mod memory;
 pub mod plain;
+pub mod state;
 
 pub use flow::{Chains, Flow};
 pub use graph::{
@@ -18,3 +20,4 @@ pub use graph::{
 };
 pub use memory::Memory;
 pub use plain::plain_graph;
+pub use state::{Mark, WaitKind, Waiter};
