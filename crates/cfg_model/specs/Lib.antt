@@ -11,6 +11,7 @@ pub mod Listing
 pub mod Function
 pub mod Graph
 pub mod Cuts
+pub mod Waiter
 pub mod State
 pub mod Waits
 pub mod Meeting
@@ -23,3 +24,4 @@ pub mod Shard
 pub mod Sound
 pub mod Shown
 pub mod StateLaws
+pub mod StateCode

@@ -6,7 +6,8 @@ use Rattle.cfg_model.specs.declared.state.Waiter.{Waiter}
 use Rattle.cfg_model.specs.Instructions.{InstructionMap}
 use Rattle.cfg_model.specs.Chain.{OnChain, IsTerminatorOf}
 use Rattle.cfg_model.specs.Successors.{IsCall, ReturnsByItself}
-use Rattle.cfg_model.specs.Waits.{Depends, IsTarget, IsWait, follower}
+use Rattle.cfg_model.specs.Waits.{Depends, IsTarget, IsWait}
+use Rattle.cfg_model.specs.Waiter.{follower}
 use Rattle.cfg_model.specs.Meeting.{IsStop}
 use Rattle.cfg_model.specs.Event.{Event}
 use Rattle.cfg_model.specs.Fact.{Fact, Holds, WhereCallFollows}

@@ -1,28 +1,15 @@
 -- The state of a builder: what is known so far of a program's blocks, as three maps by address.
 use Rattle.std.specs.Prelude.{◌≡◌, ℕ, Bool, true, false, Option, Some, IsSome, IsTrue, ◌⊎◌}
 use Rattle.std.specs.Option.{option_map, option_map_or}
-use Rattle.std.specs.declared.cmp.Ordering.{Ordering}
-use Rattle.std.specs.declared.cmp.Ordering.TheVariants.{Less, Equal, Greater}
-use Rattle.std.specs.Ordering.{nat_cmp, ordering_then}
+use Rattle.std.specs.Ordering.{nat_cmp}
 use Rattle.std.specs.FinMap as maps
 use Rattle.std.specs.FinSet as sets
 use Rattle.cfg_model.specs.declared.state.Mark.{Mark}
 use Rattle.cfg_model.specs.declared.state.Mark.TheVariants as marks
-use Rattle.cfg_model.specs.declared.state.WaitKind.{WaitKind}
-use Rattle.cfg_model.specs.declared.state.WaitKind.TheVariants.{Follow, Release}
 use Rattle.cfg_model.specs.declared.state.Waiter.{Waiter}
 use Rattle.cfg_model.specs.Instructions.{InstructionMap}
+use Rattle.cfg_model.specs.Waiter.{waiter_cmp}
 use Rattle.cfg_model.specs.Chain.{OnChain}
-
--- The order of waiters: by the address of the terminator, and Follow before Release.
-abbrev pub wait_kind_cmp : WaitKind → WaitKind → Ordering
-wait_kind_cmp Follow Follow = Equal
-wait_kind_cmp Follow Release = Less
-wait_kind_cmp Release Follow = Greater
-wait_kind_cmp Release Release = Equal
-
-abbrev pub waiter_cmp : Waiter → Waiter → Ordering
-waiter_cmp v w = ordering_then (nat_cmp v.terminator w.terminator) (wait_kind_cmp v.kind w.kind)
 
 -- What is known of an address k as the last one of a block: near, the start of the block that ends
 -- at k, and moved, the starts that were held to end at k until a start behind them was found. They

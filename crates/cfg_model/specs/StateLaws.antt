@@ -72,10 +72,16 @@ pub record IsSettled (seeds : List ℕ) (state : BuilderState) : Type 0 where
   pub standing_start : (k x : ℕ) → StandsAt state.ends k x → IsStart state.starts x
   pub none_moved : (k x : ℕ) → ¬ IsMoved state.ends k x
 
--- Where blocks are settled, each start is near at exactly one end: the first address of its chain
--- that is a terminator or comes just before a start.
+-- The start s is near at exactly one end: the first address of its chain at which a block may end.
+pub record IsNearOnce (map : InstructionMap) (state : BuilderState) (s : ℕ) : Type 0 where
+  pub end : ℕ
+  pub near : IsNear state.ends end s
+  pub only : (k : ℕ) → IsNear state.ends k s → k ≡ end
+  pub first : IsFirstStop map (IsStart state.starts) s end
+
+-- Where blocks are settled, each start is near at exactly one end.
 abbrev pub StartsAreNearOnce : Type 0
-StartsAreNearOnce = (map : InstructionMap) (seeds : List ℕ) → IsLawful map → (state : BuilderState) → KeepsBlocks map seeds state → IsSettled seeds state → (s k : ℕ) → IsStart state.starts s → IsNear state.ends k s ↔ IsFirstStop map (IsStart state.starts) s k
+StartsAreNearOnce = (map : InstructionMap) (seeds : List ℕ) → IsLawful map → (state : BuilderState) → KeepsBlocks map seeds state → IsSettled seeds state → (s : ℕ) → IsStart state.starts s → IsNearOnce map state s
 
 -- A closed state shows exactly the graph.
 abbrev pub ClosedShowsGraph : Type 0

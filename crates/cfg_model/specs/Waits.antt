@@ -3,17 +3,10 @@ use Rattle.std.specs.Prelude.{◌≡◌, ℕ, Option, Some}
 use Rattle.cfg_model.specs.declared.state.WaitKind.{WaitKind}
 use Rattle.cfg_model.specs.declared.state.WaitKind.TheVariants.{Follow, Release}
 use Rattle.cfg_model.specs.declared.state.Waiter.{Waiter}
+use Rattle.cfg_model.specs.Waiter.{follower, released}
 use Rattle.cfg_model.specs.Instructions.{InstructionMap}
 use Rattle.cfg_model.specs.Chain.{IsTerminator, IsTerminatorOf}
 use Rattle.cfg_model.specs.Successors.{IsSuccessor, IsCall}
-
--- The two waiters of a terminator: it follows another one's return; it is a call that is released
--- by its target's return.
-abbrev pub follower : ℕ → Waiter
-follower terminator = record { terminator = terminator; kind = Follow }
-
-abbrev pub released : ℕ → Waiter
-released terminator = record { terminator = terminator; kind = Release }
 
 -- The terminator at this address returns if the one at k does, as far as its ways on decide: k ends
 -- the chain of a successor of it, or of the fall where it is a call (return status of Meng et al.,
