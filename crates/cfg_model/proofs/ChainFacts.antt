@@ -47,3 +47,10 @@ chain_on (OnChain.on goes more) rest = OnChain.on goes (chain_on more rest)
 -- two chains meet at one address at most
 pub meeting_unique : (map : InstructionMap) (p q m n : ℕ) → IsMeeting map p q m → IsMeeting map p q n → m ≡ n
 meeting_unique map p q m n one other = omega (arith, one.least n other.on_first other.on_second, other.least m one.on_first one.on_second)
+
+-- an instruction goes on to one address at most
+pub one_next : (map : InstructionMap) (a m n : ℕ) → GoesOnTo map a m → GoesOnTo map a n → m ≡ n
+one_next map a m n p q = straights m n (sym p ∙ q)
+  where
+    straights : (m n : ℕ) → Some (Straight m) ≡ Some (Straight n) → m ≡ n
+    straights m n e = cc

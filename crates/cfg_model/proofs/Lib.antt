@@ -2,5 +2,6 @@ pub mod WaiterOrder
 pub mod Listed
 pub mod MapFacts
 pub mod ChainFacts
+pub mod StateReads
 pub mod Rows
 pub mod StateRows
