@@ -5,3 +5,5 @@ pub mod ChainFacts
 pub mod StateReads
 pub mod Rows
 pub mod StateRows
+pub mod SelfCallRow
+pub mod WaitRow
