@@ -3,6 +3,8 @@ pub mod Listed
 pub mod MapFacts
 pub mod ChainFacts
 pub mod StateReads
+pub mod Growth
+pub mod EndGrowth
 pub mod Rows
 pub mod StateRows
 pub mod SelfCallRow
