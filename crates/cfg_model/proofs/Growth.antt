@@ -147,13 +147,13 @@ same_grows : (o : Option TerminatorEntry) → EntryGrows o o
 same_grows None = tt
 same_grows (Some e) = record { done = λ h. h; returned = λ h. h; waits = λ v had. had; told = λ v had. had }
 
-no_told : (w : Waiter) → maps.get (maps.empty {R = waiter_cmp}) w ≡ Some true → ⊥
+pub no_told : (w : Waiter) → maps.get (maps.empty {R = waiter_cmp}) w ≡ Some true → ⊥
 no_told w h = clash (sym (maps.get-empty waiter_cmp w) ∙ h)
   where
     clash : None ≡ Some true → ⊥
     clash e = cc
 
-no_waiter : (w : Waiter) → IsSome (maps.get (maps.empty {X = Bool} {R = waiter_cmp}) w) → ⊥
+pub no_waiter : (w : Waiter) → IsSome (maps.get (maps.empty {X = Bool} {R = waiter_cmp}) w) → ⊥
 no_waiter w h = none_is_some Bool (rw (maps.get-empty {X = Bool} waiter_cmp w) at h)
 
 pub false_true : false ≡ true → ⊥

@@ -5,6 +5,8 @@ pub mod ChainFacts
 pub mod StateReads
 pub mod Growth
 pub mod EndGrowth
+pub mod FactLaws
+pub mod StatusLaws
 pub mod Rows
 pub mod StateRows
 pub mod SelfCallRow

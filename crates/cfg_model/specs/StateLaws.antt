@@ -25,10 +25,10 @@ AllowedEventSteps = (map : InstructionMap) (seeds : List ℕ) → IsLawful map �
 
 -- Facts last: what holds of a state holds after every event that it allows. So do reasons.
 abbrev pub FactsLast : Type 0
-FactsLast = (map : InstructionMap) (seeds : List ℕ) (old : BuilderState) (event : Event) (new : BuilderState) → May map seeds old event → Steps map old event new → (fact : Fact) → Holds map old fact → Holds map new fact
+FactsLast = (map : InstructionMap) (seeds : List ℕ) → IsLawful map → (old : BuilderState) (event : Event) (new : BuilderState) → May map seeds old event → Steps map old event new → (fact : Fact) → Holds map old fact → Holds map new fact
 
 abbrev pub ReasonsLast : Type 0
-ReasonsLast = (map : InstructionMap) (seeds : List ℕ) (old : BuilderState) (event : Event) (new : BuilderState) → May map seeds old event → Steps map old event new → (other : Event) → Reason map seeds (Holds map old) other → Reason map seeds (Holds map new) other
+ReasonsLast = (map : InstructionMap) (seeds : List ℕ) → IsLawful map → (old : BuilderState) (event : Event) (new : BuilderState) → May map seeds old event → Steps map old event new → (other : Event) → Reason map seeds (Holds map old) other → Reason map seeds (Holds map new) other
 
 -- The empty state is kept.
 abbrev pub EmptyIsKept : Type 0
@@ -40,7 +40,7 @@ abbrev pub EventsKeepBlocks : Type 0
 EventsKeepBlocks = (map : InstructionMap) (seeds : List ℕ) → IsLawful map → (old : BuilderState) (event : Event) (new : BuilderState) → KeepsBlocks map seeds old → ReturnedReturn map old.terminators → May map seeds old event → Steps map old event new → KeepsBlocks map seeds new
 
 abbrev pub EventsKeepStatus : Type 0
-EventsKeepStatus = (map : InstructionMap) (seeds : List ℕ) (old : BuilderState) (event : Event) (new : BuilderState) → KeepsStatus map old → May map seeds old event → Steps map old event new → KeepsStatus map new
+EventsKeepStatus = (map : InstructionMap) (seeds : List ℕ) → IsLawful map → (old : BuilderState) (event : Event) (new : BuilderState) → KeepsStatus map old → May map seeds old event → Steps map old event new → KeepsStatus map new
 
 abbrev pub EventsKeepKept : Type 0
 EventsKeepKept = (map : InstructionMap) (seeds : List ℕ) → IsLawful map → (old : BuilderState) (event : Event) (new : BuilderState) → IsKept map seeds old → May map seeds old event → Steps map old event new → IsKept map seeds new
@@ -51,7 +51,7 @@ abbrev pub OwnShardStaysBacked : Type 0
 OwnShardStaysBacked = (map : InstructionMap) (seeds : List ℕ) → IsLawful map → (old : BuilderState) (event : Event) (new : BuilderState) → IsKept map seeds old → May map seeds old event → Steps map old event new → IsBacked map seeds new (shard_of_event event)
 
 abbrev pub OtherShardsStayBacked : Type 0
-OtherShardsStayBacked = (map : InstructionMap) (seeds : List ℕ) (old : BuilderState) (event : Event) (new : BuilderState) → May map seeds old event → Steps map old event new → (shard : Shard) → shard ≢ shard_of_event event → IsBacked map seeds old shard → IsBacked map seeds new shard
+OtherShardsStayBacked = (map : InstructionMap) (seeds : List ℕ) → IsLawful map → (old : BuilderState) (event : Event) (new : BuilderState) → May map seeds old event → Steps map old event new → (shard : Shard) → shard ≢ shard_of_event event → IsBacked map seeds old shard → IsBacked map seeds new shard
 
 -- A state is kept exactly where each of its shards is backed.
 abbrev pub KeptIsBacked : Type 0
