@@ -15,11 +15,11 @@ chain_cases OnChain.here = inl refl
 chain_cases (OnChain.on {next = next} goes rest) = inr (next, goes, rest)
 
 -- the instruction that has a flow
-flow_of : (o : Option Instruction) (flow : Flow) → option_map (λ i. i.flow) o ≡ Some flow → (i : Instruction) × (o ≡ Some i) × (i.flow ≡ flow)
+pub flow_of : (o : Option Instruction) (flow : Flow) → option_map (λ i. i.flow) o ≡ Some flow → (i : Instruction) × (o ≡ Some i) × (i.flow ≡ flow)
 flow_of None flow e = cc
 flow_of (Some i) flow e = (i, refl, cc)
 
-straight_next : (a : ℕ) (i : Instruction) (next : ℕ) → FlowFits a i (Straight next) → next ≡ a + i.bytes
+pub straight_next : (a : ℕ) (i : Instruction) (next : ℕ) → FlowFits a i (Straight next) → next ≡ a + i.bytes
 straight_next a i next fits = fits.0
 
 -- a straight instruction goes on 2 or 4 bytes further on

@@ -98,7 +98,7 @@ module _ (map : InstructionMap) (seeds : List ℕ) (Less More : Fact → Type 0)
   want_more s (WantReason.past_call end call back) = WantReason.past_call (ends_more _ end) call (end_returns_more _ back)
   want_more s (WantReason.stands known) = WantReason.stands (more _ known)
 
-  stop_more : (k : ℕ) → IsStop map (λ s. Less (Fact.Start s)) k → IsStop map (λ s. More (Fact.Start s)) k
+  pub stop_more : (k : ℕ) → IsStop map (λ s. Less (Fact.Start s)) k → IsStop map (λ s. More (Fact.Start s)) k
   stop_more k (inl t) = inl t
   stop_more k (inr (next, goes, known)) = inr (next, goes, more _ known)
 

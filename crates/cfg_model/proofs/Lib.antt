@@ -7,6 +7,8 @@ pub mod Growth
 pub mod EndGrowth
 pub mod FactLaws
 pub mod StatusLaws
+pub mod LeaderFacts
+pub mod BlockLaws
 pub mod Rows
 pub mod StateRows
 pub mod SelfCallRow

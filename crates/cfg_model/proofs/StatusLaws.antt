@@ -56,7 +56,7 @@ changed_from_by terminators k change P Q back None h = inl h
 changed_from_by terminators k change P Q back (Some entry) h = back entry h
 
 -- what holds of an entry after a change held before, or the change made it hold at its key
-changed_from : (terminators : TerminatorMap) (k : ℕ) (change : TerminatorEntry → TerminatorEntry) (P : Option TerminatorEntry → Type 0) (Q : Type 0) → ((entry : TerminatorEntry) → P (Some (change entry)) → P (Some entry) ⊎ Q) → (q : ℕ) → P (maps.get (with_changed terminators k change) q) → P (maps.get terminators q) ⊎ ((q ≡ k) × Q)
+pub changed_from : (terminators : TerminatorMap) (k : ℕ) (change : TerminatorEntry → TerminatorEntry) (P : Option TerminatorEntry → Type 0) (Q : Type 0) → ((entry : TerminatorEntry) → P (Some (change entry)) → P (Some entry) ⊎ Q) → (q : ℕ) → P (maps.get (with_changed terminators k change) q) → P (maps.get terminators q) ⊎ ((q ≡ k) × Q)
 changed_from terminators k change P Q back q h =
     elim (same_or_other q k) [
       | inl e ↦ elim (changed_from_by terminators k change P Q back (maps.get terminators k) (subst P (ap (maps.get (with_changed terminators k change)) e ∙ changed_here terminators k change) h)) [
@@ -74,7 +74,7 @@ entered_from_by terminators k false P q h =
       | inr apart ↦ inl (subst P (get_apart terminators k new_entry q apart) h)
     ]
 
-entered_from : (terminators : TerminatorMap) (k : ℕ) (P : Option TerminatorEntry → Type 0) → (q : ℕ) → P (maps.get (with_terminator terminators k) q) → P (maps.get terminators q) ⊎ ((q ≡ k) × P (Some new_entry))
+pub entered_from : (terminators : TerminatorMap) (k : ℕ) (P : Option TerminatorEntry → Type 0) → (q : ℕ) → P (maps.get (with_terminator terminators k) q) → P (maps.get terminators q) ⊎ ((q ≡ k) × P (Some new_entry))
 entered_from terminators k P q h = entered_from_by terminators k (maps.contains_key terminators k) P q h
 
 -- The reads, of one entry.
