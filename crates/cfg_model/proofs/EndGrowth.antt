@@ -18,7 +18,7 @@ use Rattle.cfg_model.proofs.Growth.{insert_keeps, false_true}
 abbrev pub StandsIn : Option EndEntry → ℕ → Type 0
 StandsIn o x = (option_map (λ (e : EndEntry). e.near) o ≡ Some x) ⊎ IsTrue (sets.contains (option_map_or (λ (e : EndEntry). e.moved) o sets.empty) x)
 
-none_stand : (x : ℕ) → StandsIn None x → ⊥
+pub none_stand : (x : ℕ) → StandsIn None x → ⊥
 none_stand x (inl e) = clash e
   where
     clash : None ≡ Some x → ⊥

@@ -17,7 +17,7 @@ use Rattle.std.proofs.lemmas.Map.Views.{tells_apart}
 use Rattle.std.specs.Cmp.{eq_by_cmp_equiv}
 use Rattle.cfg_model.proofs.WaiterOrder.{waiter_cmp_total, exact_waiters}
 
-none_is_some : (X : Type 0) → IsSome {T = X} None → ⊥
+pub none_is_some : (X : Type 0) → IsSome {T = X} None → ⊥
 none_is_some X e = cc
 
 -- an insert loses no key

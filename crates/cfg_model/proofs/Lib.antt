@@ -9,6 +9,9 @@ pub mod FactLaws
 pub mod StatusLaws
 pub mod LeaderFacts
 pub mod BlockLaws
+pub mod ShardLaws
+pub mod SoundLaws
+pub mod StepLaws
 pub mod Rows
 pub mod StateRows
 pub mod SelfCallRow

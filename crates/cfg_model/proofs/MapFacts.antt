@@ -2,6 +2,7 @@
 use Rattle.std.proofs.Common.{◌≡◌, ◌≢◌, ℕ, Bool, true, false, cond, eqb, refl, sym, ap, ◌∙◌, arith}
 use Rattle.std.specs.Prelude.{◌⊎◌, ◌==◌, Option, Some, None, IsSome, IsTrue, is_some, if◌then◌else◌}
 use mathlib.Core.Logic.{inl, inr}
+use Rattle.std.specs.declared.cmp.Ordering.TheVariants.{Equal}
 use Rattle.std.specs.Ordering.{nat_cmp, eq_by_cmp}
 use Rattle.std.specs.Cmp.{nat_cmp_total, unsigned_tied}
 use Rattle.std.proofs.lemmas.Bool.{eqb-true, eqb-false, eq-eqb, ne_eqb}
@@ -36,3 +37,7 @@ module _ {X : Type 0} where
   -- to set what a key has already changes nothing
   pub insert_again : (m : maps.FinMap nat_cmp X) (k : ℕ) (v : X) → maps.get m k ≡ Some v → maps.insert m k v ≡ m
   insert_again m k v had = maps.same_map nat_cmp_total maps.nat_cmp-IsAntisymmetric _ _ (λ q. again_at m k v had q (same_or_other q k))
+
+-- two numbers that compare as equal are one
+pub tied_equal : (q x : ℕ) → nat_cmp q x ≡ Equal → q ≡ x
+tied_equal q x tied = maps.nat_cmp-IsAntisymmetric q x tied
