@@ -12,6 +12,8 @@ pub mod BlockLaws
 pub mod ShardLaws
 pub mod SoundLaws
 pub mod StepLaws
+pub mod SettledLaws
+pub mod ClosedLaws
 pub mod Rows
 pub mod StateRows
 pub mod SelfCallRow
