@@ -12,6 +12,7 @@ pub mod BlockLaws
 pub mod ShardLaws
 pub mod SoundLaws
 pub mod StepLaws
+pub mod MeetingLaws
 pub mod SettledLaws
 pub mod ClosedLaws
 pub mod Rows
