@@ -277,19 +277,28 @@ only_terminators map seeds old kept terminators entries = record { starts = λ q
 entered_back : (map : InstructionMap) (old : BuilderState) (k : ℕ) → TerminatorReason map (Holds map old) k → (q : ℕ) → IsEntered (with_terminator old.terminators k) q → IsEntered old.terminators q ⊎ TerminatorReason map (Holds map old) q
 entered_back map old k reason q h = elim (entered_from old.terminators k (λ o. IsSome o) q h) [ inl before ↦ inl before | inr now ↦ inr (subst (TerminatorReason map (Holds map old)) (sym now.0) reason) ]
 
-parsed_map_from : (starts : StartMap) (s q : ℕ) → IsParsed (with_parsed starts s) q → (q ≡ s) ⊎ IsParsed starts q
-parsed_map_from starts s q h =
+parsed_map_by : (starts : StartMap) (s q : ℕ) (b : Bool) → IsParsed (if b then maps.insert starts s marks.Parsed else starts) q → (q ≡ s) ⊎ IsParsed starts q
+parsed_map_by starts s q true h =
     elim (same_or_other q s) [
       | inl e ↦ inl e
       | inr apart ↦ inr (sym (get_apart starts s marks.Parsed q apart) ∙ h)
     ]
+parsed_map_by starts s q false h = inr h
 
-parsed_start_from : (starts : StartMap) (s q : ℕ) → IsStart starts s → IsStart (with_parsed starts s) q → IsStart starts q
-parsed_start_from starts s q had h =
+parsed_map_from : (starts : StartMap) (s q : ℕ) → IsParsed (with_parsed starts s) q → (q ≡ s) ⊎ IsParsed starts q
+parsed_map_from starts s q h = parsed_map_by starts s q (maps.contains_key starts s) h
+
+parsed_start_by : (starts : StartMap) (s q : ℕ) (b : Bool) → maps.contains_key starts s ≡ b → IsStart (if b then maps.insert starts s marks.Parsed else starts) q → IsStart starts q
+parsed_start_by starts s q true t h =
     elim (same_or_other q s) [
-      | inl e ↦ subst (IsStart starts) (sym e) had
+      | inl e ↦ subst (IsStart starts) (sym e) t
       | inr apart ↦ subst (λ (o : Option _). IsSome o) (get_apart starts s marks.Parsed q apart) h
     ]
+parsed_start_by starts s q false t h = h
+
+-- to mark a start as parsed adds none
+parsed_start_from : (starts : StartMap) (s q : ℕ) → IsStart (with_parsed starts s) q → IsStart starts q
+parsed_start_from starts s q h = parsed_start_by starts s q (maps.contains_key starts s) refl h
 
 blocks_back : (map : InstructionMap) (seeds : List ℕ) → IsLawful map → (old : BuilderState) (event : Event) (new : BuilderState) → KeepsBlocks map seeds old → ReturnedReturn map old.terminators → May map seeds old event → Steps map old event new → BlocksBack map seeds old new
 blocks_back map seeds lawful old (Event.Want s) new kept returned may step =
@@ -302,7 +311,7 @@ blocks_back map seeds lawful old (Event.Want s) new kept returned may step =
     })
 blocks_back map seeds lawful old (Event.Parsed s) new kept returned may step =
     subst (BlocksBack map seeds old) (sym step) (record {
-      starts = λ q h. inl (parsed_start_from old.starts s q may.reason.start h);
+      starts = λ q h. inl (parsed_start_from old.starts s q h);
       stands = λ q x h. inl h;
       displaced = kept.displaced;
       parsed = λ q h. elim (parsed_map_from old.starts s q h) [ inl e ↦ inr (subst (ParsedReason map (Holds map old)) (sym e) may.reason) | inr before ↦ inl before ];

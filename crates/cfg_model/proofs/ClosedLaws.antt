@@ -24,11 +24,12 @@ use Rattle.cfg_model.proofs.StepLaws.{empty_is_kept, events_keep_kept}
 use Rattle.cfg_model.specs.State.{empty_state, BuilderState, TerminatorEntry, IsStart, IsParsed, IsNear, IsMoved, StandsAt, IsEntered, IsDone, IsReturned, WaitsAt, IsTold, waiters_at}
 use Rattle.cfg_model.specs.Fact.{Fact, Holds, IsReachedTerminator}
 use Rattle.cfg_model.specs.Reason.{DoneReason, ToldReason, IsReleased}
-use Rattle.cfg_model.specs.Left.{Work, IsLeft, HasNothingLeft}
+use Rattle.cfg_model.specs.Left.{Work, IsLeft, HasNothingLeft, IsSettled}
 use Rattle.cfg_model.specs.Kept.{IsKept, IsClosed}
 use Rattle.cfg_model.specs.Event.{Event}
-use Rattle.cfg_model.specs.Shown.{ShowsGraph, IsRun}
-use Rattle.cfg_model.specs.StateLaws.{IsSettled, ClosedShowsGraph, Confluence, OrdersAgree}
+use Rattle.cfg_model.specs.Shown.{ShowsGraph}
+use Rattle.cfg_model.specs.Run.{IsRun}
+use Rattle.cfg_model.specs.StateLaws.{ClosedShowsGraph, Confluence, OrdersAgree}
 use Rattle.cfg_model.proofs.Listed.{none_in, in_cases, head_in, tail_in}
 use Rattle.cfg_model.proofs.MapFacts.{same_or_other}
 use Rattle.cfg_model.proofs.ChainFacts.{chain_up, chain_on, chain_cases, one_next, goes_up}

@@ -51,15 +51,23 @@ parsed_by starts s q false t had =
 pub with_start_keeps_parsed : (starts : StartMap) (s q : ℕ) → IsParsed starts q → IsParsed (with_start starts s) q
 with_start_keeps_parsed starts s q had = parsed_by starts s q (maps.contains_key starts s) refl had
 
-pub with_parsed_keeps : (starts : StartMap) (s q : ℕ) → IsStart starts q → IsStart (with_parsed starts s) q
-with_parsed_keeps starts s q had = insert_keeps starts s marks.Parsed q had
+parsed_keeps_by : (starts : StartMap) (s q : ℕ) (b : Bool) → IsStart starts q → IsStart (if b then maps.insert starts s marks.Parsed else starts) q
+parsed_keeps_by starts s q true had = insert_keeps starts s marks.Parsed q had
+parsed_keeps_by starts s q false had = had
 
-pub with_parsed_keeps_parsed : (starts : StartMap) (s q : ℕ) → IsParsed starts q → IsParsed (with_parsed starts s) q
-with_parsed_keeps_parsed starts s q had =
+pub with_parsed_keeps : (starts : StartMap) (s q : ℕ) → IsStart starts q → IsStart (with_parsed starts s) q
+with_parsed_keeps starts s q had = parsed_keeps_by starts s q (maps.contains_key starts s) had
+
+still_parsed_by : (starts : StartMap) (s q : ℕ) (b : Bool) → IsParsed starts q → IsParsed (if b then maps.insert starts s marks.Parsed else starts) q
+still_parsed_by starts s q true had =
     elim (same_or_other q s) [
-      | inl e ↦ subst (λ z. IsParsed (with_parsed starts s) z) (sym e) (get_here starts s marks.Parsed)
+      | inl e ↦ subst (λ z. IsParsed (maps.insert starts s marks.Parsed) z) (sym e) (get_here starts s marks.Parsed)
       | inr apart ↦ get_apart starts s marks.Parsed q apart ∙ had
     ]
+still_parsed_by starts s q false had = had
+
+pub with_parsed_keeps_parsed : (starts : StartMap) (s q : ℕ) → IsParsed starts q → IsParsed (with_parsed starts s) q
+with_parsed_keeps_parsed starts s q had = still_parsed_by starts s q (maps.contains_key starts s) had
 
 -- Terminators: an entry grows.
 
@@ -92,8 +100,8 @@ waiters_kept m w b v had =
       | inr apart ↦ rw (waiter_apart m w b v apart) had
     ]
 
-pub told_grows : (w : Waiter) (entry : TerminatorEntry) → Grows entry (entry_with_told w entry)
-told_grows w entry =
+told_grows_by : (w : Waiter) (entry : TerminatorEntry) (b : Bool) → Grows entry (record entry { waiters = if b then maps.insert entry.waiters w true else entry.waiters })
+told_grows_by w entry true =
     record {
       done = λ h. h;
       returned = λ h. h;
@@ -103,6 +111,10 @@ told_grows w entry =
         | inr apart ↦ waiter_apart entry.waiters w true v apart ∙ had
       ];
     }
+told_grows_by w entry false = record { done = λ h. h; returned = λ h. h; waits = λ v had. had; told = λ v had. had }
+
+pub told_grows : (w : Waiter) (entry : TerminatorEntry) → Grows entry (entry_with_told w entry)
+told_grows w entry = told_grows_by w entry (maps.contains_key entry.waiters w)
 
 pub return_grows : (entry : TerminatorEntry) → Grows entry (entry_with_return entry)
 return_grows entry = record { done = λ h. h; returned = λ h. refl; waits = λ v had. had; told = λ v had. had }

@@ -10,7 +10,6 @@ use Rattle.cfg_model.specs.Meeting.{IsMeeting}
 use Rattle.cfg_model.specs.State.{BuilderState, EndEntry, IsNear}
 use Rattle.cfg_model.specs.Event.{Event, Steps, Arrives, with_displaced}
 use Rattle.cfg_model.specs.Reason.{May}
-use Rattle.cfg_model.specs.Kept.{IsKept}
 use Rattle.cfg_model.specs.StateLaws.{AllowedEventSteps}
 use Rattle.cfg_model.proofs.MapFacts.{same_or_other}
 use Rattle.cfg_model.proofs.StateReads.{near_here}
@@ -67,14 +66,14 @@ arrival_exists_by map lawful k s (Some old) on_s fits =
     ]
 
 pub allowed_event_steps : AllowedEventSteps
-allowed_event_steps map seeds lawful old (Event.Want s) kept may = (_, refl)
-allowed_event_steps map seeds lawful old (Event.Parsed s) kept may = (_, refl)
-allowed_event_steps map seeds lawful old (Event.Arrive k s) kept may =
+allowed_event_steps map seeds lawful old (Event.Want s) may = (_, refl)
+allowed_event_steps map seeds lawful old (Event.Parsed s) may = (_, refl)
+allowed_event_steps map seeds lawful old (Event.Arrive k s) may =
     let found = arrival_exists_by map lawful k s (maps.get old.ends k) may.reason.reaches (λ entry is. may.fits entry.near (near_here old.ends k entry is)) in
     (record old { ends = maps.insert old.ends k found.0 }, (maps.insert old.ends k found.0, (found.0, found.1, refl), refl))
-allowed_event_steps map seeds lawful old (Event.Settle k x) kept may = (_, refl)
-allowed_event_steps map seeds lawful old (Event.Terminator k) kept may = (_, refl)
-allowed_event_steps map seeds lawful old (Event.Wait k w) kept may = (_, refl)
-allowed_event_steps map seeds lawful old (Event.Returned k) kept may = (_, refl)
-allowed_event_steps map seeds lawful old (Event.Told k w) kept may = (_, refl)
-allowed_event_steps map seeds lawful old (Event.EdgesDone k) kept may = (_, refl)
+allowed_event_steps map seeds lawful old (Event.Settle k x) may = (_, refl)
+allowed_event_steps map seeds lawful old (Event.Terminator k) may = (_, refl)
+allowed_event_steps map seeds lawful old (Event.Wait k w) may = (_, refl)
+allowed_event_steps map seeds lawful old (Event.Returned k) may = (_, refl)
+allowed_event_steps map seeds lawful old (Event.Told k w) may = (_, refl)
+allowed_event_steps map seeds lawful old (Event.EdgesDone k) may = (_, refl)

@@ -8,7 +8,8 @@ use Rattle.cfg_model.specs.Chain.{OnChain, GoesOnTo, IsTerminator, IsTerminatorO
 use Rattle.cfg_model.specs.Meeting.{IsStop, IsFirstStop}
 use Rattle.cfg_model.specs.State.{BuilderState, IsStart, IsNear, StandsAt, IsMoved, near_at}
 use Rattle.cfg_model.specs.Kept.{KeepsBlocks}
-use Rattle.cfg_model.specs.StateLaws.{IsSettled, IsNearOnce, StartsAreNearOnce}
+use Rattle.cfg_model.specs.StateLaws.{IsNearOnce, StartsAreNearOnce}
+use Rattle.cfg_model.specs.Left.{IsSettled}
 use Rattle.cfg_model.proofs.MapFacts.{same_or_other}
 use Rattle.cfg_model.proofs.ChainFacts.{chain_up, chain_on, chain_cases, one_next, goes_up}
 use Rattle.cfg_model.proofs.LeaderFacts.{chain_linear, chain_order}

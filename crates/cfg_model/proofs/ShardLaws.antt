@@ -162,6 +162,10 @@ start_elsewhere : (starts : StartMap) (s q : ℕ) (b : Bool) → q ≢ s → map
 start_elsewhere starts s q true apart = refl
 start_elsewhere starts s q false apart = get_apart starts s marks.Wanted q apart
 
+parsed_elsewhere : (starts : StartMap) (s q : ℕ) (b : Bool) → q ≢ s → maps.get (if b then maps.insert starts s marks.Parsed else starts) q ≡ maps.get starts q
+parsed_elsewhere starts s q true apart = get_apart starts s marks.Parsed q apart
+parsed_elsewhere starts s q false apart = refl
+
 entered_elsewhere : (terminators : TerminatorMap) (k q : ℕ) (b : Bool) → q ≢ k → maps.get (if b then terminators else maps.insert terminators k new_entry) q ≡ maps.get terminators q
 entered_elsewhere terminators k q true apart = refl
 entered_elsewhere terminators k q false apart = get_apart terminators k new_entry q apart
@@ -187,7 +191,7 @@ Stays map seeds old own new = ((fact : Fact) → Holds map old fact → Holds ma
 
 stays : (map : InstructionMap) (seeds : List ℕ) (old : BuilderState) (event : Event) (new : BuilderState) → Steps map old event new → Stays map seeds old (shard_of_event event) new
 stays map seeds old (Event.Want s) new step = subst (Stays map seeds old (Shard.Starts (shard_of s))) (sym step) (only_starts map seeds old (with_start old.starts s) s (λ q apart. start_elsewhere old.starts s q (maps.contains_key old.starts s) apart))
-stays map seeds old (Event.Parsed s) new step = subst (Stays map seeds old (Shard.Starts (shard_of s))) (sym step) (only_starts map seeds old (with_parsed old.starts s) s (λ q apart. get_apart old.starts s marks.Parsed q apart))
+stays map seeds old (Event.Parsed s) new step = subst (Stays map seeds old (Shard.Starts (shard_of s))) (sym step) (only_starts map seeds old (with_parsed old.starts s) s (λ q apart. parsed_elsewhere old.starts s q (maps.contains_key old.starts s) apart))
 stays map seeds old (Event.Arrive k s) new (ends, (entry, arrives, is_ends), is) = subst (Stays map seeds old (Shard.Ends (shard_of k))) (sym is) (only_ends map seeds old ends k (λ q apart. ap (λ (m : EndMap). maps.get m q) is_ends ∙ get_apart old.ends k entry q apart))
 stays map seeds old (Event.Settle k x) new step = subst (Stays map seeds old (Shard.Ends (shard_of k))) (sym step) (only_ends map seeds old (with_settled old.ends k x) k (λ q apart. settled_apart old.ends k x q apart))
 stays map seeds old (Event.Terminator k) new step = subst (Stays map seeds old (Shard.Terminators (shard_of k))) (sym step) (only_terminators map seeds old (with_terminator old.terminators k) k (λ q apart. entered_elsewhere old.terminators k q (maps.contains_key old.terminators k) apart))

@@ -14,7 +14,7 @@ use Rattle.cfg_model.specs.Meeting.{IsMeeting}
 use Rattle.cfg_model.specs.Event.{Event, Steps, SplitsTo, new_entry}
 use Rattle.cfg_model.specs.Fact.{Fact, Holds}
 use Rattle.cfg_model.specs.Reason.{Reason, May, EndsAStart, WantReason}
-use Rattle.cfg_model.specs.Shown.{IsRun}
+use Rattle.cfg_model.specs.Run.{IsRun}
 use Rattle.cfg_model.specs.State.{BuilderState, StartMap, EndMap, TerminatorMap, EndEntry, TerminatorEntry, empty_state, IsStart, IsParsed, IsNear, near_at, moved_at, IsMoved, IsUntold, IsReturned, IsEntered}
 use Rattle.cfg_model.proofs.StateReads.{near_here, near_is, moved_here, moved_is, none_near}
 use Rattle.cfg_model.proofs.MapFacts.{insert_again, get_here}

@@ -109,19 +109,25 @@ waiter_told_by w v entry false h =
     clash : Some false ≡ Some true → ⊥
     clash e = cc
 
-told_told : (w v : Waiter) (entry : TerminatorEntry) → maps.get (maps.insert entry.waiters w true) v ≡ Some true → (maps.get entry.waiters v ≡ Some true) ⊎ (v ≡ w)
-told_told w v entry h =
+told_told : (w v : Waiter) (entry : TerminatorEntry) (b : Bool) → maps.get (if b then maps.insert entry.waiters w true else entry.waiters) v ≡ Some true → (maps.get entry.waiters v ≡ Some true) ⊎ (v ≡ w)
+told_told w v entry true h =
     elim (same_waiter v w) [
       | inl e ↦ inr e
       | inr apart ↦ inl (sym (waiter_apart entry.waiters w true v apart) ∙ h)
     ]
+told_told w v entry false h = inl h
 
-told_waits : (w v : Waiter) (entry : TerminatorEntry) → IsSome (maps.get (maps.insert entry.waiters w true) v) → IsSome (maps.get entry.waiters v) ⊎ (v ≡ w)
-told_waits w v entry h =
+told_waits_by : (w v : Waiter) (entry : TerminatorEntry) (b : Bool) → maps.contains_key entry.waiters w ≡ b → IsSome (maps.get (if b then maps.insert entry.waiters w true else entry.waiters) v) → IsSome (maps.get entry.waiters v)
+told_waits_by w v entry true t h =
     elim (same_waiter v w) [
-      | inl e ↦ inr e
-      | inr apart ↦ inl (subst (λ o. IsSome o) (waiter_apart entry.waiters w true v apart) h)
+      | inl e ↦ subst (λ z. IsSome (maps.get entry.waiters z)) (sym e) t
+      | inr apart ↦ subst (λ o. IsSome o) (waiter_apart entry.waiters w true v apart) h
     ]
+told_waits_by w v entry false t h = h
+
+-- to tell a waiter adds none
+told_waits : (w v : Waiter) (entry : TerminatorEntry) → IsSome (maps.get (entry_with_told w entry).waiters v) → IsSome (maps.get entry.waiters v)
+told_waits w v entry h = told_waits_by w v entry (maps.contains_key entry.waiters w) refl h
 
 -- Where each item holds of what was there, or is shown anew, it is kept.
 record Back (map : InstructionMap) (old : BuilderState) (terminators : TerminatorMap) : Type 0 where
@@ -176,14 +182,13 @@ returning map old k returns =
       told = λ q v h. elim (changed_from old.terminators k entry_with_return (Told v) ⊥ (λ entry h. inl h) q h) [ inl before ↦ inl before | inr now ↦ absurd now.1 ];
     }
 
--- w waits at k already, so to tell it adds no waiter
-telling : (map : InstructionMap) (old : BuilderState) → KeepsStatus map old → (k : ℕ) (w : Waiter) → ToldReason map (Holds map old) k w → Back map old (with_changed old.terminators k (entry_with_told w))
-telling map old kept k w reason =
+telling : (map : InstructionMap) (old : BuilderState) (k : ℕ) (w : Waiter) → ToldReason map (Holds map old) k w → Back map old (with_changed old.terminators k (entry_with_told w))
+telling map old k w reason =
     record {
       returned = λ q h. elim (changed_from old.terminators k (entry_with_told w) Returned ⊥ (λ entry h. inl h) q h) [ inl before ↦ inl before | inr now ↦ absurd now.1 ];
-      waits = λ q v h. elim (changed_from old.terminators k (entry_with_told w) (Waits v) (v ≡ w) (λ entry h. told_waits w v entry h) q h) [ inl before ↦ inl before | inr now ↦ inl (subst (λ z. WaitsAt old.terminators z v) (sym now.0) (subst (λ z. WaitsAt old.terminators k z) (sym now.1) reason.waits)) ];
+      waits = λ q v h. elim (changed_from old.terminators k (entry_with_told w) (Waits v) ⊥ (λ entry h. inl (told_waits w v entry h)) q h) [ inl before ↦ inl before | inr now ↦ absurd now.1 ];
       done = λ q h. elim (changed_from old.terminators k (entry_with_told w) Done ⊥ (λ entry h. inl h) q h) [ inl before ↦ inl before | inr now ↦ absurd now.1 ];
-      told = λ q v h. elim (changed_from old.terminators k (entry_with_told w) (Told v) (v ≡ w) (λ entry h. told_told w v entry h) q h) [ inl before ↦ inl before | inr now ↦ inr (subst (λ z. ToldReason map (Holds map old) z v) (sym now.0) (subst (λ z. ToldReason map (Holds map old) k z) (sym now.1) reason)) ];
+      told = λ q v h. elim (changed_from old.terminators k (entry_with_told w) (Told v) (v ≡ w) (λ entry h. told_told w v entry (maps.contains_key entry.waiters w) h) q h) [ inl before ↦ inl before | inr now ↦ inr (subst (λ z. ToldReason map (Holds map old) z v) (sym now.0) (subst (λ z. ToldReason map (Holds map old) k z) (sym now.1) reason)) ];
     }
 
 finishing : (map : InstructionMap) (old : BuilderState) (k : ℕ) → DoneReason map (Holds map old) k → Back map old (with_changed old.terminators k entry_with_done)
@@ -203,7 +208,7 @@ back_of map seeds old (Event.Settle k x) new kept may step = subst (λ (z : Buil
 back_of map seeds old (Event.Terminator k) new kept may step = subst (λ (z : BuilderState). Back map old z.terminators) (sym step) (entering map old k)
 back_of map seeds old (Event.Wait k w) new kept may step = subst (λ (z : BuilderState). Back map old z.terminators) (sym step) (waiting map old k w may.reason)
 back_of map seeds old (Event.Returned k) new kept may step = subst (λ (z : BuilderState). Back map old z.terminators) (sym step) (returning map old k (returns_for map old kept.returned kept.waits k may.reason))
-back_of map seeds old (Event.Told k w) new kept may step = subst (λ (z : BuilderState). Back map old z.terminators) (sym step) (telling map old kept k w may.reason)
+back_of map seeds old (Event.Told k w) new kept may step = subst (λ (z : BuilderState). Back map old z.terminators) (sym step) (telling map old k w may.reason)
 back_of map seeds old (Event.EdgesDone k) new kept may step = subst (λ (z : BuilderState). Back map old z.terminators) (sym step) (finishing map old k may.reason)
 
 pub events_keep_status : EventsKeepStatus

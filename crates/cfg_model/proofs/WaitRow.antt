@@ -11,7 +11,7 @@ use Rattle.cfg_model.specs.Waits.{FollowsFrom, IsReleasedBy, IsTarget}
 use Rattle.cfg_model.specs.Event.{Event, Steps, new_entry}
 use Rattle.cfg_model.specs.Reason.{May, EndsAStart, WantReason, EndReturns}
 use Rattle.cfg_model.specs.Fact.{Holds}
-use Rattle.cfg_model.specs.Shown.{IsRun}
+use Rattle.cfg_model.specs.Run.{IsRun}
 use Rattle.cfg_model.specs.State.{BuilderState, StartMap, TerminatorMap, TerminatorEntry, empty_state, IsStart, IsReturned, IsTold}
 use Rattle.cfg_model.proofs.WaiterOrder.{waiter_cmp_total}
 use Rattle.cfg_model.proofs.Rows.{row_10}
@@ -175,7 +175,7 @@ may_tell_1 : May row_10 seeds (state_of starts_4 returned_2) (Event.Told 0x10008
 may_tell_1 = record { reason = record { waits = rw at_8''' waits_8; returned = rw at_8''' refl; effect = rw at_0'' refl }; fits = tt }
 
 step_tell_1 : Steps row_10 (state_of starts_4 returned_2) (Event.Told 0x10008 (follower 0x10000)) (state_of starts_4 told_1)
-step_tell_1 = rw at_8''' refl
+step_tell_1 = rw at_8''' (rw waits_8 refl)
 
 -- the call of 10000 is released, since 10000 returns: its fall is wanted, and the call follows it
 at_0''' : maps.get told_1 0x10000 ≡ Some (record entry_0 { returned = true })
@@ -250,7 +250,7 @@ may_tell_2 =
     }
 
 step_tell_2 : Steps row_10 (state_of starts_5 released_2) (Event.Told 0x10000 (released 0x1000c)) (state_of starts_5 told_2)
-step_tell_2 = rw at_0-last refl
+step_tell_2 = rw at_0-last (rw waits_0 refl)
 
 -- from where four starts are entered, the events are a run
 pub row_10_waits : IsRun row_10 seeds opened (Event.Wait 0x10008 (follower 0x10000) ∷ Event.Wait 0x10000 (released 0x1000c) ∷ Event.Wait 0x1000c (released 0x10004) ∷ Event.Returned 0x10008 ∷ Event.Returned 0x10000 ∷ Event.Told 0x10008 (follower 0x10000) ∷ Event.Want 0x10010 ∷ Event.Terminator 0x10010 ∷ Event.Wait 0x10010 (follower 0x1000c) ∷ Event.Told 0x10000 (released 0x1000c) ∷ []) (state_of starts_5 told_2)

@@ -10,7 +10,7 @@ use Rattle.cfg_model.specs.Instructions.{InstructionMap}
 use Rattle.cfg_model.specs.Meeting.{IsMeeting}
 use Rattle.cfg_model.specs.State.{BuilderState, StartMap, EndMap, TerminatorMap, EndEntry, TerminatorEntry}
 
--- Want: s becomes a wanted start where it is none. Parsed: s becomes a parsed start.
+-- Want: s becomes a wanted start where it is none. Parsed: the start s becomes a parsed one.
 -- Arrive: s arrives at the end k. Settle: x leaves the displaced starts of k.
 -- Terminator: k is entered as a terminator where it is none. Wait: w waits at k, untold, where it
 -- does not wait there yet. Returned: k is known to return. Told: w was told that k returns.
@@ -30,9 +30,9 @@ pub data Event : Type 0 where
 abbrev pub with_start : StartMap → ℕ → StartMap
 with_start starts s = if maps.contains_key starts s then starts else maps.insert starts s marks.Wanted
 
--- The starts with s parsed.
+-- The starts with s parsed, where it is one.
 abbrev pub with_parsed : StartMap → ℕ → StartMap
-with_parsed starts s = maps.insert starts s marks.Parsed
+with_parsed starts s = if maps.contains_key starts s then maps.insert starts s marks.Parsed else starts
 
 -- The displaced starts with x among them, unless x is m, the start that is near now.
 abbrev pub with_displaced : sets.FinSet nat_cmp → ℕ → ℕ → sets.FinSet nat_cmp
@@ -71,12 +71,13 @@ with_terminator terminators k = if maps.contains_key terminators k then terminat
 abbrev pub with_changed : TerminatorMap → ℕ → (TerminatorEntry → TerminatorEntry) → TerminatorMap
 with_changed terminators k change = option_map_or (λ entry. maps.insert terminators k (change entry)) (maps.get terminators k) terminators
 
--- An entry with the waiter w, untold if it is new; with w told; known to return; dealt with.
+-- An entry with the waiter w, untold if it is new; with w told, where it waits; known to return; dealt
+-- with.
 abbrev pub entry_with_waiter : Waiter → TerminatorEntry → TerminatorEntry
 entry_with_waiter w entry = record entry { waiters = if maps.contains_key entry.waiters w then entry.waiters else maps.insert entry.waiters w false }
 
 abbrev pub entry_with_told : Waiter → TerminatorEntry → TerminatorEntry
-entry_with_told w entry = record entry { waiters = maps.insert entry.waiters w true }
+entry_with_told w entry = record entry { waiters = if maps.contains_key entry.waiters w then maps.insert entry.waiters w true else entry.waiters }
 
 abbrev pub entry_with_return : TerminatorEntry → TerminatorEntry
 entry_with_return entry = record entry { returned = true }
@@ -84,8 +85,9 @@ entry_with_return entry = record entry { returned = true }
 abbrev pub entry_with_done : TerminatorEntry → TerminatorEntry
 entry_with_done entry = record entry { done = true }
 
--- The event leads from the old state to the new one. An arrival says so by where two chains meet,
--- and the other eight compute; new is determined by old and the event in all nine.
+-- The event leads from the old state to the new one (this project's profile). An arrival says so by
+-- where two chains meet, and the other eight compute. A change whose entry is not there changes
+-- nothing; the reason of an event always gives it its entry.
 abbrev pub Steps : InstructionMap → BuilderState → Event → BuilderState → Type 0
 Steps map old (Want s) new = new ≡ record old { starts = with_start old.starts s }
 Steps map old (Parsed s) new = new ≡ record old { starts = with_parsed old.starts s }

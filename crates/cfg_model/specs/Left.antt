@@ -1,7 +1,7 @@
 -- The work that is left in a builder's state, by what has to be done and where.
 use Rattle.std.specs.Prelude.{ℕ, List, Contains}
 use Rattle.cfg_model.specs.declared.state.Waiter.{Waiter}
-use Rattle.cfg_model.specs.State.{BuilderState, IsStart, IsWanted, StandsAt, IsMoved, IsEntered, IsDone, IsReturned, IsUntold}
+use Rattle.cfg_model.specs.State.{BuilderState, IsStart, IsWanted, IsParsed, StandsAt, IsMoved, IsEntered, IsDone, IsReturned, IsUntold}
 
 -- A piece of work: to want a start, to parse one, to move a displaced start of an end, to deal with
 -- the ways on of a terminator, to tell a waiter of a terminator.
@@ -26,3 +26,11 @@ pub data IsLeft (seeds : List ℕ) (state : BuilderState) : Work → Type 0 wher
 -- Nothing is left.
 abbrev pub HasNothingLeft : List ℕ → BuilderState → Type 0
 HasNothingLeft seeds state = (work : Work) → ¬ IsLeft seeds state work
+
+-- The blocks of a state are settled: each seed is a start, each start is parsed, each address that
+-- stands at an end is a start, and no end has a displaced start.
+pub record IsSettled (seeds : List ℕ) (state : BuilderState) : Type 0 where
+  pub seeds_start : (s : ℕ) → Contains seeds s → IsStart state.starts s
+  pub parsed : (s : ℕ) → IsStart state.starts s → IsParsed state.starts s
+  pub standing_start : (k x : ℕ) → StandsAt state.ends k x → IsStart state.starts x
+  pub none_moved : (k x : ℕ) → ¬ IsMoved state.ends k x

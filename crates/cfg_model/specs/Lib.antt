@@ -23,5 +23,6 @@ pub mod Kept
 pub mod Shard
 pub mod Sound
 pub mod Shown
+pub mod Run
 pub mod StateLaws
 pub mod StateCode

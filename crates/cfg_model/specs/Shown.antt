@@ -1,12 +1,10 @@
--- What a state shows of a program's graph, and runs of a builder.
-use Rattle.std.specs.Prelude.{◌≡◌, ◌↔◌, ℕ, List, [], ◌∷◌, ◌++◌}
+-- What a state shows of a program's graph.
+use Rattle.std.specs.Prelude.{◌↔◌, ℕ, List}
 use Rattle.cfg_model.specs.Instructions.{InstructionMap}
 use Rattle.cfg_model.specs.Status.{Returns}
 use Rattle.cfg_model.specs.Leader.{IsLeader}
 use Rattle.cfg_model.specs.Block.{IsLastOf}
-use Rattle.cfg_model.specs.Event.{Event, Steps}
 use Rattle.cfg_model.specs.Fact.{IsReachedTerminator}
-use Rattle.cfg_model.specs.Reason.{May}
 use Rattle.cfg_model.specs.State.{BuilderState, IsStart, IsNear, IsEntered, IsReturned}
 
 -- The state shows exactly the graph: its starts are the leaders; its near starts, each with its end,
@@ -24,9 +22,3 @@ pub record ShowSame (left right : BuilderState) : Type 0 where
   pub blocks : (s k : ℕ) → IsNear left.ends k s ↔ IsNear right.ends k s
   pub terminators : (k : ℕ) → IsEntered left.terminators k ↔ IsEntered right.terminators k
   pub returning : (k : ℕ) → IsReturned left.terminators k ↔ IsReturned right.terminators k
-
--- These events, in this order, lead from the old state to the new one, each allowed by the state that
--- it is made in.
-abbrev pub IsRun : InstructionMap → List ℕ → BuilderState → List Event → BuilderState → Type 0
-IsRun map seeds old [] new = new ≡ old
-IsRun map seeds old (event ∷ events) new = (mid : BuilderState) × May map seeds old event × Steps map old event mid × IsRun map seeds mid events new

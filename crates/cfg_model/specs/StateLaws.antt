@@ -1,27 +1,28 @@
 -- The laws of a builder's state, as statements: what later crates prove on their public functions.
-use Rattle.std.specs.Prelude.{◌≡◌, ◌≢◌, ◌↔◌, ℕ, List, Contains}
+use Rattle.std.specs.Prelude.{◌≡◌, ◌≢◌, ◌↔◌, ℕ, List}
 use Rattle.cfg_model.specs.Instructions.{InstructionMap, IsLawful}
 use Rattle.cfg_model.specs.Meeting.{IsMeeting, IsFirstStop}
 use Rattle.cfg_model.specs.Event.{Event, Steps}
 use Rattle.cfg_model.specs.Fact.{Fact, Holds, IsSoundFact}
 use Rattle.cfg_model.specs.Reason.{Reason, May}
-use Rattle.cfg_model.specs.State.{BuilderState, empty_state, IsStart, IsParsed, StandsAt, IsMoved, IsNear}
-use Rattle.cfg_model.specs.Left.{HasNothingLeft}
+use Rattle.cfg_model.specs.State.{BuilderState, empty_state, IsStart, IsNear}
+use Rattle.cfg_model.specs.Left.{HasNothingLeft, IsSettled}
 use Rattle.cfg_model.specs.Kept.{KeepsBlocks, KeepsStatus, ReturnedReturn, IsKept, IsClosed}
 use Rattle.cfg_model.specs.Shard.{Shard, shard_of_event, IsBacked}
 use Rattle.cfg_model.specs.Sound.{IsSound}
-use Rattle.cfg_model.specs.Shown.{ShowsGraph, ShowSame, IsRun}
+use Rattle.cfg_model.specs.Shown.{ShowsGraph, ShowSame}
+use Rattle.cfg_model.specs.Run.{IsRun}
 
 -- Two chains meet at one address at most.
 abbrev pub MeetingIsUnique : Type 0
 MeetingIsUnique = (map : InstructionMap) (p q m n : ℕ) → IsMeeting map p q m → IsMeeting map p q n → m ≡ n
 
--- An event leads to one state at most, and from a kept state that allows it to one.
+-- An event leads to one state at most, and from a state that allows it to one.
 abbrev pub StepIsUnique : Type 0
 StepIsUnique = (map : InstructionMap) (old : BuilderState) (event : Event) (new other : BuilderState) → Steps map old event new → Steps map old event other → new ≡ other
 
 abbrev pub AllowedEventSteps : Type 0
-AllowedEventSteps = (map : InstructionMap) (seeds : List ℕ) → IsLawful map → (old : BuilderState) (event : Event) → IsKept map seeds old → May map seeds old event → (new : BuilderState) × Steps map old event new
+AllowedEventSteps = (map : InstructionMap) (seeds : List ℕ) → IsLawful map → (old : BuilderState) (event : Event) → May map seeds old event → (new : BuilderState) × Steps map old event new
 
 -- Facts last: what holds of a state holds after every event that it allows. So do reasons.
 abbrev pub FactsLast : Type 0
@@ -57,20 +58,17 @@ OtherShardsStayBacked = (map : InstructionMap) (seeds : List ℕ) → IsLawful m
 abbrev pub KeptIsBacked : Type 0
 KeptIsBacked = (map : InstructionMap) (seeds : List ℕ) (state : BuilderState) → IsKept map seeds state ↔ ((shard : Shard) → IsBacked map seeds state shard)
 
--- A kept state is sound, and a fact that holds of it is true of the program.
+-- A kept state is sound, and a fact that holds of a sound state is true of the program.
 abbrev pub KeptIsSound : Type 0
 KeptIsSound = (map : InstructionMap) (seeds : List ℕ) (state : BuilderState) → IsKept map seeds state → IsSound map seeds state
 
 abbrev pub SoundFactsHold : Type 0
 SoundFactsHold = (map : InstructionMap) (seeds : List ℕ) (state : BuilderState) (fact : Fact) → IsSound map seeds state → Holds map state fact → IsSoundFact map seeds fact
 
--- The blocks of a state are settled: each seed is a start, each start is parsed, each address that
--- stands at an end is a start, and no end has a displaced start.
-pub record IsSettled (seeds : List ℕ) (state : BuilderState) : Type 0 where
-  pub seeds_start : (s : ℕ) → Contains seeds s → IsStart state.starts s
-  pub parsed : (s : ℕ) → IsStart state.starts s → IsParsed state.starts s
-  pub standing_start : (k x : ℕ) → StandsAt state.ends k x → IsStart state.starts x
-  pub none_moved : (k x : ℕ) → ¬ IsMoved state.ends k x
+-- An event whose reason holds by facts that are only known to be true of the program keeps a state
+-- sound.
+abbrev pub EventsKeepSound : Type 0
+EventsKeepSound = (map : InstructionMap) (seeds : List ℕ) → IsLawful map → (old : BuilderState) (event : Event) (new : BuilderState) → IsSound map seeds old → Reason map seeds (IsSoundFact map seeds) event → Steps map old event new → IsSound map seeds new
 
 -- The start s is near at exactly one end: the first address of its chain at which a block may end.
 pub record IsNearOnce (map : InstructionMap) (state : BuilderState) (s : ℕ) : Type 0 where
