@@ -1,30 +1,29 @@
 -- What is kept of blocks is kept under every event.
-use Rattle.std.proofs.Common.{◌≡◌, ◌≢◌, ℕ, ◌+◌, ◌≤◌, ◌<◌, List, [], ◌∷◌, Bool, true, false, cond, not, ◌&&◌, ◌||◌, refl, sym, ap, subst, ◌∙◌, arith}
-use Rattle.std.specs.Prelude.{◌⊎◌, ◌==◌, Contains, Option, Some, None, IsSome, IsTrue, if◌then◌else◌}
+use Rattle.std.proofs.Common.{◌≡◌, ◌≢◌, ℕ, List, Bool, true, false, not, ◌&&◌, ◌||◌, refl, sym, ap, subst, ◌∙◌, arith}
+use Rattle.std.specs.Prelude.{◌⊎◌, ◌==◌, Option, Some, None, IsSome, IsTrue, if◌then◌else◌}
 use Rattle.std.specs.Option.{option_map, option_map_or}
 use mathlib.Core.Logic.{inl, inr}
 use Rattle.std.specs.Ordering.{nat_cmp, eq_by_cmp}
 use Rattle.std.specs.Cmp.{nat_cmp_total, unsigned_tied}
-use Rattle.std.proofs.lemmas.Bool.{eqb-true, eqb-false, ne_eqb}
+use Rattle.std.proofs.lemmas.Bool.{eqb-false, ne_eqb}
 use Rattle.std.specs.FinMap as maps
 use Rattle.std.specs.FinSet as sets
 use Rattle.cfg_model.specs.declared.state.Mark.TheVariants as marks
 use Rattle.cfg_model.specs.Instructions.{InstructionMap, IsLawful}
-use Rattle.cfg_model.specs.Chain.{OnChain, IsTerminator, IsTerminatorOf}
-use Rattle.cfg_model.specs.Status.{Returns}
+use Rattle.cfg_model.specs.Chain.{OnChain, IsTerminator}
 use Rattle.cfg_model.specs.Reach.{Reached}
 use Rattle.cfg_model.specs.Leader.{IsLeader, StartsBlock}
-use Rattle.cfg_model.specs.Meeting.{IsMeeting, IsStop}
+use Rattle.cfg_model.specs.Meeting.{IsStop}
 use Rattle.cfg_model.specs.State.{BuilderState, StartMap, EndMap, TerminatorMap, EndEntry, TerminatorEntry, IsStart, IsParsed, IsNear, IsMoved, StandsAt, IsEntered}
 use Rattle.cfg_model.specs.Event.{Event, Steps, Arrives, ArrivesAt, SplitsTo, with_start, with_parsed, with_displaced, with_settled, with_terminator, with_changed, entry_with_waiter, entry_with_told, entry_with_return, entry_with_done}
 use Rattle.cfg_model.specs.Fact.{Fact, Holds}
-use Rattle.cfg_model.specs.Reason.{May, EndsAStart, EndReturns, WantReason, ParsedReason, TerminatorReason}
+use Rattle.cfg_model.specs.Reason.{May, EndsAStart, WantReason, ParsedReason, TerminatorReason}
 use Rattle.cfg_model.specs.Kept.{KeepsBlocks, ReturnedReturn}
 use Rattle.cfg_model.specs.StateLaws.{EventsKeepBlocks}
 use Rattle.cfg_model.proofs.MapFacts.{same_or_other, get_here, get_apart}
 use Rattle.cfg_model.proofs.StateReads.{near_here, near_is, moved_here, moved_is}
 use Rattle.cfg_model.proofs.ChainFacts.{chain_up, chain_on}
-use Rattle.cfg_model.proofs.Growth.{false_true, changed_here, changed_apart}
+use Rattle.cfg_model.proofs.Growth.{false_true}
 use Rattle.cfg_model.proofs.EndGrowth.{StandsIn, settled_here, settled_apart}
 use Rattle.cfg_model.proofs.FactLaws.{facts_last, parsed_more, terminator_more, stop_more}
 use Rattle.cfg_model.proofs.StatusLaws.{returns_along, changed_from, entered_from}
@@ -93,11 +92,11 @@ blocks_by map seeds old new kept more back =
     record {
       leaders = (
         λ s h. elim (back.starts s h) [ inl before ↦ kept.leaders.0 s before | inr now ↦ now ],
-        λ k x h. elim (back.stands k x h) [ inl before ↦ kept.leaders.1 k x before | inr now ↦ now.0 ]
+        λ k x h. elim (back.stands k x h) [ inl before ↦ kept.leaders.1 k x before | inr now ↦ now.0 ],
       );
       stops = λ k x h.
-        let was : OnChain map x k × IsStop map (λ s. Holds map old (Fact.Start s)) k = elim (back.stands k x h) [ inl before ↦ kept.stops k x before | inr now ↦ now.1 ] in
-        (was.0, stop_more map seeds (Holds map old) (Holds map new) more k was.1);
+          let was : OnChain map x k × IsStop map (λ s. Holds map old (Fact.Start s)) k = elim (back.stands k x h) [ inl before ↦ kept.stops k x before | inr now ↦ now.1 ] in
+          (was.0, stop_more map seeds (Holds map old) (Holds map new) more k was.1);
       displaced = back.displaced;
       parsed = λ s h. parsed_more map seeds (Holds map old) (Holds map new) more s (elim (back.parsed s h) [ inl before ↦ kept.parsed s before | inr now ↦ now ]);
       entries = λ k h. terminator_more map seeds (Holds map old) (Holds map new) more k (elim (back.entries k h) [ inl before ↦ kept.entries k before | inr now ↦ now ]);
@@ -158,11 +157,12 @@ module _ (map : InstructionMap) (seeds : List ℕ) (lawful : IsLawful map) (stat
     where
       on_old : OnChain map old.near new.near
       on_old = splits.meeting.on_first
+
       stands : (x : ℕ) → StandsIn (Some new) x → StandsIn (Some old) x ⊎ (IsLeader map seeds x × (OnChain map x k × IsStop map (λ s. Holds map state (Fact.Start s)) k))
       stands x (inl e) =
           inr (subst (λ y. IsLeader map seeds y × (OnChain map y k × IsStop map (λ s. Holds map state (Fact.Start s)) k)) (one_near new.near x e) (
             meeting_leads map seeds lawful old.near s new.near known.lead_near lead splits.meeting,
-            (chain_order map lawful old.near new.near k on_old known.near_reaches (splits.meeting.least k known.near_reaches reaches), stops)
+            (chain_order map lawful old.near new.near k on_old known.near_reaches (splits.meeting.least k known.near_reaches reaches), stops),
           ))
       stands x (inr h) =
           elim (displaced_from _ new.near s x (subst (λ m. IsTrue (sets.contains m x)) splits.moved h)) [
@@ -172,10 +172,12 @@ module _ (map : InstructionMap) (seeds : List ℕ) (lawful : IsLawful map) (stat
             ]
             | inr arrived ↦ inr (subst (λ y. IsLeader map seeds y × (OnChain map y k × IsStop map (λ s. Holds map state (Fact.Start s)) k)) (sym arrived.0) (lead, (reaches, stops)))
           ]
+
       earlier : (x : ℕ) → IsTrue (sets.contains old.moved x) → (x ≢ new.near) × OnChain map x new.near
       earlier x h =
           let was = known.displaced x h in
           (λ e. absurd (omega (arith, e, was.0, chain_up lawful was.1, chain_up lawful on_old)), chain_on was.1 on_old)
+
       apart : (x : ℕ) → IsTrue (sets.contains (with_displaced old.moved new.near old.near) x) ⊎ ((x ≡ s) × (s ≢ new.near)) → (x ≢ new.near) × OnChain map x new.near
       apart x (inl before) =
           elim (displaced_from old.moved new.near old.near x before) [
@@ -223,6 +225,7 @@ module _ (map : InstructionMap) (seeds : List ℕ) (lawful : IsLawful map) (stat
     where
       at : maps.get ends k ≡ Some entry
       at = ap (λ (m : EndMap). maps.get m k) is ∙ get_here state.ends k entry
+
       elsewhere : (q : ℕ) → q ≢ k → maps.get ends q ≡ maps.get state.ends q
       elsewhere q apart = ap (λ (m : EndMap). maps.get m q) is ∙ get_apart state.ends k entry q apart
 

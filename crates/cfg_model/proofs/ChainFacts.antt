@@ -1,12 +1,12 @@
 -- Chains: by cases on their first instruction, and upwards.
-use Rattle.std.proofs.Common.{◌≡◌, ◌≢◌, ℕ, ◌+◌, ◌≤◌, ◌<◌, refl, sym, ap, subst, arith, ◌∙◌}
+use Rattle.std.proofs.Common.{◌≡◌, ℕ, ◌+◌, ◌≤◌, refl, sym, subst, arith, ◌∙◌}
 use Rattle.std.specs.Prelude.{◌⊎◌, Option, Some, None}
 use Rattle.std.specs.Option.{option_map}
 use mathlib.Core.Logic.{inl, inr}
 use Rattle.cfg_model.specs.declared.flow.Flow.{Flow}
-use Rattle.cfg_model.specs.declared.flow.Flow.TheVariants.{Straight, Branch, Jump, Call, IndirectCall, Table, Return, Unknown, Stop}
-use Rattle.cfg_model.specs.Instructions.{InstructionMap, Instruction, flow_at, FlowFits, IsLawful, IsLawfulAt}
-use Rattle.cfg_model.specs.Chain.{GoesOnTo, OnChain, EndsChain, IsTerminator, IsTerminatorOf}
+use Rattle.cfg_model.specs.declared.flow.Flow.TheVariants.{Straight}
+use Rattle.cfg_model.specs.Instructions.{InstructionMap, Instruction, FlowFits, IsLawful, IsLawfulAt}
+use Rattle.cfg_model.specs.Chain.{GoesOnTo, OnChain}
 use Rattle.cfg_model.specs.Meeting.{IsMeeting}
 
 -- an address of a chain is its first one, or lies on the chain of the next

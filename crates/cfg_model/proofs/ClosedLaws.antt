@@ -12,17 +12,16 @@ use Rattle.cfg_model.specs.declared.state.Mark.TheVariants as marks
 use Rattle.cfg_model.specs.declared.state.Waiter.{Waiter}
 use Rattle.cfg_model.specs.Instructions.{InstructionMap, IsLawful, flow_at, length_at, targets_at}
 use Rattle.cfg_model.specs.Chain.{OnChain, GoesOnTo, IsTerminator, IsTerminatorOf, EndsChain}
-use Rattle.cfg_model.specs.Successors.{IsSuccessor, IsCall, ReturnsByItself, successors_of_flow, LeavesFunction}
+use Rattle.cfg_model.specs.Successors.{IsSuccessor, IsCall, successors_of_flow, LeavesFunction}
 use Rattle.cfg_model.specs.Status.{Returns}
 use Rattle.cfg_model.specs.Reach.{Reached}
 use Rattle.cfg_model.specs.Leader.{IsLeader, StartsBlock, targets_by, fall_by}
 use Rattle.cfg_model.specs.Block.{RunsTo, IsLastOf}
 use Rattle.cfg_model.specs.Waiter.{follower, released}
 use Rattle.cfg_model.specs.Waits.{IsTarget, IsWait}
-use Rattle.cfg_model.specs.Meeting.{IsFirstStop}
 use Rattle.cfg_model.proofs.StepLaws.{empty_is_kept, events_keep_kept}
-use Rattle.cfg_model.specs.State.{empty_state, BuilderState, TerminatorEntry, IsStart, IsParsed, IsNear, IsMoved, StandsAt, IsEntered, IsDone, IsReturned, WaitsAt, IsTold, waiters_at}
-use Rattle.cfg_model.specs.Fact.{Fact, Holds, IsReachedTerminator}
+use Rattle.cfg_model.specs.State.{empty_state, BuilderState, TerminatorEntry, IsStart, IsNear, IsEntered, IsDone, IsReturned, WaitsAt, IsTold, waiters_at}
+use Rattle.cfg_model.specs.Fact.{Holds, IsReachedTerminator}
 use Rattle.cfg_model.specs.Reason.{DoneReason, ToldReason, IsReleased}
 use Rattle.cfg_model.specs.Left.{Work, IsLeft, HasNothingLeft, IsSettled}
 use Rattle.cfg_model.specs.Kept.{IsKept, IsClosed}
@@ -30,12 +29,12 @@ use Rattle.cfg_model.specs.Event.{Event}
 use Rattle.cfg_model.specs.Shown.{ShowsGraph}
 use Rattle.cfg_model.specs.Run.{IsRun}
 use Rattle.cfg_model.specs.StateLaws.{ClosedShowsGraph, Confluence, OrdersAgree}
-use Rattle.cfg_model.proofs.Listed.{none_in, in_cases, head_in, tail_in}
+use Rattle.cfg_model.proofs.Listed.{none_in, in_cases, head_in}
 use Rattle.cfg_model.proofs.MapFacts.{same_or_other}
-use Rattle.cfg_model.proofs.ChainFacts.{chain_up, chain_on, chain_cases, one_next, goes_up}
+use Rattle.cfg_model.proofs.ChainFacts.{chain_up, chain_on, one_next, goes_up}
 use Rattle.cfg_model.proofs.Growth.{false_true, none_is_some}
-use Rattle.cfg_model.proofs.LeaderFacts.{reached_along, chain_linear, chain_order, has_length, HasLength}
-use Rattle.cfg_model.proofs.SettledLaws.{goes_not_ends, goes_towards, end_from, one_end, Placed, placed, near_reaches, start_behind, none_inside, near_first}
+use Rattle.cfg_model.proofs.LeaderFacts.{reached_along, chain_linear, chain_order}
+use Rattle.cfg_model.proofs.SettledLaws.{goes_not_ends, goes_towards, one_end, Placed, placed, near_reaches, start_behind, none_inside, near_first}
 
 -- What "nothing is left" says, read as what holds.
 
@@ -325,8 +324,8 @@ module _ (map : InstructionMap) (seeds : List ℕ) (lawful : IsLawful map) (stat
         | inr differ ↦
             let next = start_behind map seeds lawful state closed.kept.blocks is_settled one.start one.last other.last one.near ahead differ in
             lone other.start other.last next.0 other.near
-              (omega (arith, chain_up lawful other.reaches, goes_up lawful y a goes_y, chain_up lawful on_one, goes_up lawful one.last next.0 next.1))
-              next.2 next.3
+            (omega (arith, chain_up lawful other.reaches, goes_up lawful y a goes_y, chain_up lawful on_one, goes_up lawful one.last next.0 next.1))
+            next.2 next.3
       ]
     where
       near_same : (k s u : ℕ) → IsNear state.ends k s → IsNear state.ends k u → s ≡ u
@@ -334,6 +333,7 @@ module _ (map : InstructionMap) (seeds : List ℕ) (lawful : IsLawful map) (stat
         where
           values : Some s ≡ Some u → s ≡ u
           values e = cc
+
       strictly : (x y a : ℕ) → GoesOnTo map x a → GoesOnTo map y a → x ≢ y → OnChain map x y → ⊥
       strictly x y a goes_x goes_y apart chain =
           let next = goes_towards map x y chain apart in

@@ -1,6 +1,6 @@
 -- What an event leaves of the ends: who stood somewhere stands there still, unless it settled.
-use Rattle.std.proofs.Common.{◌≡◌, ◌≢◌, ℕ, ◌≤◌, ◌<◌, Bool, true, false, cond, not, ◌&&◌, ◌||◌, eqb, refl, sym, ap, subst, ◌∙◌, arith}
-use Rattle.std.specs.Prelude.{◌⊎◌, ◌==◌, Option, Some, None, IsSome, IsTrue, is_some, if◌then◌else◌}
+use Rattle.std.proofs.Common.{◌≡◌, ◌≢◌, ℕ, Bool, true, false, not, ◌&&◌, ◌||◌, refl, sym, ap, subst, ◌∙◌}
+use Rattle.std.specs.Prelude.{◌⊎◌, ◌==◌, Option, Some, None, IsTrue, if◌then◌else◌}
 use Rattle.std.specs.Option.{option_map, option_map_or}
 use mathlib.Core.Logic.{inl, inr}
 use Rattle.std.specs.Ordering.{nat_cmp, eq_by_cmp}
@@ -9,7 +9,7 @@ use Rattle.std.proofs.lemmas.Bool.{eqb-true, eq-eqb, ne_eqb}
 use Rattle.std.specs.FinMap as maps
 use Rattle.std.specs.FinSet as sets
 use Rattle.cfg_model.specs.Instructions.{InstructionMap}
-use Rattle.cfg_model.specs.State.{EndMap, EndEntry, StandsAt, IsNear, IsMoved, HasEnd, near_at, moved_at}
+use Rattle.cfg_model.specs.State.{EndMap, EndEntry, StandsAt, HasEnd}
 use Rattle.cfg_model.specs.Event.{Arrives, ArrivesAt, SplitsTo, with_displaced, with_settled}
 use Rattle.cfg_model.proofs.MapFacts.{same_or_other, get_here, get_apart}
 use Rattle.cfg_model.proofs.Growth.{insert_keeps, false_true}

@@ -1,17 +1,16 @@
 -- Facts last, and so do reasons.
-use Rattle.std.proofs.Common.{◌≡◌, ◌≢◌, ℕ, ◌≤◌, ◌<◌, List, Bool, true, false, refl, sym, ap, subst, ◌∙◌, arith}
-use Rattle.std.specs.Prelude.{◌⊎◌, Option, Some, None, IsSome, IsTrue}
+use Rattle.std.proofs.Common.{◌≡◌, ℕ, ◌<◌, List, sym, subst, arith}
 use mathlib.Core.Logic.{inl, inr}
 use Rattle.cfg_model.specs.declared.state.WaitKind.{WaitKind}
 use Rattle.cfg_model.specs.declared.state.WaitKind.TheVariants.{Follow, Release}
 use Rattle.cfg_model.specs.declared.state.Waiter.{Waiter}
 use Rattle.cfg_model.specs.Instructions.{InstructionMap, IsLawful}
-use Rattle.cfg_model.specs.Chain.{OnChain, IsTerminatorOf}
+use Rattle.cfg_model.specs.Chain.{OnChain}
 use Rattle.cfg_model.specs.Meeting.{IsStop}
 use Rattle.cfg_model.specs.State.{BuilderState, IsStart, IsParsed, HasEnd, IsAnchored}
-use Rattle.cfg_model.specs.Event.{Event, Steps, with_start, with_parsed, with_settled, with_terminator, with_changed, entry_with_waiter, entry_with_told, entry_with_return, entry_with_done}
+use Rattle.cfg_model.specs.Event.{Event, Steps, with_settled, entry_with_waiter, entry_with_told, entry_with_return, entry_with_done}
 use Rattle.cfg_model.specs.Fact.{Fact, Holds, WhereCallFollows}
-use Rattle.cfg_model.specs.Reason.{Reason, May, EndReturns, EndsAStart, WantReason, ArriveReason, SettleReason, ParsedReason, TerminatorReason, WaitReason, ReturnedReason, FollowsReturned, IsReleased, EffectStands, ToldReason, DoneReason}
+use Rattle.cfg_model.specs.Reason.{Reason, May, EndReturns, EndsAStart, WantReason, SettleReason, ParsedReason, TerminatorReason, WaitReason, ReturnedReason, EffectStands, ToldReason, DoneReason}
 use Rattle.cfg_model.specs.StateLaws.{FactsLast, ReasonsLast}
 use Rattle.cfg_model.proofs.ChainFacts.{chain_up, chain_on}
 use Rattle.cfg_model.proofs.Growth.{TerminatorsGrow, with_start_keeps, with_start_keeps_parsed, with_parsed_keeps, with_parsed_keeps_parsed, changed_grows, entered_grows, waiter_grows, told_grows, return_grows, done_grows}
@@ -49,10 +48,13 @@ settle_anchored map lawful state k x reason s q a =
   where
     earlier : IsAnchored map state.ends x reason.at
     earlier = reason.anchored
+
     before : OnChain map earlier.at k
     before = chain_on earlier.before reason.before
+
     below : earlier.at < k
     below = omega (arith, chain_up lawful earlier.before, chain_up lawful reason.before, reason.apart)
+
     again : ((a.at ≡ k) × (s ≡ x)) → IsAnchored map (with_settled state.ends k x) s q
     again same =
         elim (settle_keeps state.ends k x earlier.at x earlier.stands) [

@@ -1,16 +1,14 @@
 -- What an event leaves in a state: every change lets it grow, and so facts last.
-use Rattle.std.proofs.Common.{◌≡◌, ◌≢◌, ℕ, Bool, true, false, cond, refl, sym, ap, subst, ◌∙◌, arith}
-use Rattle.std.specs.Prelude.{◌⊎◌, ◌==◌, Option, Some, None, IsSome, IsTrue, is_some, if◌then◌else◌}
+use Rattle.std.proofs.Common.{◌≡◌, ◌≢◌, ℕ, Bool, true, false, cond, refl, sym, ap, subst, ◌∙◌}
+use Rattle.std.specs.Prelude.{◌⊎◌, Option, Some, None, IsSome, IsTrue, is_some, if◌then◌else◌}
 use Rattle.std.specs.Option.{option_map, option_map_or}
 use mathlib.Core.Logic.{inl, inr}
 use Rattle.std.specs.Ordering.{nat_cmp, eq_by_cmp}
 use Rattle.std.specs.FinMap as maps
-use Rattle.std.specs.FinSet as sets
-use Rattle.cfg_model.specs.declared.state.Mark.{Mark}
 use Rattle.cfg_model.specs.declared.state.Mark.TheVariants as marks
 use Rattle.cfg_model.specs.declared.state.Waiter.{Waiter}
 use Rattle.cfg_model.specs.Waiter.{waiter_cmp}
-use Rattle.cfg_model.specs.State.{StartMap, EndMap, TerminatorMap, TerminatorEntry, IsStart, IsParsed, IsEntered, IsDone, IsReturned, WaitsAt, IsTold}
+use Rattle.cfg_model.specs.State.{StartMap, TerminatorMap, TerminatorEntry, IsStart, IsParsed, IsEntered, IsDone, IsReturned, WaitsAt, IsTold}
 use Rattle.cfg_model.specs.Event.{with_start, with_parsed, with_terminator, with_changed, new_entry, entry_with_waiter, entry_with_told, entry_with_return, entry_with_done}
 use Rattle.cfg_model.proofs.MapFacts.{same_or_other, get_here, get_apart}
 use Rattle.std.proofs.lemmas.Map.Views.{tells_apart}

@@ -1,21 +1,21 @@
 -- What makes an address a leader: a reason to want it, and two chains that meet there.
-use Rattle.std.proofs.Common.{◌≡◌, ◌≢◌, ℕ, ◌+◌, ◌≤◌, ◌<◌, List, [], ◌∷◌, ◌++◌, refl, sym, ap, subst, ◌∙◌, arith}
-use Rattle.std.specs.Prelude.{◌⊎◌, Contains, Option, Some, None, IsSome, option_to_list}
+use Rattle.std.proofs.Common.{◌≡◌, ◌≢◌, ℕ, ◌+◌, ◌≤◌, List, [], refl, sym, ap, subst, ◌∙◌, arith}
+use Rattle.std.specs.Prelude.{◌⊎◌, Contains, Option, Some, None, option_to_list}
 use Rattle.std.specs.Option.{option_map}
 use mathlib.Core.Logic.{inl, inr}
 use Rattle.std.proofs.lemmas.List.Elements.{Contains-append_cases}
 use Rattle.cfg_model.specs.declared.flow.Flow.{Flow}
 use Rattle.cfg_model.specs.declared.flow.Flow.TheVariants.{Straight, Branch, Jump, Call, IndirectCall, Table, Return, Unknown, Stop}
 use Rattle.cfg_model.specs.Instructions.{InstructionMap, Instruction, flow_at, length_at, targets_at, IsLawful, IsLawfulAt, FlowFits}
-use Rattle.cfg_model.specs.Chain.{OnChain, GoesOnTo, IsTerminator, IsTerminatorOf, EndsChain}
-use Rattle.cfg_model.specs.Successors.{IsSuccessor, IsCall, successors_of_flow}
+use Rattle.cfg_model.specs.Chain.{OnChain, GoesOnTo, IsTerminator, EndsChain}
+use Rattle.cfg_model.specs.Successors.{successors_of_flow}
 use Rattle.cfg_model.specs.Reach.{Reached}
-use Rattle.cfg_model.specs.Leader.{IsLeader, StartsBlock, targets_by, fall_by}
+use Rattle.cfg_model.specs.Leader.{IsLeader, StartsBlock}
 use Rattle.cfg_model.specs.Waits.{IsTarget}
 use Rattle.cfg_model.specs.Meeting.{IsMeeting}
 use Rattle.cfg_model.proofs.Listed.{none_in, in_cases, head_in}
 use Rattle.cfg_model.proofs.MapFacts.{same_or_other}
-use Rattle.cfg_model.proofs.ChainFacts.{chain_up, chain_on, chain_cases, one_next, goes_up, flow_of, straight_next}
+use Rattle.cfg_model.proofs.ChainFacts.{chain_up, chain_cases, one_next, goes_up, flow_of, straight_next}
 use Rattle.cfg_model.proofs.StatusLaws.{next_is_successor}
 
 -- the chain of a reachable address is reachable
@@ -106,7 +106,7 @@ meeting_leads map seeds lawful p q m lead_p lead_q meeting =
     by : ((b : ℕ) × OnChain map p b × GoesOnTo map b m) → ((b : ℕ) × OnChain map q b × GoesOnTo map b m) → IsLeader map seeds m
     by one other =
         joined map seeds lawful one.0 other.0 m (reached_along lead_p.reached one.1) (reached_along lead_q.reached other.1) one.2 other.2
-          (λ e. absurd (omega (arith, goes_up lawful one.0 m one.2, meeting.least one.0 one.1 (subst (λ z. OnChain map q z) (sym e) other.1))))
+        (λ e. absurd (omega (arith, goes_up lawful one.0 m one.2, meeting.least one.0 one.1 (subst (λ z. OnChain map q z) (sym e) other.1))))
 
 -- Targets of a reachable terminator are leaders.
 

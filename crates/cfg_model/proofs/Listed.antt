@@ -1,5 +1,5 @@
 -- Where an item stands in a list, by cases on the list.
-use Rattle.std.proofs.Common.{◌≡◌, ℕ, zero, suc, ◌+◌, ◌<◌, List, [], ◌∷◌, ◌++◌, length, refl, arith}
+use Rattle.std.proofs.Common.{◌≡◌, zero, suc, List, [], ◌∷◌, refl, arith}
 use Rattle.std.specs.Prelude.{Contains, ◌⊎◌}
 use mathlib.Core.Logic.{inl, inr}
 

@@ -1,5 +1,5 @@
 -- Two chains with a common address meet, and so an event that a kept state allows can be made.
-use Rattle.std.proofs.Common.{◌≡◌, ◌≢◌, ℕ, zero, suc, ◌+◌, ◌≤◌, ◌<◌, List, refl, sym, ap, subst, ◌∙◌, arith}
+use Rattle.std.proofs.Common.{◌≡◌, ◌≢◌, ℕ, zero, suc, ◌+◌, ◌<◌, refl, subst, arith}
 use Rattle.std.specs.Prelude.{◌⊎◌, Option, Some, None}
 use mathlib.Core.Logic.{inl, inr}
 use Rattle.std.specs.FinMap as maps
@@ -7,9 +7,8 @@ use Rattle.std.specs.FinSet as sets
 use Rattle.cfg_model.specs.Instructions.{InstructionMap, IsLawful}
 use Rattle.cfg_model.specs.Chain.{OnChain, GoesOnTo}
 use Rattle.cfg_model.specs.Meeting.{IsMeeting}
-use Rattle.cfg_model.specs.State.{BuilderState, EndEntry, IsNear}
-use Rattle.cfg_model.specs.Event.{Event, Steps, Arrives, with_displaced}
-use Rattle.cfg_model.specs.Reason.{May}
+use Rattle.cfg_model.specs.State.{EndEntry}
+use Rattle.cfg_model.specs.Event.{Event, Arrives, with_displaced}
 use Rattle.cfg_model.specs.StateLaws.{AllowedEventSteps}
 use Rattle.cfg_model.proofs.MapFacts.{same_or_other}
 use Rattle.cfg_model.proofs.StateReads.{near_here}

@@ -1,11 +1,11 @@
 -- The code of some worked examples, as maps from addresses to instructions. Only instructions that are
 -- reached stand in them.
-use Rattle.std.proofs.Common.{◌≡◌, ℕ, ◌+◌, ◌<◌, ◌^◌, Bool, true, false, List, [], ◌∷◌, refl, sym, subst, subst₂, arith}
+use Rattle.std.proofs.Common.{◌≡◌, ℕ, ◌+◌, ◌<◌, ◌^◌, Bool, true, false, List, [], ◌∷◌, refl, sym, subst₂, arith}
 use Rattle.std.proofs.lemmas.Bool.{eqb-true}
 use Rattle.std.specs.List.{AllByRecursion}
 use Rattle.std.proofs.lemmas.List.Elements.{All-from_recursion}
 use mathlib.Core.Logic.{inl, inr}
-use Rattle.std.specs.Prelude.{◌⊎◌, Option, Some, None, IsSome, ◌==◌, if◌then◌else◌}
+use Rattle.std.specs.Prelude.{◌⊎◌, Some, None, IsSome, ◌==◌, if◌then◌else◌}
 use Rattle.cfg_model.specs.declared.flow.Flow.{Flow}
 use Rattle.cfg_model.specs.declared.flow.Flow.TheVariants.{Straight, Branch, Call, Return}
 use Rattle.cfg_model.specs.Instructions.{InstructionMap, Instruction, FlowFits, named_by, IsLawful, IsLawfulAt}
@@ -65,21 +65,34 @@ pub row_8_lawful : IsLawful row_8
 row_8_lawful =
     each_placed (λ a i. IsLawfulAt row_8 a i) row_8_code (
       lawful row_8 _ _ _ (inr refl) (omega arith) (refl, refl) (refl, tt),
-      (lawful row_8 _ _ _ (inl refl) (omega arith) (refl, refl) (refl, tt),
-      (lawful row_8 _ _ _ (inr refl) (omega arith) refl (refl, (refl, tt)),
-      (lawful row_8 _ _ _ (inr refl) (omega arith) refl tt, tt))))
+      (
+        lawful row_8 _ _ _ (inl refl) (omega arith) (refl, refl) (refl, tt),
+        (
+          lawful row_8 _ _ _ (inr refl) (omega arith) refl (refl, (refl, tt)),
+          (lawful row_8 _ _ _ (inr refl) (omega arith) refl tt, tt),
+        ),
+      ),
+    )
 
 pub row_9_lawful : IsLawful row_9
 row_9_lawful =
     each_placed (λ a i. IsLawfulAt row_9 a i) row_9_code (
       lawful row_9 _ _ _ (inr refl) (omega arith) refl (refl, (refl, tt)),
-      (lawful row_9 _ _ _ (inr refl) (omega arith) refl tt, tt))
+      (lawful row_9 _ _ _ (inr refl) (omega arith) refl tt, tt),
+    )
 
 pub row_10_lawful : IsLawful row_10
 row_10_lawful =
     each_placed (λ a i. IsLawfulAt row_10 a i) row_10_code (
       lawful row_10 _ _ _ (inr refl) (omega arith) refl (refl, (refl, tt)),
-      (lawful row_10 _ _ _ (inr refl) (omega arith) refl (refl, (refl, tt)),
-      (lawful row_10 _ _ _ (inr refl) (omega arith) refl tt,
-      (lawful row_10 _ _ _ (inr refl) (omega arith) refl (refl, (refl, tt)),
-      (lawful row_10 _ _ _ (inr refl) (omega arith) refl tt, tt)))))
+      (
+        lawful row_10 _ _ _ (inr refl) (omega arith) refl (refl, (refl, tt)),
+        (
+          lawful row_10 _ _ _ (inr refl) (omega arith) refl tt,
+          (
+            lawful row_10 _ _ _ (inr refl) (omega arith) refl (refl, (refl, tt)),
+            (lawful row_10 _ _ _ (inr refl) (omega arith) refl tt, tt),
+          ),
+        ),
+      ),
+    )

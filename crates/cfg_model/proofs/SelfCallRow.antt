@@ -1,24 +1,22 @@
 -- Row 9: no kept state of the code that calls itself allows the call's fall to be wanted.
-use Rattle.std.proofs.Common.{◌≡◌, ◌≢◌, ℕ, List, [], ◌∷◌, refl, sym, subst, arith}
-use Rattle.std.specs.Prelude.{◌⊎◌, ◌<◌, ◌≤◌, Contains, Option, Some, None, IsSome}
+use Rattle.std.proofs.Common.{◌≡◌, ℕ, List, [], ◌∷◌, refl, sym, subst, arith}
+use Rattle.std.specs.Prelude.{Contains, Option, Some, None}
 use mathlib.Core.Logic.{inl, inr}
-use Rattle.cfg_model.specs.declared.flow.Flow.{Flow}
-use Rattle.cfg_model.specs.declared.flow.Flow.TheVariants.{Straight, Branch, Call, Return}
-use Rattle.cfg_model.specs.Instructions.{InstructionMap, Instruction, flow_at, targets_at}
-use Rattle.cfg_model.specs.Chain.{OnChain, IsTerminatorOf}
+use Rattle.cfg_model.specs.declared.flow.Flow.TheVariants.{Straight, Call, Return}
+use Rattle.cfg_model.specs.Instructions.{Instruction, flow_at, targets_at}
+use Rattle.cfg_model.specs.Chain.{IsTerminatorOf}
 use Rattle.cfg_model.specs.Successors.{IsSuccessor, IsCall, ReturnsByItself, LeavesFunction, successors_by, successors_of_flow}
 use Rattle.cfg_model.specs.Status.{Returns}
 use Rattle.cfg_model.specs.Reach.{Reached}
-use Rattle.cfg_model.specs.Leader.{IsLeader}
 use Rattle.cfg_model.specs.Waits.{IsTarget}
-use Rattle.cfg_model.specs.State.{BuilderState, IsAnchored}
+use Rattle.cfg_model.specs.State.{BuilderState}
 use Rattle.cfg_model.specs.Event.{Event}
-use Rattle.cfg_model.specs.Fact.{Fact, Holds}
-use Rattle.cfg_model.specs.Reason.{May, WantReason, EndReturns}
+use Rattle.cfg_model.specs.Fact.{Holds}
+use Rattle.cfg_model.specs.Reason.{May, WantReason}
 use Rattle.cfg_model.specs.Kept.{IsKept}
 use Rattle.cfg_model.proofs.Listed.{none_in, in_cases}
-use Rattle.cfg_model.proofs.ChainFacts.{chain_cases, one_next}
-use Rattle.cfg_model.proofs.Rows.{row_9, row_9_code, placed, plain, each_placed}
+use Rattle.cfg_model.proofs.ChainFacts.{chain_cases}
+use Rattle.cfg_model.proofs.Rows.{row_9, row_9_code, each_placed}
 
 abbrev seeds : List ℕ
 seeds = 0x10000 ∷ []

@@ -1,14 +1,13 @@
 -- Where blocks are settled, each start is near at exactly one end, the first stop of its chain.
-use Rattle.std.proofs.Common.{◌≡◌, ◌≢◌, ℕ, zero, suc, ◌+◌, ◌≤◌, ◌<◌, List, Bool, true, false, refl, sym, ap, subst, ◌∙◌, arith}
-use Rattle.std.specs.Prelude.{◌⊎◌, Contains, Option, Some, None, IsSome, IsTrue}
+use Rattle.std.proofs.Common.{◌≡◌, ◌≢◌, ℕ, zero, suc, ◌+◌, ◌≤◌, ◌<◌, List, sym, subst, ◌∙◌, arith}
+use Rattle.std.specs.Prelude.{Some}
 use mathlib.Core.Logic.{inl, inr}
-use Rattle.cfg_model.specs.declared.flow.Flow.TheVariants.{Straight}
-use Rattle.cfg_model.specs.Instructions.{InstructionMap, IsLawful, flow_at}
+use Rattle.cfg_model.specs.Instructions.{InstructionMap, IsLawful}
 use Rattle.cfg_model.specs.Chain.{OnChain, GoesOnTo, IsTerminator, IsTerminatorOf, EndsChain}
 use Rattle.cfg_model.specs.Meeting.{IsStop, IsFirstStop}
-use Rattle.cfg_model.specs.State.{BuilderState, IsStart, IsNear, StandsAt, IsMoved, near_at}
+use Rattle.cfg_model.specs.State.{BuilderState, IsStart, IsNear, StandsAt}
 use Rattle.cfg_model.specs.Kept.{KeepsBlocks}
-use Rattle.cfg_model.specs.StateLaws.{IsNearOnce, StartsAreNearOnce}
+use Rattle.cfg_model.specs.StateLaws.{StartsAreNearOnce}
 use Rattle.cfg_model.specs.Left.{IsSettled}
 use Rattle.cfg_model.proofs.MapFacts.{same_or_other}
 use Rattle.cfg_model.proofs.ChainFacts.{chain_up, chain_on, chain_cases, one_next, goes_up}
@@ -112,6 +111,7 @@ module _ (map : InstructionMap) (seeds : List ℕ) (lawful : IsLawful map) (stat
     where
       above : (j : ℕ) → (j < k → ⊥) → k ≤ j
       above j refuted = omega (arith, refuted)
+
       earlier : (j : ℕ) → OnChain map s j → IsStop map (IsStart state.starts) j → j < k → ⊥
       earlier j chain stop low =
           let ahead = chain_order map lawful s j k chain (near_reaches s k near) (omega (arith, low)) in

@@ -1,6 +1,6 @@
 -- A state is kept exactly where each of its shards is backed, and an event leaves all of them backed.
-use Rattle.std.proofs.Common.{◌≡◌, ◌≢◌, ℕ, ◌/◌, ◌%◌, List, Bool, true, false, cond, eqb, refl, sym, ap, subst, ◌∙◌, arith}
-use Rattle.std.specs.Prelude.{◌⊎◌, ◌↔◌, ◌==◌, Option, Some, None, IsSome, IsTrue, if◌then◌else◌}
+use Rattle.std.proofs.Common.{◌≡◌, ◌≢◌, ℕ, List, Bool, true, false, cond, refl, sym, ap, subst, ◌∙◌}
+use Rattle.std.specs.Prelude.{◌⊎◌, ◌==◌, Option, Some, None, IsSome, IsTrue, if◌then◌else◌}
 use Rattle.std.specs.Option.{option_map, option_map_or}
 use mathlib.Core.Logic.{inl, inr}
 use Rattle.std.specs.Ordering.{nat_cmp}
@@ -11,13 +11,11 @@ use Rattle.std.specs.FinSet as sets
 use Rattle.cfg_model.specs.declared.state.Mark.{Mark}
 use Rattle.cfg_model.specs.declared.state.Mark.TheVariants as marks
 use Rattle.cfg_model.specs.declared.state.Waiter.{Waiter}
-use Rattle.cfg_model.specs.Waiter.{waiter_cmp}
-use Rattle.cfg_model.specs.Instructions.{InstructionMap, IsLawful}
+use Rattle.cfg_model.specs.Instructions.{InstructionMap}
 use Rattle.cfg_model.specs.Event.{Event, Steps, with_start, with_parsed, with_settled, with_terminator, with_changed, new_entry, entry_with_waiter, entry_with_told, entry_with_return, entry_with_done}
 use Rattle.cfg_model.specs.Fact.{Fact, Holds}
-use Rattle.cfg_model.specs.Reason.{May}
 use Rattle.cfg_model.specs.State.{BuilderState, StartMap, EndMap, TerminatorMap, EndEntry, TerminatorEntry}
-use Rattle.cfg_model.specs.Kept.{IsKept, KeepsBlocks, KeepsStatus}
+use Rattle.cfg_model.specs.Kept.{IsKept}
 use Rattle.cfg_model.specs.Shard.{Shard, shard_of, part_of, shard_of_event, IsBacked, BackedStarts, BackedEnds, BackedTerminators}
 use Rattle.cfg_model.specs.StateLaws.{KeptIsBacked, OwnShardStaysBacked, OtherShardsStayBacked}
 use Rattle.cfg_model.proofs.Growth.{false_true, no_waiter, no_told, none_is_some, changed_apart}
@@ -103,7 +101,7 @@ kept_from map seeds state each =
       blocks = record {
         leaders = (
           λ s h. (each (Shard.Starts (shard_of s))).leaders s (of_part (λ o. IsSome o) state.starts s h),
-          λ k x h. (each (Shard.Ends (shard_of k))).leaders k x (of_part (λ o. StandsIn o x) state.ends k h)
+          λ k x h. (each (Shard.Ends (shard_of k))).leaders k x (of_part (λ o. StandsIn o x) state.ends k h),
         );
         stops = λ k x h. (each (Shard.Ends (shard_of k))).stops k x (of_part (λ o. StandsIn o x) state.ends k h);
         displaced = λ k x near moved is_near. (each (Shard.Ends (shard_of k))).displaced k x near (of_part (Moved x) state.ends k moved) (of_part (Near near) state.ends k is_near);
@@ -136,10 +134,10 @@ module _ {X : Type 0} where
   part_same : (old new : maps.FinMap nat_cmp X) (k i : ℕ) → ((q : ℕ) → q ≢ k → maps.get new q ≡ maps.get old q) → i ≢ shard_of k → part_of new i ≡ part_of old i
   part_same old new k i elsewhere differ =
       maps.same_map nat_cmp_total maps.nat_cmp-IsAntisymmetric _ _ (λ q.
-        elim (apart_in q k i (shard_of q == i) refl differ (same_or_other q k)) [
-          | inl apart ↦ part_get new i q ∙ ap (λ (o : Option X). cond (shard_of q == i) o None) (elsewhere q apart) ∙ sym (part_get old i q)
-          | inr out ↦ part_get new i q ∙ ap (λ b. cond b (maps.get new q) None) out ∙ sym (part_get old i q ∙ ap (λ b. cond b (maps.get old q) None) out)
-        ])
+      elim (apart_in q k i (shard_of q == i) refl differ (same_or_other q k)) [
+        | inl apart ↦ part_get new i q ∙ ap (λ (o : Option X). cond (shard_of q == i) o None) (elsewhere q apart) ∙ sym (part_get old i q)
+        | inr out ↦ part_get new i q ∙ ap (λ b. cond b (maps.get new q) None) out ∙ sym (part_get old i q ∙ ap (λ b. cond b (maps.get old q) None) out)
+      ])
 
 module _ (map : InstructionMap) (seeds : List ℕ) (old new : BuilderState) (more : (fact : Fact) → Holds map old fact → Holds map new fact) where
   starts_more : (starts : StartMap) → BackedStarts map seeds (Holds map old) starts → BackedStarts map seeds (Holds map new) starts

@@ -1,21 +1,19 @@
 -- A kept state is sound, and what holds of a sound state is true of the program.
-use Rattle.std.proofs.Common.{◌≡◌, ℕ, List, Bool, true, false, refl, sym, ap, subst, ◌∙◌}
-use Rattle.std.specs.Prelude.{◌⊎◌, Option, Some, None, IsSome, IsTrue, is_some}
+use Rattle.std.proofs.Common.{◌≡◌, ℕ, List, false, refl, ap}
+use Rattle.std.specs.Prelude.{Option, Some, None, IsSome, IsTrue, is_some}
 use Rattle.std.specs.Option.{option_map, option_map_or}
 use mathlib.Core.Logic.{inl, inr}
 use Rattle.std.specs.FinMap as maps
 use Rattle.cfg_model.specs.declared.flow.Flow.{Flow}
-use Rattle.cfg_model.specs.declared.flow.Flow.TheVariants.{Straight}
 use Rattle.cfg_model.specs.declared.state.WaitKind.{WaitKind}
 use Rattle.cfg_model.specs.declared.state.WaitKind.TheVariants.{Follow, Release}
-use Rattle.cfg_model.specs.declared.state.Waiter.{Waiter}
 use Rattle.cfg_model.specs.Instructions.{InstructionMap, Instruction, flow_at}
-use Rattle.cfg_model.specs.Chain.{IsTerminator, EndsChain}
+use Rattle.cfg_model.specs.Chain.{EndsChain}
 use Rattle.cfg_model.specs.Status.{Returns}
 use Rattle.cfg_model.specs.Leader.{IsLeader}
 use Rattle.cfg_model.specs.Meeting.{IsStop}
-use Rattle.cfg_model.specs.State.{BuilderState, EndMap, EndEntry, TerminatorMap, TerminatorEntry, IsStart, IsNear, HasEnd, IsEntered, IsDone}
-use Rattle.cfg_model.specs.Fact.{Fact, Holds, IsReachedTerminator, IsSoundFact, WhereCallFollows}
+use Rattle.cfg_model.specs.State.{BuilderState, EndMap, EndEntry, TerminatorEntry, IsNear, IsEntered}
+use Rattle.cfg_model.specs.Fact.{Fact, Holds, IsReachedTerminator, WhereCallFollows}
 use Rattle.cfg_model.specs.Reason.{EndReturns}
 use Rattle.cfg_model.specs.Kept.{IsKept}
 use Rattle.cfg_model.specs.Sound.{IsSound}

@@ -1,11 +1,10 @@
 -- What the state's reads answer at a key whose entry is known.
-use Rattle.std.proofs.Common.{◌≡◌, ℕ, Bool, true, false, refl, sym, ap, ◌∙◌}
-use Rattle.std.specs.Prelude.{Option, Some, None, IsSome, IsTrue}
-use Rattle.std.specs.Option.{option_map, option_map_or}
+use Rattle.std.proofs.Common.{◌≡◌, ℕ, sym, ap, ◌∙◌}
+use Rattle.std.specs.Prelude.{Some, None, IsTrue}
+use Rattle.std.specs.Option.{option_map}
 use Rattle.std.specs.FinMap as maps
 use Rattle.std.specs.FinSet as sets
-use Rattle.cfg_model.specs.declared.state.Waiter.{Waiter}
-use Rattle.cfg_model.specs.State.{EndMap, TerminatorMap, EndEntry, TerminatorEntry, IsNear, IsMoved, HasEnd, IsEntered, IsDone, IsReturned, WaitsAt, IsTold, IsUntold}
+use Rattle.cfg_model.specs.State.{EndMap, EndEntry, IsNear, IsMoved}
 
 pub one_value : {X : Type 0} (x y : X) → Some x ≡ Some y → x ≡ y
 one_value x y e = cc

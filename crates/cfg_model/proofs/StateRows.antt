@@ -1,23 +1,21 @@
 -- Row 23: the state's events on the code of row 8, each with its reason, from the empty state.
-use Rattle.std.proofs.Common.{◌≡◌, ◌≢◌, ℕ, List, [], ◌∷◌, refl, sym, subst, arith}
-use Rattle.std.specs.Prelude.{◌⊎◌, ◌<◌, ◌≤◌, Contains, Option, Some, None, Bool, true, false, IsTrue, IsSome}
+use Rattle.std.proofs.Common.{◌≡◌, ℕ, List, [], ◌∷◌, refl, sym, subst, arith}
+use Rattle.std.specs.Prelude.{◌≤◌, Contains, Option, Some, true, false}
 use mathlib.Core.Logic.{inl, inr}
 use Rattle.std.specs.FinMap as maps
 use Rattle.std.specs.FinSet as sets
-use Rattle.std.specs.Ordering.{nat_cmp}
 use Rattle.cfg_model.specs.declared.state.Mark.TheVariants as marks
 use Rattle.cfg_model.specs.Chain.{OnChain, IsTerminatorOf}
 use Rattle.cfg_model.specs.Successors.{IsSuccessor, IsCall}
-use Rattle.cfg_model.specs.Waiter.{follower, waiter_cmp}
+use Rattle.cfg_model.specs.Waiter.{follower}
 use Rattle.cfg_model.specs.Waits.{FollowsFrom, IsTarget}
 use Rattle.cfg_model.specs.Meeting.{IsMeeting}
-use Rattle.cfg_model.specs.Event.{Event, Steps, SplitsTo, new_entry}
-use Rattle.cfg_model.specs.Fact.{Fact, Holds}
-use Rattle.cfg_model.specs.Reason.{Reason, May, EndsAStart, WantReason}
+use Rattle.cfg_model.specs.Event.{Event, Steps, new_entry}
+use Rattle.cfg_model.specs.Reason.{May, EndsAStart, WantReason}
 use Rattle.cfg_model.specs.Run.{IsRun}
-use Rattle.cfg_model.specs.State.{BuilderState, StartMap, EndMap, TerminatorMap, EndEntry, TerminatorEntry, empty_state, IsStart, IsParsed, IsNear, near_at, moved_at, IsMoved, IsUntold, IsReturned, IsEntered}
+use Rattle.cfg_model.specs.State.{BuilderState, StartMap, EndMap, TerminatorMap, EndEntry, TerminatorEntry, empty_state, IsStart, IsNear, IsMoved, IsUntold, IsReturned}
 use Rattle.cfg_model.proofs.StateReads.{near_here, near_is, moved_here, moved_is, none_near}
-use Rattle.cfg_model.proofs.MapFacts.{insert_again, get_here}
+use Rattle.cfg_model.proofs.MapFacts.{insert_again}
 use Rattle.cfg_model.proofs.ChainFacts.{chain_cases, chain_up, one_next}
 use Rattle.cfg_model.proofs.WaiterOrder.{waiter_cmp_total}
 use Rattle.cfg_model.proofs.Rows.{row_8, row_8_lawful}
@@ -340,8 +338,79 @@ walk =
 
 -- they are a run from the empty state, and lead to the last state above
 pub row_23 : IsRun row_8 seeds empty_state walk state_16
-row_23 =
-    (state_1, may_1, step_1, (state_1, may_2, step_2, (state_3, may_3, step_3, (state_4, may_4, step_4, (state_4, may_5, step_5,
-    (state_6, may_6, step_6, (state_7, may_7, step_7, (state_8, may_8, step_8, (state_9, may_9, step_9, (state_10, may_10, step_10,
-    (state_10, may_11, step_11, (state_12, may_12, step_12, (state_13, may_13, step_13, (state_14, may_14, step_14, (state_14, may_15, step_15,
-    (state_16, may_16, step_16, refl))))))))))))))))
+row_23 = (
+  state_1,
+  may_1,
+  step_1,
+  (
+    state_1,
+    may_2,
+    step_2,
+    (
+      state_3,
+      may_3,
+      step_3,
+      (
+        state_4,
+        may_4,
+        step_4,
+        (
+          state_4,
+          may_5,
+          step_5,
+          (
+            state_6,
+            may_6,
+            step_6,
+            (
+              state_7,
+              may_7,
+              step_7,
+              (
+                state_8,
+                may_8,
+                step_8,
+                (
+                  state_9,
+                  may_9,
+                  step_9,
+                  (
+                    state_10,
+                    may_10,
+                    step_10,
+                    (
+                      state_10,
+                      may_11,
+                      step_11,
+                      (
+                        state_12,
+                        may_12,
+                        step_12,
+                        (
+                          state_13,
+                          may_13,
+                          step_13,
+                          (
+                            state_14,
+                            may_14,
+                            step_14,
+                            (
+                              state_14,
+                              may_15,
+                              step_15,
+                              (state_16, may_16, step_16, refl),
+                            ),
+                          ),
+                        ),
+                      ),
+                    ),
+                  ),
+                ),
+              ),
+            ),
+          ),
+        ),
+      ),
+    ),
+  ),
+)

@@ -1,14 +1,13 @@
 -- What is kept of return status is kept under every event.
-use Rattle.std.proofs.Common.{◌≡◌, ◌≢◌, ℕ, List, [], Bool, true, false, cond, refl, sym, ap, subst, ◌∙◌}
+use Rattle.std.proofs.Common.{◌≡◌, ℕ, List, [], Bool, true, false, refl, sym, ap, subst, ◌∙◌}
 use Rattle.std.specs.Prelude.{◌⊎◌, Option, Some, None, IsSome, IsTrue, if◌then◌else◌}
 use Rattle.std.specs.Option.{option_map, option_map_or}
 use Rattle.std.specs.FinMap as maps
 use mathlib.Core.Logic.{inl, inr}
-use Rattle.cfg_model.specs.declared.flow.Flow.TheVariants.{Straight}
 use Rattle.cfg_model.specs.declared.state.Waiter.{Waiter}
-use Rattle.cfg_model.specs.Instructions.{InstructionMap, IsLawful, flow_at, targets_at}
-use Rattle.cfg_model.specs.Chain.{OnChain, GoesOnTo, IsTerminatorOf}
-use Rattle.cfg_model.specs.Successors.{IsSuccessor, successors_of_flow}
+use Rattle.cfg_model.specs.Instructions.{InstructionMap}
+use Rattle.cfg_model.specs.Chain.{OnChain, GoesOnTo}
+use Rattle.cfg_model.specs.Successors.{IsSuccessor}
 use Rattle.cfg_model.specs.Status.{Returns}
 use Rattle.cfg_model.specs.Waiter.{follower}
 use Rattle.cfg_model.specs.Waits.{FollowsFrom}

@@ -1,15 +1,14 @@
 -- An event leads to one state, the empty state is kept, and events keep a state kept.
-use Rattle.std.proofs.Common.{◌≡◌, ◌≢◌, ℕ, List, Bool, true, false, refl, sym, ap, subst, ◌∙◌}
-use Rattle.std.specs.Prelude.{◌⊎◌, Option, Some, None, IsSome, IsTrue}
+use Rattle.std.proofs.Common.{◌≡◌, ℕ, sym, ap, subst, ◌∙◌}
+use Rattle.std.specs.Prelude.{Option, Some, None, IsSome}
 use mathlib.Core.Logic.{inl, inr}
 use Rattle.std.specs.Ordering.{nat_cmp}
 use Rattle.std.specs.FinMap as maps
-use Rattle.std.specs.FinSet as sets
 use Rattle.cfg_model.specs.declared.state.Mark.{Mark}
 use Rattle.cfg_model.specs.declared.state.Mark.TheVariants as marks
-use Rattle.cfg_model.specs.Instructions.{InstructionMap, IsLawful}
-use Rattle.cfg_model.specs.State.{BuilderState, EndMap, EndEntry, TerminatorEntry, StandsAt, empty_state}
-use Rattle.cfg_model.specs.Event.{Event, Steps, Arrives, SplitsTo, with_displaced}
+use Rattle.cfg_model.specs.Instructions.{InstructionMap}
+use Rattle.cfg_model.specs.State.{EndMap, EndEntry, TerminatorEntry, StandsAt}
+use Rattle.cfg_model.specs.Event.{Event, Arrives, SplitsTo, with_displaced}
 use Rattle.cfg_model.specs.StateLaws.{MeetingIsUnique, StepIsUnique, EmptyIsKept, EventsKeepKept}
 use Rattle.cfg_model.proofs.ChainFacts.{meeting_unique}
 use Rattle.cfg_model.proofs.Growth.{false_true, none_is_some, no_waiter, no_told}

@@ -1,18 +1,18 @@
 -- Row 10: waiters are placed, and told once what they wait for has been done.
-use Rattle.std.proofs.Common.{◌≡◌, ◌≢◌, ℕ, List, [], ◌∷◌, refl, sym, subst, arith}
-use Rattle.std.specs.Prelude.{◌⊎◌, ◌<◌, ◌≤◌, Contains, Option, Some, None, Bool, true, false, IsTrue, IsSome}
+use Rattle.std.proofs.Common.{◌≡◌, ℕ, List, [], ◌∷◌, refl, subst, arith}
+use Rattle.std.specs.Prelude.{Contains, Option, Some, true, false, IsSome}
 use mathlib.Core.Logic.{inl, inr}
 use Rattle.std.specs.FinMap as maps
 use Rattle.cfg_model.specs.declared.state.Mark.TheVariants as marks
 use Rattle.cfg_model.specs.Chain.{OnChain, IsTerminatorOf}
 use Rattle.cfg_model.specs.Successors.{IsSuccessor, IsCall}
-use Rattle.cfg_model.specs.Waiter.{follower, released, waiter_cmp}
-use Rattle.cfg_model.specs.Waits.{FollowsFrom, IsReleasedBy, IsTarget}
+use Rattle.cfg_model.specs.Waiter.{follower, released}
+use Rattle.cfg_model.specs.Waits.{FollowsFrom}
 use Rattle.cfg_model.specs.Event.{Event, Steps, new_entry}
 use Rattle.cfg_model.specs.Reason.{May, EndsAStart, WantReason, EndReturns}
 use Rattle.cfg_model.specs.Fact.{Holds}
 use Rattle.cfg_model.specs.Run.{IsRun}
-use Rattle.cfg_model.specs.State.{BuilderState, StartMap, TerminatorMap, TerminatorEntry, empty_state, IsStart, IsReturned, IsTold}
+use Rattle.cfg_model.specs.State.{BuilderState, StartMap, TerminatorMap, TerminatorEntry, IsStart}
 use Rattle.cfg_model.proofs.WaiterOrder.{waiter_cmp_total}
 use Rattle.cfg_model.proofs.Rows.{row_10}
 
@@ -254,8 +254,49 @@ step_tell_2 = rw at_0-last (rw waits_0 refl)
 
 -- from where four starts are entered, the events are a run
 pub row_10_waits : IsRun row_10 seeds opened (Event.Wait 0x10008 (follower 0x10000) ∷ Event.Wait 0x10000 (released 0x1000c) ∷ Event.Wait 0x1000c (released 0x10004) ∷ Event.Returned 0x10008 ∷ Event.Returned 0x10000 ∷ Event.Told 0x10008 (follower 0x10000) ∷ Event.Want 0x10010 ∷ Event.Terminator 0x10010 ∷ Event.Wait 0x10010 (follower 0x1000c) ∷ Event.Told 0x10000 (released 0x1000c) ∷ []) (state_of starts_5 told_2)
-row_10_waits =
-    (state_of starts_4 waiting_1, may_wait_1, step_wait_1, (state_of starts_4 waiting_2, may_wait_2, step_wait_2, (state_of starts_4 waiting_3, may_wait_3, step_wait_3,
-    (state_of starts_4 returned_1, may_return_1, step_return_1, (state_of starts_4 returned_2, may_return_2, step_return_2, (state_of starts_4 told_1, may_tell_1, step_tell_1,
-    (state_of starts_5 told_1, may_fall, step_fall, (state_of starts_5 released_1, may_enter, step_enter, (state_of starts_5 released_2, may_follow, step_follow,
-    (state_of starts_5 told_2, may_tell_2, step_tell_2, refl))))))))))
+row_10_waits = (
+  state_of starts_4 waiting_1,
+  may_wait_1,
+  step_wait_1,
+  (
+    state_of starts_4 waiting_2,
+    may_wait_2,
+    step_wait_2,
+    (
+      state_of starts_4 waiting_3,
+      may_wait_3,
+      step_wait_3,
+      (
+        state_of starts_4 returned_1,
+        may_return_1,
+        step_return_1,
+        (
+          state_of starts_4 returned_2,
+          may_return_2,
+          step_return_2,
+          (
+            state_of starts_4 told_1,
+            may_tell_1,
+            step_tell_1,
+            (
+              state_of starts_5 told_1,
+              may_fall,
+              step_fall,
+              (
+                state_of starts_5 released_1,
+                may_enter,
+                step_enter,
+                (
+                  state_of starts_5 released_2,
+                  may_follow,
+                  step_follow,
+                  (state_of starts_5 told_2, may_tell_2, step_tell_2, refl),
+                ),
+              ),
+            ),
+          ),
+        ),
+      ),
+    ),
+  ),
+)

@@ -1,5 +1,5 @@
 -- Facts: what may be known of a builder's state and stays true whatever else happens to it.
-use Rattle.std.specs.Prelude.{ℕ, List, Option, Some, IsSome}
+use Rattle.std.specs.Prelude.{ℕ, List, Option, IsSome}
 use Rattle.cfg_model.specs.declared.state.WaitKind.{WaitKind}
 use Rattle.cfg_model.specs.declared.state.WaitKind.TheVariants.{Follow, Release}
 use Rattle.cfg_model.specs.declared.state.Waiter.{Waiter}

@@ -1,5 +1,5 @@
 -- Why a builder may make an event: the reason that each of the nine needs, from what is known.
-use Rattle.std.specs.Prelude.{◌≢◌, ℕ, List, Contains, Option, Some, ◌⊎◌}
+use Rattle.std.specs.Prelude.{◌≢◌, ℕ, List, Contains, Some, ◌⊎◌}
 use Rattle.cfg_model.specs.declared.state.WaitKind.{WaitKind}
 use Rattle.cfg_model.specs.declared.state.WaitKind.TheVariants.{Follow, Release}
 use Rattle.cfg_model.specs.declared.state.Waiter.{Waiter}

@@ -2,14 +2,10 @@
 use Rattle.std.specs.Prelude.{ℕ, ◌/◌, ◌%◌, ◌==◌, List}
 use Rattle.std.specs.Ordering.{nat_cmp}
 use Rattle.std.specs.FinMap as maps
-use Rattle.cfg_model.specs.declared.state.Waiter.{Waiter}
 use Rattle.cfg_model.specs.Instructions.{InstructionMap}
-use Rattle.cfg_model.specs.Chain.{OnChain}
-use Rattle.cfg_model.specs.Leader.{IsLeader}
-use Rattle.cfg_model.specs.Meeting.{IsStop}
 use Rattle.cfg_model.specs.Event.{Event}
-use Rattle.cfg_model.specs.Fact.{Fact, Holds, IsReachedTerminator, IsSoundWait}
-use Rattle.cfg_model.specs.State.{BuilderState, StartMap, EndMap, TerminatorMap, StandsAt, IsEntered, WaitsAt}
+use Rattle.cfg_model.specs.Fact.{Fact, Holds}
+use Rattle.cfg_model.specs.State.{BuilderState, StartMap, EndMap, TerminatorMap}
 use Rattle.cfg_model.specs.Kept.{StartsLead, StandingLead, StandingStop, DisplacedReachNear, ParsedHold, EntriesHold, ReturnedReturn, WaitsHold, DoneHold, ToldHold}
 
 -- The number of the shard that an address belongs to: 64 shards of 64 bytes in turn.

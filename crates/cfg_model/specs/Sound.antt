@@ -6,7 +6,7 @@ use Rattle.cfg_model.specs.Chain.{OnChain}
 use Rattle.cfg_model.specs.Leader.{IsLeader}
 use Rattle.cfg_model.specs.Meeting.{IsStop}
 use Rattle.cfg_model.specs.Fact.{IsReachedTerminator, IsSoundWait}
-use Rattle.cfg_model.specs.State.{BuilderState, StartMap, EndMap, TerminatorMap, StandsAt, IsEntered, WaitsAt}
+use Rattle.cfg_model.specs.State.{BuilderState, EndMap, TerminatorMap, StandsAt, IsEntered, WaitsAt}
 use Rattle.cfg_model.specs.Kept.{StartsLead, StandingLead, DisplacedReachNear, ReturnedReturn}
 
 -- Where x stands at k, k is on the chain of x and is a terminator or comes just before a leader.

@@ -5,7 +5,7 @@ use Rattle.std.specs.FinSet as sets
 use Rattle.std.specs.Coded.{Coded, code_by, coded×, coded_ℕ, coded_bool}
 use Rattle.cfg_model.specs.declared.state.Mark.{Mark}
 use Rattle.cfg_model.specs.declared.state.Mark.TheVariants.{Wanted, Parsed}
-use Rattle.cfg_model.specs.Waiter.{waiter_cmp, coded_waiter}
+use Rattle.cfg_model.specs.Waiter.{coded_waiter}
 use Rattle.cfg_model.specs.State.{BuilderState, StartMap, EndMap, TerminatorMap, EndEntry, TerminatorEntry}
 
 abbrev pub is_parsed : Mark → Bool

@@ -1,5 +1,5 @@
 -- How the return of one terminator hangs on that of another, and what a terminator asks for.
-use Rattle.std.specs.Prelude.{◌≡◌, ℕ, Option, Some}
+use Rattle.std.specs.Prelude.{ℕ, Option, Some}
 use Rattle.cfg_model.specs.declared.state.WaitKind.{WaitKind}
 use Rattle.cfg_model.specs.declared.state.WaitKind.TheVariants.{Follow, Release}
 use Rattle.cfg_model.specs.declared.state.Waiter.{Waiter}
