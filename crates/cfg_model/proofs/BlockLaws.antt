@@ -27,6 +27,7 @@ use Rattle.cfg_model.proofs.Growth.{false_true}
 use Rattle.cfg_model.proofs.EndGrowth.{StandsIn, settled_here, settled_apart}
 use Rattle.cfg_model.proofs.FactLaws.{facts_last, parsed_more, terminator_more, stop_more}
 use Rattle.cfg_model.proofs.StatusLaws.{returns_along, changed_from, entered_from}
+use Rattle.cfg_model.proofs.ArrivalFacts.{EndsKept, EndsBack, arrival_back, settled_near, settled_moved, settled_stands}
 use Rattle.cfg_model.proofs.LeaderFacts.{reached_along, chain_order, meeting_leads, target_leads}
 
 -- A reason to want an address makes it a leader.
@@ -102,168 +103,13 @@ blocks_by map seeds old new kept more back =
       entries = λ k h. terminator_more map seeds (Holds map old) (Holds map new) more k (elim (back.entries k h) [ inl before ↦ kept.entries k before | inr now ↦ now ]);
     }
 
--- Going back over an arrival.
+-- Going back over a change of the ends.
 
-displaced_from_by : (moved : sets.FinSet nat_cmp) (m x y : ℕ) (b : Bool) → (x == m) ≡ b → IsTrue (sets.contains (if b then moved else sets.insert moved x) y) → IsTrue (sets.contains moved y) ⊎ ((y ≡ x) × (x ≢ m))
-displaced_from_by moved m x y true t h = inl h
-displaced_from_by moved m x y false t h =
-    elim (same_or_other y x) [
-      | inl e ↦ inr (e, eqb-false x m t)
-      | inr apart ↦ inl (sym (sets.contains-insert nat_cmp_total moved x y ∙ ap (λ b. b || sets.contains moved y) (unsigned_tied y x ∙ ne_eqb y x apart)) ∙ h)
-    ]
+ends_kept : (map : InstructionMap) (seeds : List ℕ) (state : BuilderState) → KeepsBlocks map seeds state → EndsKept map seeds state.ends
+ends_kept map seeds state kept = record { leaders = kept.leaders.1; reaches = λ k x h. (kept.stops k x h).0; displaced = kept.displaced }
 
-displaced_from : (moved : sets.FinSet nat_cmp) (m x y : ℕ) → IsTrue (sets.contains (with_displaced moved m x) y) → IsTrue (sets.contains moved y) ⊎ ((y ≡ x) × (x ≢ m))
-displaced_from moved m x y h = displaced_from_by moved m x y (x == m) refl h
-
--- what an arrival at k brings to the entry there
-record Arrived (map : InstructionMap) (seeds : List ℕ) (state : BuilderState) (k : ℕ) (o : Option EndEntry) (new : EndEntry) : Type 0 where
-  stands : (x : ℕ) → StandsIn (Some new) x → StandsIn o x ⊎ (IsLeader map seeds x × (OnChain map x k × IsStop map (λ s. Holds map state (Fact.Start s)) k))
-  displaced : (x : ℕ) → IsTrue (sets.contains new.moved x) → (x ≢ new.near) × OnChain map x new.near
-
-one_near : (a b : ℕ) → Some a ≡ Some b → a ≡ b
-one_near a b e = cc
-
-module _ (map : InstructionMap) (seeds : List ℕ) (lawful : IsLawful map) (state : BuilderState) (kept : KeepsBlocks map seeds state) (k s : ℕ) (lead : IsLeader map seeds s) (reaches : OnChain map s k) (stops : IsStop map (λ s. Holds map state (Fact.Start s)) k) where
-  first_arrives : (new : EndEntry) → new ≡ record { near = s; moved = sets.empty } → Arrived map seeds state k None new
-  first_arrives new is =
-      record {
-        stands = λ x h. by x (subst (λ (e : EndEntry). StandsIn (Some e) x) is h);
-        displaced = λ x h. absurd (false_true (sym (sets.contains-empty nat_cmp x) ∙ subst (λ (e : EndEntry). IsTrue (sets.contains e.moved x)) is h));
-      }
-    where
-      by : (x : ℕ) → StandsIn (Some (record { near = s; moved = sets.empty })) x → StandsIn None x ⊎ (IsLeader map seeds x × (OnChain map x k × IsStop map (λ s. Holds map state (Fact.Start s)) k))
-      by x (inl e) = inr (subst (λ y. IsLeader map seeds y × (OnChain map y k × IsStop map (λ s. Holds map state (Fact.Start s)) k)) (one_near s x e) (lead, (reaches, stops)))
-      by x (inr h) = absurd (false_true (sym (sets.contains-empty nat_cmp x) ∙ h))
-
-  -- the near start of an entry, and how displaced starts reach it
-  record Known (old : EndEntry) : Type 0 where
-    lead_near : IsLeader map seeds old.near
-    near_reaches : OnChain map old.near k
-    displaced : (x : ℕ) → IsTrue (sets.contains old.moved x) → (x ≢ old.near) × OnChain map x old.near
-
-  same_arrives : (old new : EndEntry) → Known old → new ≡ old → Arrived map seeds state k (Some old) new
-  same_arrives old new known is =
-      record {
-        stands = λ x h. inl (subst (λ (e : EndEntry). StandsIn (Some e) x) is h);
-        displaced = λ x h. subst (λ (e : EndEntry). (x ≢ e.near) × OnChain map x e.near) (sym is) (known.displaced x (subst (λ (e : EndEntry). IsTrue (sets.contains e.moved x)) is h));
-      }
-
-  split_arrives : (old new : EndEntry) → Known old → SplitsTo map s old new → Arrived map seeds state k (Some old) new
-  split_arrives old new known splits =
-      record {
-        stands = stands;
-        displaced = λ x h. apart x (displaced_from _ new.near s x (subst (λ m. IsTrue (sets.contains m x)) splits.moved h));
-      }
-    where
-      on_old : OnChain map old.near new.near
-      on_old = splits.meeting.on_first
-
-      stands : (x : ℕ) → StandsIn (Some new) x → StandsIn (Some old) x ⊎ (IsLeader map seeds x × (OnChain map x k × IsStop map (λ s. Holds map state (Fact.Start s)) k))
-      stands x (inl e) =
-          inr (subst (λ y. IsLeader map seeds y × (OnChain map y k × IsStop map (λ s. Holds map state (Fact.Start s)) k)) (one_near new.near x e) (
-            meeting_leads map seeds lawful old.near s new.near known.lead_near lead splits.meeting,
-            (chain_order map lawful old.near new.near k on_old known.near_reaches (splits.meeting.least k known.near_reaches reaches), stops),
-          ))
-      stands x (inr h) =
-          elim (displaced_from _ new.near s x (subst (λ m. IsTrue (sets.contains m x)) splits.moved h)) [
-            | inl before ↦ elim (displaced_from old.moved new.near old.near x before) [
-              | inl was ↦ inl (inr was)
-              | inr near ↦ inl (inl (ap Some (sym near.0)))
-            ]
-            | inr arrived ↦ inr (subst (λ y. IsLeader map seeds y × (OnChain map y k × IsStop map (λ s. Holds map state (Fact.Start s)) k)) (sym arrived.0) (lead, (reaches, stops)))
-          ]
-
-      earlier : (x : ℕ) → IsTrue (sets.contains old.moved x) → (x ≢ new.near) × OnChain map x new.near
-      earlier x h =
-          let was = known.displaced x h in
-          (λ e. absurd (omega (arith, e, was.0, chain_up lawful was.1, chain_up lawful on_old)), chain_on was.1 on_old)
-
-      apart : (x : ℕ) → IsTrue (sets.contains (with_displaced old.moved new.near old.near) x) ⊎ ((x ≡ s) × (s ≢ new.near)) → (x ≢ new.near) × OnChain map x new.near
-      apart x (inl before) =
-          elim (displaced_from old.moved new.near old.near x before) [
-            | inl was ↦ earlier x was
-            | inr near ↦ subst (λ y. (y ≢ new.near) × OnChain map y new.near) (sym near.0) (near.1, on_old)
-          ]
-      apart x (inr arrived) = subst (λ y. (y ≢ new.near) × OnChain map y new.near) (sym arrived.0) (arrived.1, splits.meeting.on_second)
-
-  arrives_at : (o : Option EndEntry) → ((old : EndEntry) → o ≡ Some old → Known old) → (new : EndEntry) → Arrives map s o new → Arrived map seeds state k o new
-  arrives_at None known new is = first_arrives new is
-  arrives_at (Some old) known new (inl same) = same_arrives old new (known old refl) same.1
-  arrives_at (Some old) known new (inr splits) = split_arrives old new (known old refl) splits
-
-  -- what is kept of the entry at k
-  known_at : (old : EndEntry) → maps.get state.ends k ≡ Some old → Known old
-  known_at old found =
-      let near : IsNear state.ends k old.near = near_here state.ends k old found in
-      record {
-        lead_near = kept.leaders.1 k old.near (inl near);
-        near_reaches = (kept.stops k old.near (inl near)).0;
-        displaced = λ x h. kept.displaced k x old.near (moved_here state.ends k old found x h) near;
-      }
-
-  arrival_back : (ends : EndMap) → ArrivesAt map k s state.ends ends → BlocksBack map seeds state (record state { ends = ends })
-  arrival_back ends (entry, arrives, is) =
-      let arrived = arrives_at (maps.get state.ends k) known_at entry arrives in
-      record {
-        starts = λ q h. inl h;
-        stands = λ q x h. elim (same_or_other q k) [
-          | inl e ↦ elim (arrived.stands x (subst (λ (o : Option EndEntry). StandsIn o x) (ap (maps.get ends) e ∙ at) h)) [
-            | inl before ↦ inl (subst (λ z. StandsAt state.ends z x) (sym e) before)
-            | inr now ↦ inr (subst (λ z. IsLeader map seeds x × (OnChain map x z × IsStop map (λ s. Holds map state (Fact.Start s)) z)) (sym e) now)
-          ]
-          | inr apart ↦ inl (subst (λ (o : Option EndEntry). StandsIn o x) (elsewhere q apart) h)
-        ];
-        displaced = λ q x near moved is_near. elim (same_or_other q k) [
-          | inl e ↦
-              let found = ap (maps.get ends) e ∙ at in
-              subst (λ y. (x ≢ y) × OnChain map x y) (near_is ends q entry found near is_near) (arrived.displaced x (moved_is ends q entry found x moved))
-          | inr apart ↦ kept.displaced q x near (subst (λ (o : Option EndEntry). IsTrue (sets.contains (option_map_or (λ (e : EndEntry). e.moved) o sets.empty) x)) (elsewhere q apart) moved) (sym (ap (option_map (λ (e : EndEntry). e.near)) (elsewhere q apart)) ∙ is_near)
-        ];
-        parsed = λ q h. inl h;
-        entries = λ q h. inl h;
-      }
-    where
-      at : maps.get ends k ≡ Some entry
-      at = ap (λ (m : EndMap). maps.get m k) is ∙ get_here state.ends k entry
-
-      elsewhere : (q : ℕ) → q ≢ k → maps.get ends q ≡ maps.get state.ends q
-      elsewhere q apart = ap (λ (m : EndMap). maps.get m q) is ∙ get_apart state.ends k entry q apart
-
--- Going back over a settling.
-
-remaining : (moved : sets.FinSet nat_cmp) (x y : ℕ) → IsTrue (sets.contains (sets.remove moved x) y) → IsTrue (sets.contains moved y)
-remaining moved x y h = second (not (eq_by_cmp nat_cmp y x)) (sets.contains moved y) (sym (sets.contains-remove nat_cmp_total moved x y) ∙ h)
-  where
-    second : (a b : Bool) → (a && b) ≡ true → b ≡ true
-    second true b h = h
-    second false b h = absurd (false_true h)
-
-module _ (ends : EndMap) (k x : ℕ) where
-  settled_moved_by : (o : Option EndEntry) (y : ℕ) → IsTrue (sets.contains (option_map_or (λ (e : EndEntry). e.moved) (option_map (λ (entry : EndEntry). record entry { moved = sets.remove entry.moved x }) o) sets.empty) y) → IsTrue (sets.contains (option_map_or (λ (e : EndEntry). e.moved) o sets.empty) y)
-  settled_moved_by None y h = h
-  settled_moved_by (Some e) y h = remaining e.moved x y h
-
-  settled_near_by : (o : Option EndEntry) → option_map (λ (e : EndEntry). e.near) (option_map (λ (entry : EndEntry). record entry { moved = sets.remove entry.moved x }) o) ≡ option_map (λ (e : EndEntry). e.near) o
-  settled_near_by None = refl
-  settled_near_by (Some e) = refl
-
-  settled_near : (q y : ℕ) → IsNear (with_settled ends k x) q y → IsNear ends q y
-  settled_near q y h =
-      elim (same_or_other q k) [
-        | inl e ↦ subst (λ z. IsNear ends z y) (sym e) (sym (settled_near_by (maps.get ends k)) ∙ sym (ap (option_map (λ (e : EndEntry). e.near)) (ap (maps.get (with_settled ends k x)) e ∙ settled_here ends k x)) ∙ h)
-        | inr apart ↦ sym (ap (option_map (λ (e : EndEntry). e.near)) (settled_apart ends k x q apart)) ∙ h
-      ]
-
-  settled_moved : (q y : ℕ) → IsMoved (with_settled ends k x) q y → IsMoved ends q y
-  settled_moved q y h =
-      elim (same_or_other q k) [
-        | inl e ↦ subst (λ z. IsMoved ends z y) (sym e) (settled_moved_by (maps.get ends k) y (subst (λ (o : Option EndEntry). IsTrue (sets.contains (option_map_or (λ (e : EndEntry). e.moved) o sets.empty) y)) (ap (maps.get (with_settled ends k x)) e ∙ settled_here ends k x) h))
-        | inr apart ↦ subst (λ (o : Option EndEntry). IsTrue (sets.contains (option_map_or (λ (e : EndEntry). e.moved) o sets.empty) y)) (settled_apart ends k x q apart) h
-      ]
-
-  settled_stands : (q y : ℕ) → StandsAt (with_settled ends k x) q y → StandsAt ends q y
-  settled_stands q y (inl near) = inl (settled_near q y near)
-  settled_stands q y (inr moved) = inr (settled_moved q y moved)
+arrived_back : (map : InstructionMap) (seeds : List ℕ) (old : BuilderState) (ends : EndMap) → EndsBack map seeds (λ s. Holds map old (Fact.Start s)) old.ends ends → BlocksBack map seeds old (record old { ends = ends })
+arrived_back map seeds old ends back = record { starts = λ q h. inl h; stands = back.stands; displaced = back.displaced; parsed = λ q h. inl h; entries = λ q h. inl h }
 
 -- Going back over a change of the terminators: which are entered.
 
@@ -321,7 +167,7 @@ blocks_back map seeds lawful old (Event.Parsed s) new kept returned may step =
       entries = λ q h. inl h;
     })
 blocks_back map seeds lawful old (Event.Arrive k s) new kept returned may (ends, arrives, is) =
-    subst (BlocksBack map seeds old) (sym is) (arrival_back map seeds lawful old kept k s (kept.leaders.0 s may.reason.start) may.reason.reaches may.reason.stops ends arrives)
+    subst (BlocksBack map seeds old) (sym is) (arrived_back map seeds old ends (arrival_back map seeds lawful (λ q. Holds map old (Fact.Start q)) old.ends (ends_kept map seeds old kept) k s (kept.leaders.0 s may.reason.start) may.reason.reaches may.reason.stops ends arrives))
 blocks_back map seeds lawful old (Event.Settle k x) new kept returned may step =
     subst (BlocksBack map seeds old) (sym step) (record {
       starts = λ q h. inl h;

@@ -8,6 +8,7 @@ pub mod EndGrowth
 pub mod FactLaws
 pub mod StatusLaws
 pub mod LeaderFacts
+pub mod ArrivalFacts
 pub mod BlockLaws
 pub mod ShardLaws
 pub mod SoundLaws
