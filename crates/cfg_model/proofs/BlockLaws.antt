@@ -63,7 +63,7 @@ start_from_by starts s q false h =
       | inr apart ↦ inr (subst (λ (o : Option _). IsSome o) (get_apart starts s marks.Wanted q apart) h)
     ]
 
-start_from : (starts : StartMap) (s q : ℕ) → IsStart (with_start starts s) q → (q ≡ s) ⊎ IsStart starts q
+pub start_from : (starts : StartMap) (s q : ℕ) → IsStart (with_start starts s) q → (q ≡ s) ⊎ IsStart starts q
 start_from starts s q h = start_from_by starts s q (maps.contains_key starts s) h
 
 not_parsed : Some marks.Wanted ≡ Some marks.Parsed → ⊥
@@ -116,7 +116,7 @@ arrived_back map seeds old ends back = record { starts = λ q h. inl h; stands =
 is_some_mapped : (change : TerminatorEntry → TerminatorEntry) (entry : TerminatorEntry) → IsSome (Some (change entry)) → IsSome (Some entry)
 is_some_mapped change entry h = refl
 
-changed_entered : (terminators : TerminatorMap) (k : ℕ) (change : TerminatorEntry → TerminatorEntry) (q : ℕ) → IsEntered (with_changed terminators k change) q → IsEntered terminators q
+pub changed_entered : (terminators : TerminatorMap) (k : ℕ) (change : TerminatorEntry → TerminatorEntry) (q : ℕ) → IsEntered (with_changed terminators k change) q → IsEntered terminators q
 changed_entered terminators k change q h = elim (changed_from terminators k change (λ o. IsSome o) ⊥ (λ entry had. inl refl) q h) [ inl before ↦ before | inr now ↦ absurd now.1 ]
 
 -- where the starts and the ends stay, and no terminator is new
@@ -146,7 +146,7 @@ parsed_start_by starts s q true t h =
 parsed_start_by starts s q false t h = h
 
 -- to mark a start as parsed adds none
-parsed_start_from : (starts : StartMap) (s q : ℕ) → IsStart (with_parsed starts s) q → IsStart starts q
+pub parsed_start_from : (starts : StartMap) (s q : ℕ) → IsStart (with_parsed starts s) q → IsStart starts q
 parsed_start_from starts s q h = parsed_start_by starts s q (maps.contains_key starts s) refl h
 
 blocks_back : (map : InstructionMap) (seeds : List ℕ) → IsLawful map → (old : BuilderState) (event : Event) (new : BuilderState) → KeepsBlocks map seeds old → ReturnedReturn map old.terminators → May map seeds old event → Steps map old event new → BlocksBack map seeds old new

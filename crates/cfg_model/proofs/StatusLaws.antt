@@ -89,7 +89,7 @@ Waits w o = IsSome (maps.get (option_map_or (λ e. e.waiters) o maps.empty) w)
 abbrev Told : Waiter → Option TerminatorEntry → Type 0
 Told w o = maps.get (option_map_or (λ e. e.waiters) o maps.empty) w ≡ Some true
 
-waiter_waits_by : (w v : Waiter) (entry : TerminatorEntry) (b : Bool) → IsSome (maps.get (if b then entry.waiters else maps.insert entry.waiters w false) v) → IsSome (maps.get entry.waiters v) ⊎ (v ≡ w)
+pub waiter_waits_by : (w v : Waiter) (entry : TerminatorEntry) (b : Bool) → IsSome (maps.get (if b then entry.waiters else maps.insert entry.waiters w false) v) → IsSome (maps.get entry.waiters v) ⊎ (v ≡ w)
 waiter_waits_by w v entry true h = inl h
 waiter_waits_by w v entry false h =
     elim (same_waiter v w) [
@@ -125,7 +125,7 @@ told_waits_by w v entry true t h =
 told_waits_by w v entry false t h = h
 
 -- to tell a waiter adds none
-told_waits : (w v : Waiter) (entry : TerminatorEntry) → IsSome (maps.get (entry_with_told w entry).waiters v) → IsSome (maps.get entry.waiters v)
+pub told_waits : (w v : Waiter) (entry : TerminatorEntry) → IsSome (maps.get (entry_with_told w entry).waiters v) → IsSome (maps.get entry.waiters v)
 told_waits w v entry h = told_waits_by w v entry (maps.contains_key entry.waiters w) refl h
 
 -- Where each item holds of what was there, or is shown anew, it is kept.
