@@ -19,4 +19,5 @@ pub mod ClosedLaws
 pub mod Rows
 pub mod StateRows
 pub mod SelfCallRow
+pub mod SelfCallClosed
 pub mod WaitRow

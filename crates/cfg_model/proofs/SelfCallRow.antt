@@ -18,7 +18,7 @@ use Rattle.cfg_model.proofs.Listed.{none_in, in_cases}
 use Rattle.cfg_model.proofs.ChainFacts.{chain_cases}
 use Rattle.cfg_model.proofs.Rows.{row_9, row_9_code, each_placed}
 
-abbrev seeds : List ℕ
+abbrev pub seeds : List ℕ
 seeds = 0x10000 ∷ []
 
 -- no instruction has a successor: each is a call of a known address or a return
@@ -26,11 +26,11 @@ no_successor_by : (a : ℕ) (o : Option Instruction) → row_9 a ≡ o → (b : 
 no_successor_by a None e b c = none_in b (rw e at c)
 no_successor_by a (Some i) e b c = each_placed (λ a i. Contains (successors_by i.targets i.flow) b → ⊥) row_9_code (none_in b, (none_in b, tt)) a i e (rw e at c)
 
-no_successor : (a b : ℕ) → IsSuccessor row_9 a b → ⊥
+pub no_successor : (a b : ℕ) → IsSuccessor row_9 a b → ⊥
 no_successor a b c = no_successor_by a (row_9 a) refl b c
 
 -- the only call is that of 10000, at 10000
-abbrev IsTheCall : ℕ → ℕ → Option ℕ → Type 0
+abbrev pub IsTheCall : ℕ → ℕ → Option ℕ → Type 0
 IsTheCall a target fall = (a ≡ 0x10000) × (target ≡ 0x10000) × (fall ≡ Some 0x10004)
 
 call_by : (a : ℕ) (o : Option Instruction) → row_9 a ≡ o → (target : ℕ) (fall : Option ℕ) → IsCall row_9 a target fall → IsTheCall a target fall
@@ -43,7 +43,7 @@ call_by a (Some i) e target fall call = each_placed (λ a i. Some i.flow ≡ Som
     returns : Some Return ≡ Some (Call target fall) → ⊥
     returns e = cc
 
-the_call : (a target : ℕ) (fall : Option ℕ) → IsCall row_9 a target fall → IsTheCall a target fall
+pub the_call : (a target : ℕ) (fall : Option ℕ) → IsCall row_9 a target fall → IsTheCall a target fall
 the_call a target fall call = call_by a (row_9 a) refl target fall call
 
 -- only the return returns
@@ -64,7 +64,7 @@ reached_only (Reached.called {a = a} {target = target} {fall = fall} r call) = (
 reached_only (Reached.past_call {a = a} {target = target} {fall = fall} r call more) = absurd (omega (arith, (the_call a target (Some fall) call).1, returns_only more))
 
 -- the chain of 10000 is 10000 alone
-ends_here : (k : ℕ) → IsTerminatorOf row_9 0x10000 k → k ≡ 0x10000
+pub ends_here : (k : ℕ) → IsTerminatorOf row_9 0x10000 k → k ≡ 0x10000
 ends_here k t =
     elim (chain_cases t.reaches) [
       | inl e ↦ sym e

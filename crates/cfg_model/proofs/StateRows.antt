@@ -329,88 +329,30 @@ untold_16 : IsUntold terminators_16 0x10008 (follower 0x10004)
 untold_16 = rw at_16 (simp (maps.gets, waiter_cmp_total))
 
 -- the events of the walk
+abbrev walk_3 : List Event
+walk_3 = Event.Want 0x10008 ∷ Event.Terminator 0x10008 ∷ Event.Wait 0x10008 (follower 0x10004) ∷ Event.Wait 0x10008 (follower 0x10004) ∷ Event.Returned 0x10008 ∷ []
+
+abbrev walk_2 : List Event
+walk_2 =
+    Event.Arrive 0x10004 0x10002 ∷ Event.Want 0x10004 ∷ Event.Arrive 0x10000 0x10000 ∷ Event.Settle 0x10004 0x10000
+    ∷ Event.Terminator 0x10004 ∷ Event.Terminator 0x10004 ∷ walk_3
+
 abbrev walk : List Event
 walk =
     Event.Want 0x10000 ∷ Event.Want 0x10000 ∷ Event.Want 0x10002 ∷ Event.Arrive 0x10004 0x10000 ∷ Event.Arrive 0x10004 0x10000
-    ∷ Event.Arrive 0x10004 0x10002 ∷ Event.Want 0x10004 ∷ Event.Arrive 0x10000 0x10000 ∷ Event.Settle 0x10004 0x10000
-    ∷ Event.Terminator 0x10004 ∷ Event.Terminator 0x10004 ∷ Event.Want 0x10008 ∷ Event.Terminator 0x10008
-    ∷ Event.Wait 0x10008 (follower 0x10004) ∷ Event.Wait 0x10008 (follower 0x10004) ∷ Event.Returned 0x10008 ∷ []
+    ∷ walk_2
+
+row_23_end : IsRun row_8 seeds state_10 walk_3 state_16
+row_23_end =
+    (state_12, may_12, step_12, (state_13, may_13, step_13, (state_14, may_14, step_14, (state_14, may_15, step_15,
+    (state_16, may_16, step_16, refl)))))
+
+row_23_split : IsRun row_8 seeds state_4 walk_2 state_16
+row_23_split =
+    (state_6, may_6, step_6, (state_7, may_7, step_7, (state_8, may_8, step_8, (state_9, may_9, step_9, (state_10, may_10, step_10,
+    (state_10, may_11, step_11, row_23_end))))))
 
 -- they are a run from the empty state, and lead to the last state above
 pub row_23 : IsRun row_8 seeds empty_state walk state_16
-row_23 = (
-  state_1,
-  may_1,
-  step_1,
-  (
-    state_1,
-    may_2,
-    step_2,
-    (
-      state_3,
-      may_3,
-      step_3,
-      (
-        state_4,
-        may_4,
-        step_4,
-        (
-          state_4,
-          may_5,
-          step_5,
-          (
-            state_6,
-            may_6,
-            step_6,
-            (
-              state_7,
-              may_7,
-              step_7,
-              (
-                state_8,
-                may_8,
-                step_8,
-                (
-                  state_9,
-                  may_9,
-                  step_9,
-                  (
-                    state_10,
-                    may_10,
-                    step_10,
-                    (
-                      state_10,
-                      may_11,
-                      step_11,
-                      (
-                        state_12,
-                        may_12,
-                        step_12,
-                        (
-                          state_13,
-                          may_13,
-                          step_13,
-                          (
-                            state_14,
-                            may_14,
-                            step_14,
-                            (
-                              state_14,
-                              may_15,
-                              step_15,
-                              (state_16, may_16, step_16, refl),
-                            ),
-                          ),
-                        ),
-                      ),
-                    ),
-                  ),
-                ),
-              ),
-            ),
-          ),
-        ),
-      ),
-    ),
-  ),
-)
+row_23 =
+    (state_1, may_1, step_1, (state_1, may_2, step_2, (state_3, may_3, step_3, (state_4, may_4, step_4, (state_4, may_5, step_5, row_23_split)))))

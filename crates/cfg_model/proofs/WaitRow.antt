@@ -7,12 +7,12 @@ use Rattle.cfg_model.specs.declared.state.Mark.TheVariants as marks
 use Rattle.cfg_model.specs.Chain.{OnChain, IsTerminatorOf}
 use Rattle.cfg_model.specs.Successors.{IsSuccessor, IsCall}
 use Rattle.cfg_model.specs.Waiter.{follower, released}
-use Rattle.cfg_model.specs.Waits.{FollowsFrom}
+use Rattle.cfg_model.specs.Waits.{FollowsFrom, IsReleasedBy, IsTarget}
 use Rattle.cfg_model.specs.Event.{Event, Steps, new_entry}
 use Rattle.cfg_model.specs.Reason.{May, EndsAStart, WantReason, EndReturns}
 use Rattle.cfg_model.specs.Fact.{Holds}
 use Rattle.cfg_model.specs.Run.{IsRun}
-use Rattle.cfg_model.specs.State.{BuilderState, StartMap, TerminatorMap, TerminatorEntry, IsStart}
+use Rattle.cfg_model.specs.State.{BuilderState, StartMap, TerminatorMap, TerminatorEntry, empty_state, IsStart, IsReturned, IsTold}
 use Rattle.cfg_model.proofs.WaiterOrder.{waiter_cmp_total}
 use Rattle.cfg_model.proofs.Rows.{row_10}
 
@@ -59,8 +59,17 @@ starts_4 = maps.insert starts_3 0x1000c marks.Wanted
 abbrev starts_5 : StartMap
 starts_5 = maps.insert starts_4 0x10010 marks.Wanted
 
+abbrev entered_1 : TerminatorMap
+entered_1 = maps.insert maps.empty 0x10000 new_entry
+
+abbrev entered_2 : TerminatorMap
+entered_2 = maps.insert entered_1 0x10008 new_entry
+
+abbrev entered_3 : TerminatorMap
+entered_3 = maps.insert entered_2 0x10004 new_entry
+
 abbrev entered : TerminatorMap
-entered = maps.insert (maps.insert (maps.insert (maps.insert maps.empty 0x10000 new_entry) 0x10008 new_entry) 0x10004 new_entry) 0x1000c new_entry
+entered = maps.insert entered_3 0x1000c new_entry
 
 -- the branch follows the return at 10008; the call of 10000 is released there, and that of 1000c there
 abbrev entry_8 : TerminatorEntry
@@ -252,51 +261,89 @@ may_tell_2 =
 step_tell_2 : Steps row_10 (state_of starts_5 released_2) (Event.Told 0x10000 (released 0x1000c)) (state_of starts_5 told_2)
 step_tell_2 = rw at_0-last (rw waits_0 refl)
 
--- from where four starts are entered, the events are a run
-pub row_10_waits : IsRun row_10 seeds opened (Event.Wait 0x10008 (follower 0x10000) ∷ Event.Wait 0x10000 (released 0x1000c) ∷ Event.Wait 0x1000c (released 0x10004) ∷ Event.Returned 0x10008 ∷ Event.Returned 0x10000 ∷ Event.Told 0x10008 (follower 0x10000) ∷ Event.Want 0x10010 ∷ Event.Terminator 0x10010 ∷ Event.Wait 0x10010 (follower 0x1000c) ∷ Event.Told 0x10000 (released 0x1000c) ∷ []) (state_of starts_5 told_2)
-row_10_waits = (
-  state_of starts_4 waiting_1,
-  may_wait_1,
-  step_wait_1,
-  (
-    state_of starts_4 waiting_2,
-    may_wait_2,
-    step_wait_2,
-    (
-      state_of starts_4 waiting_3,
-      may_wait_3,
-      step_wait_3,
-      (
-        state_of starts_4 returned_1,
-        may_return_1,
-        step_return_1,
-        (
-          state_of starts_4 returned_2,
-          may_return_2,
-          step_return_2,
-          (
-            state_of starts_4 told_1,
-            may_tell_1,
-            step_tell_1,
-            (
-              state_of starts_5 told_1,
-              may_fall,
-              step_fall,
-              (
-                state_of starts_5 released_1,
-                may_enter,
-                step_enter,
-                (
-                  state_of starts_5 released_2,
-                  may_follow,
-                  step_follow,
-                  (state_of starts_5 told_2, may_tell_2, step_tell_2, refl),
-                ),
-              ),
-            ),
-          ),
-        ),
-      ),
-    ),
-  ),
-)
+-- Before that: four starts are wanted, each with its reason, and the ends of their chains entered.
+
+started_1 : IsStart starts_1 0x10000
+started_1 = simp maps.gets
+
+may_open_1 : May row_10 seeds empty_state (Event.Want 0x10000)
+may_open_1 = record { reason = WantReason.seed seed_in; fits = tt }
+
+step_open_1 : Steps row_10 empty_state (Event.Want 0x10000) (state_of starts_1 maps.empty)
+step_open_1 = simp maps.gets
+
+may_open_2 : May row_10 seeds (state_of starts_1 maps.empty) (Event.Terminator 0x10000)
+may_open_2 = record { reason = record { from = 0x10000; start = started_1; ends = itself_0 }; fits = tt }
+
+step_open_2 : Steps row_10 (state_of starts_1 maps.empty) (Event.Terminator 0x10000) (state_of starts_1 entered_1)
+step_open_2 = simp maps.gets
+
+may_open_3 : May row_10 seeds (state_of starts_1 entered_1) (Event.Want 0x10008)
+may_open_3 = record { reason = WantReason.target (EndsAStart.start started_1 itself_0) (IsTarget.onward taken_in); fits = tt }
+
+step_open_3 : Steps row_10 (state_of starts_1 entered_1) (Event.Want 0x10008) (state_of starts_2 entered_1)
+step_open_3 = simp maps.gets
+
+may_open_4 : May row_10 seeds (state_of starts_2 entered_1) (Event.Terminator 0x10008)
+may_open_4 = record { reason = record { from = 0x10008; start = simp maps.gets; ends = itself_8 }; fits = tt }
+
+step_open_4 : Steps row_10 (state_of starts_2 entered_1) (Event.Terminator 0x10008) (state_of starts_2 entered_2)
+step_open_4 = simp maps.gets
+
+-- this reason is that 10000 is entered, and so ends the chain of a start
+may_open_5 : May row_10 seeds (state_of starts_2 entered_2) (Event.Want 0x10004)
+may_open_5 = record { reason = WantReason.target {k = 0x10000} (EndsAStart.entered (simp maps.gets)) (IsTarget.onward fall_in); fits = tt }
+
+step_open_5 : Steps row_10 (state_of starts_2 entered_2) (Event.Want 0x10004) (state_of starts_3 entered_2)
+step_open_5 = simp maps.gets
+
+may_open_6 : May row_10 seeds (state_of starts_3 entered_2) (Event.Terminator 0x10004)
+may_open_6 = record { reason = record { from = 0x10004; start = simp maps.gets; ends = itself_4 }; fits = tt }
+
+step_open_6 : Steps row_10 (state_of starts_3 entered_2) (Event.Terminator 0x10004) (state_of starts_3 entered_3)
+step_open_6 = simp maps.gets
+
+may_open_7 : May row_10 seeds (state_of starts_3 entered_3) (Event.Want 0x1000c)
+may_open_7 = record { reason = WantReason.target {k = 0x10004} (EndsAStart.entered (simp maps.gets)) (IsTarget.called {fall = Some 0x10008} refl); fits = tt }
+
+step_open_7 : Steps row_10 (state_of starts_3 entered_3) (Event.Want 0x1000c) (state_of starts_4 entered_3)
+step_open_7 = simp maps.gets
+
+may_open_8 : May row_10 seeds (state_of starts_4 entered_3) (Event.Terminator 0x1000c)
+may_open_8 = record { reason = record { from = 0x1000c; start = simp maps.gets; ends = itself_c }; fits = tt }
+
+step_open_8 : Steps row_10 (state_of starts_4 entered_3) (Event.Terminator 0x1000c) opened
+step_open_8 = simp maps.gets
+
+-- the events, in order
+abbrev telling : List Event
+telling = Event.Told 0x10008 (follower 0x10000) ∷ Event.Want 0x10010 ∷ Event.Terminator 0x10010 ∷ Event.Wait 0x10010 (follower 0x1000c) ∷ Event.Told 0x10000 (released 0x1000c) ∷ []
+
+abbrev waits : List Event
+waits = Event.Wait 0x10008 (follower 0x10000) ∷ Event.Wait 0x10000 (released 0x1000c) ∷ Event.Wait 0x1000c (released 0x10004) ∷ Event.Returned 0x10008 ∷ Event.Returned 0x10000 ∷ telling
+
+abbrev opening : List Event
+opening =
+    Event.Want 0x10000 ∷ Event.Terminator 0x10000 ∷ Event.Want 0x10008 ∷ Event.Terminator 0x10008
+    ∷ Event.Want 0x10004 ∷ Event.Terminator 0x10004 ∷ Event.Want 0x1000c ∷ Event.Terminator 0x1000c ∷ waits
+
+tells : IsRun row_10 seeds (state_of starts_4 returned_2) telling (state_of starts_5 told_2)
+tells =
+    (state_of starts_4 told_1, may_tell_1, step_tell_1, (state_of starts_5 told_1, may_fall, step_fall, (state_of starts_5 released_1, may_enter, step_enter,
+    (state_of starts_5 released_2, may_follow, step_follow, (state_of starts_5 told_2, may_tell_2, step_tell_2, refl)))))
+
+waits_then : IsRun row_10 seeds opened waits (state_of starts_5 told_2)
+waits_then =
+    (state_of starts_4 waiting_1, may_wait_1, step_wait_1, (state_of starts_4 waiting_2, may_wait_2, step_wait_2, (state_of starts_4 waiting_3, may_wait_3, step_wait_3,
+    (state_of starts_4 returned_1, may_return_1, step_return_1, (state_of starts_4 returned_2, may_return_2, step_return_2, tells)))))
+
+opens_last : IsRun row_10 seeds (state_of starts_2 entered_2) (Event.Want 0x10004 ∷ Event.Terminator 0x10004 ∷ Event.Want 0x1000c ∷ Event.Terminator 0x1000c ∷ waits) (state_of starts_5 told_2)
+opens_last =
+    (state_of starts_3 entered_2, may_open_5, step_open_5, (state_of starts_3 entered_3, may_open_6, step_open_6,
+    (state_of starts_4 entered_3, may_open_7, step_open_7, (opened, may_open_8, step_open_8, waits_then))))
+
+-- they are a run from the empty state
+pub row_10_waits : IsRun row_10 seeds empty_state opening (state_of starts_5 told_2)
+row_10_waits =
+    (state_of starts_1 maps.empty, may_open_1, step_open_1, (state_of starts_1 entered_1, may_open_2, step_open_2,
+    (state_of starts_2 entered_1, may_open_3, step_open_3, (state_of starts_2 entered_2, may_open_4, step_open_4, opens_last))))
