@@ -1,11 +1,11 @@
 -- Going back over a change of the ends: who stands where, and why.
-use Rattle.std.proofs.Common.{◌≡◌, ◌≢◌, ℕ, ◌+◌, ◌≤◌, ◌<◌, List, [], ◌∷◌, Bool, true, false, cond, not, ◌&&◌, ◌||◌, refl, sym, ap, subst, ◌∙◌, arith}
-use Rattle.std.specs.Prelude.{◌⊎◌, ◌==◌, Contains, Option, Some, None, IsSome, IsTrue, if◌then◌else◌}
+use Rattle.std.proofs.Common.{◌≡◌, ◌≢◌, ℕ, List, Bool, true, false, not, ◌&&◌, ◌||◌, refl, sym, ap, subst, ◌∙◌, arith}
+use Rattle.std.specs.Prelude.{◌⊎◌, ◌==◌, Option, Some, None, IsTrue, if◌then◌else◌}
 use Rattle.std.specs.Option.{option_map, option_map_or}
 use mathlib.Core.Logic.{inl, inr}
 use Rattle.std.specs.Ordering.{nat_cmp, eq_by_cmp}
 use Rattle.std.specs.Cmp.{nat_cmp_total, unsigned_tied}
-use Rattle.std.proofs.lemmas.Bool.{eqb-true, eqb-false, ne_eqb}
+use Rattle.std.proofs.lemmas.Bool.{eqb-false, ne_eqb}
 use Rattle.std.specs.FinMap as maps
 use Rattle.std.specs.FinSet as sets
 use Rattle.cfg_model.specs.Instructions.{InstructionMap, IsLawful}
@@ -68,19 +68,19 @@ module _ (map : InstructionMap) (seeds : List ℕ) (lawful : IsLawful map) (Amon
       by x (inr h) = absurd (false_true (sym (sets.contains-empty nat_cmp x) ∙ h))
 
   -- the near start of an entry, and how displaced starts reach it
-  record Known (old : EndEntry) : Type 0 where
+  record EntryKept (old : EndEntry) : Type 0 where
     lead_near : IsLeader map seeds old.near
     near_reaches : OnChain map old.near k
     displaced : (x : ℕ) → IsTrue (sets.contains old.moved x) → (x ≢ old.near) × OnChain map x old.near
 
-  same_arrives : (old new : EndEntry) → Known old → new ≡ old → Arrived map seeds Among k (Some old) new
+  same_arrives : (old new : EndEntry) → EntryKept old → new ≡ old → Arrived map seeds Among k (Some old) new
   same_arrives old new known is =
       record {
         stands = λ x h. inl (subst (λ (e : EndEntry). StandsIn (Some e) x) is h);
         displaced = λ x h. subst (λ (e : EndEntry). (x ≢ e.near) × OnChain map x e.near) (sym is) (known.displaced x (subst (λ (e : EndEntry). IsTrue (sets.contains e.moved x)) is h));
       }
 
-  split_arrives : (old new : EndEntry) → Known old → SplitsTo map s old new → Arrived map seeds Among k (Some old) new
+  split_arrives : (old new : EndEntry) → EntryKept old → SplitsTo map s old new → Arrived map seeds Among k (Some old) new
   split_arrives old new known splits =
       record {
         stands = stands;
@@ -118,13 +118,13 @@ module _ (map : InstructionMap) (seeds : List ℕ) (lawful : IsLawful map) (Amon
           ]
       apart x (inr arrived) = subst (λ y. (y ≢ new.near) × OnChain map y new.near) (sym arrived.0) (arrived.1, splits.meeting.on_second)
 
-  arrives_at : (o : Option EndEntry) → ((old : EndEntry) → o ≡ Some old → Known old) → (new : EndEntry) → Arrives map s o new → Arrived map seeds Among k o new
+  arrives_at : (o : Option EndEntry) → ((old : EndEntry) → o ≡ Some old → EntryKept old) → (new : EndEntry) → Arrives map s o new → Arrived map seeds Among k o new
   arrives_at None known new is = first_arrives new is
   arrives_at (Some old) known new (inl same) = same_arrives old new (known old refl) same.1
   arrives_at (Some old) known new (inr splits) = split_arrives old new (known old refl) splits
 
   -- what is kept of the entry at k
-  known_at : (old : EndEntry) → maps.get old_ends k ≡ Some old → Known old
+  known_at : (old : EndEntry) → maps.get old_ends k ≡ Some old → EntryKept old
   known_at old found =
       let near : IsNear old_ends k old.near = near_here old_ends k old found in
       record {

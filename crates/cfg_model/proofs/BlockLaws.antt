@@ -1,34 +1,25 @@
 -- What is kept of blocks is kept under every event.
-use Rattle.std.proofs.Common.{◌≡◌, ◌≢◌, ℕ, List, Bool, true, false, not, ◌&&◌, ◌||◌, refl, sym, ap, subst, ◌∙◌, arith}
-use Rattle.std.specs.Prelude.{◌⊎◌, ◌==◌, Option, Some, None, IsSome, IsTrue, if◌then◌else◌}
-use Rattle.std.specs.Option.{option_map, option_map_or}
+use Rattle.std.proofs.Common.{◌≡◌, ◌≢◌, ℕ, List, Bool, true, false, refl, sym, ap, subst, ◌∙◌}
+use Rattle.std.specs.Prelude.{◌⊎◌, Option, Some, IsSome, if◌then◌else◌}
 use mathlib.Core.Logic.{inl, inr}
-use Rattle.std.specs.Ordering.{nat_cmp, eq_by_cmp}
-use Rattle.std.specs.Cmp.{nat_cmp_total, unsigned_tied}
-use Rattle.std.proofs.lemmas.Bool.{eqb-false, ne_eqb}
 use Rattle.std.specs.FinMap as maps
-use Rattle.std.specs.FinSet as sets
 use Rattle.cfg_model.specs.declared.state.Mark.TheVariants as marks
 use Rattle.cfg_model.specs.Instructions.{InstructionMap, IsLawful}
 use Rattle.cfg_model.specs.Chain.{OnChain, IsTerminator}
 use Rattle.cfg_model.specs.Reach.{Reached}
 use Rattle.cfg_model.specs.Leader.{IsLeader, StartsBlock}
 use Rattle.cfg_model.specs.Meeting.{IsStop}
-use Rattle.cfg_model.specs.State.{BuilderState, StartMap, EndMap, TerminatorMap, EndEntry, TerminatorEntry, IsStart, IsParsed, IsNear, IsMoved, StandsAt, IsEntered}
-use Rattle.cfg_model.specs.Event.{Event, Steps, Arrives, ArrivesAt, SplitsTo, with_start, with_parsed, with_displaced, with_settled, with_terminator, with_changed, entry_with_waiter, entry_with_told, entry_with_return, entry_with_done}
+use Rattle.cfg_model.specs.State.{BuilderState, StartMap, EndMap, TerminatorMap, TerminatorEntry, IsStart, IsParsed, IsNear, IsMoved, StandsAt, IsEntered}
+use Rattle.cfg_model.specs.Event.{Event, Steps, with_start, with_parsed, with_terminator, with_changed, entry_with_waiter, entry_with_told, entry_with_return, entry_with_done}
 use Rattle.cfg_model.specs.Fact.{Fact, Holds}
 use Rattle.cfg_model.specs.Reason.{May, EndsAStart, WantReason, ParsedReason, TerminatorReason}
 use Rattle.cfg_model.specs.Kept.{KeepsBlocks, ReturnedReturn}
 use Rattle.cfg_model.specs.StateLaws.{EventsKeepBlocks}
 use Rattle.cfg_model.proofs.MapFacts.{same_or_other, get_here, get_apart}
-use Rattle.cfg_model.proofs.StateReads.{near_here, near_is, moved_here, moved_is}
-use Rattle.cfg_model.proofs.ChainFacts.{chain_up, chain_on}
-use Rattle.cfg_model.proofs.Growth.{false_true}
-use Rattle.cfg_model.proofs.EndGrowth.{StandsIn, settled_here, settled_apart}
 use Rattle.cfg_model.proofs.FactLaws.{facts_last, parsed_more, terminator_more, stop_more}
 use Rattle.cfg_model.proofs.StatusLaws.{returns_along, changed_from, entered_from}
 use Rattle.cfg_model.proofs.ArrivalFacts.{EndsKept, EndsBack, arrival_back, settled_near, settled_moved, settled_stands}
-use Rattle.cfg_model.proofs.LeaderFacts.{reached_along, chain_order, meeting_leads, target_leads}
+use Rattle.cfg_model.proofs.LeaderFacts.{reached_along, target_leads}
 
 -- A reason to want an address makes it a leader.
 

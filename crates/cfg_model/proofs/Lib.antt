@@ -14,6 +14,7 @@ pub mod ShardLaws
 pub mod SoundLaws
 pub mod StepLaws
 pub mod MeetingLaws
+pub mod BroughtLaws
 pub mod SettledLaws
 pub mod ClosedLaws
 pub mod Rows

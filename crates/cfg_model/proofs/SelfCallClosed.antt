@@ -1,12 +1,11 @@
 -- Row 9: a run of events from the empty state to one in which nothing is left.
-use Rattle.std.proofs.Common.{◌≡◌, ◌≢◌, ℕ, List, [], ◌∷◌, Bool, true, false, refl, sym, ap, subst, ◌∙◌, arith}
-use Rattle.std.specs.Prelude.{◌⊎◌, Contains, Option, Some, None, IsSome, IsTrue, is_some}
-use Rattle.std.specs.Option.{option_map, option_map_or}
+use Rattle.std.proofs.Common.{◌≡◌, ◌≢◌, ℕ, List, [], ◌∷◌, true, false, refl, sym, ap, subst, ◌∙◌}
+use Rattle.std.specs.Prelude.{◌⊎◌, Option, Some, None, IsSome, IsTrue}
+use Rattle.std.specs.Option.{option_map_or}
 use mathlib.Core.Logic.{inl, inr}
 use Rattle.std.specs.Ordering.{nat_cmp}
 use Rattle.std.specs.FinMap as maps
 use Rattle.std.specs.FinSet as sets
-use Rattle.cfg_model.specs.declared.state.Mark.{Mark}
 use Rattle.cfg_model.specs.declared.state.Mark.TheVariants as marks
 use Rattle.cfg_model.specs.declared.state.Waiter.{Waiter}
 use Rattle.cfg_model.specs.Chain.{OnChain, IsTerminatorOf}
@@ -143,9 +142,27 @@ abbrev events : List Event
 events = Event.Want 0x10000 ∷ Event.Terminator 0x10000 ∷ Event.Arrive 0x10000 0x10000 ∷ Event.Parsed 0x10000 ∷ Event.Wait 0x10000 (released 0x10000) ∷ Event.EdgesDone 0x10000 ∷ []
 
 pub row_9_run : IsRun row_9 seeds empty_state events state_6
-row_9_run =
-    (state_1, may_1, step_1, (state_2, may_2, step_2, (state_3, may_3, step_3, (state_4, may_4, step_4,
-    (state_5, may_5, step_5, (state_6, may_6, step_6, refl))))))
+row_9_run = (
+  state_1,
+  may_1,
+  step_1,
+  (
+    state_2,
+    may_2,
+    step_2,
+    (
+      state_3,
+      may_3,
+      step_3,
+      (
+        state_4,
+        may_4,
+        step_4,
+        (state_5, may_5, step_5, (state_6, may_6, step_6, refl)),
+      ),
+    ),
+  ),
+)
 
 -- What the last state has at an address other than 10000: nothing.
 
@@ -171,6 +188,7 @@ stands_here k x stands = by (same_or_other k 0x10000)
     here : StandsAt ends_3 0x10000 x → 0x10000 ≡ x
     here (inl near) = near_is ends_3 0x10000 _ at_3 x near
     here (inr moved) = absurd (false_true (sym (sets.contains-empty nat_cmp x) ∙ moved_is ends_3 0x10000 _ at_3 x moved))
+
     by : (k ≡ 0x10000) ⊎ (k ≢ 0x10000) → 0x10000 ≡ x
     by (inl e) = here (subst (λ z. StandsAt ends_3 z x) e stands)
     by (inr apart) = absurd (none_stand x (subst (λ (o : Option EndEntry). StandsIn o x) (end_elsewhere k apart) stands))
@@ -189,6 +207,7 @@ left_over work (IsLeft.unparsed {s = s} wanted) =
   where
     parsed : Some marks.Parsed ≡ Some marks.Wanted → ⊥
     parsed e = cc
+
     missing : None ≡ Some marks.Wanted → ⊥
     missing e = cc
 left_over work (IsLeft.unstarted_stand k {x = x} stands missing) = missing (subst (IsStart starts_4) (stands_here k x stands) started)

@@ -1,5 +1,5 @@
 -- A kept state is sound, and what holds of a sound state is true of the program.
-use Rattle.std.proofs.Common.{◌≡◌, ℕ, List, Bool, true, false, refl, sym, ap, subst, ◌∙◌}
+use Rattle.std.proofs.Common.{◌≡◌, ℕ, List, false, refl, sym, ap, subst}
 use Rattle.std.specs.Prelude.{◌⊎◌, Option, Some, None, IsSome, IsTrue, is_some}
 use Rattle.cfg_model.specs.declared.state.Waiter.{Waiter}
 use Rattle.std.specs.Option.{option_map, option_map_or}
@@ -13,7 +13,7 @@ use Rattle.cfg_model.specs.Chain.{EndsChain}
 use Rattle.cfg_model.specs.Status.{Returns}
 use Rattle.cfg_model.specs.Leader.{IsLeader, StartsBlock}
 use Rattle.cfg_model.specs.Meeting.{IsStop}
-use Rattle.cfg_model.specs.State.{BuilderState, EndMap, EndEntry, TerminatorMap, TerminatorEntry, IsStart, IsNear, HasEnd, IsEntered, IsDone, IsReturned, WaitsAt}
+use Rattle.cfg_model.specs.State.{BuilderState, EndMap, EndEntry, TerminatorMap, TerminatorEntry, IsNear, IsEntered, IsReturned, WaitsAt}
 use Rattle.cfg_model.specs.Fact.{Fact, Holds, IsReachedTerminator, IsSoundWait, IsSoundFact, WhereCallFollows}
 use Rattle.cfg_model.specs.Reason.{EndReturns, EndsAStart, WantReason, ReturnedReason}
 use Rattle.cfg_model.specs.Kept.{IsKept}
@@ -24,7 +24,7 @@ use Rattle.cfg_model.proofs.StateReads.{near_here}
 use Rattle.cfg_model.proofs.Growth.{false_true, none_is_some, no_waiter}
 use Rattle.cfg_model.proofs.StatusLaws.{returns_along, changed_from, entered_from, waiter_waits_by, told_waits}
 use Rattle.cfg_model.proofs.LeaderFacts.{reached_along, target_leads}
-use Rattle.cfg_model.specs.Event.{Event, Steps, with_terminator, with_changed, with_settled, entry_with_waiter, entry_with_told, entry_with_return, entry_with_done}
+use Rattle.cfg_model.specs.Event.{Event, with_terminator, with_changed, with_settled, entry_with_waiter, entry_with_told, entry_with_return, entry_with_done}
 use Rattle.cfg_model.specs.Reach.{Reached}
 use Rattle.cfg_model.specs.Waiter.{follower}
 use Rattle.cfg_model.specs.Waits.{FollowsFrom}

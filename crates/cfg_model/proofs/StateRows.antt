@@ -343,14 +343,55 @@ walk =
     ∷ walk_2
 
 row_23_end : IsRun row_8 seeds state_10 walk_3 state_16
-row_23_end =
-    (state_12, may_12, step_12, (state_13, may_13, step_13, (state_14, may_14, step_14, (state_14, may_15, step_15,
-    (state_16, may_16, step_16, refl)))))
+row_23_end = (
+  state_12,
+  may_12,
+  step_12,
+  (
+    state_13,
+    may_13,
+    step_13,
+    (
+      state_14,
+      may_14,
+      step_14,
+      (
+        state_14,
+        may_15,
+        step_15,
+        (state_16, may_16, step_16, refl),
+      ),
+    ),
+  ),
+)
 
 row_23_split : IsRun row_8 seeds state_4 walk_2 state_16
-row_23_split =
-    (state_6, may_6, step_6, (state_7, may_7, step_7, (state_8, may_8, step_8, (state_9, may_9, step_9, (state_10, may_10, step_10,
-    (state_10, may_11, step_11, row_23_end))))))
+row_23_split = (
+  state_6,
+  may_6,
+  step_6,
+  (
+    state_7,
+    may_7,
+    step_7,
+    (
+      state_8,
+      may_8,
+      step_8,
+      (
+        state_9,
+        may_9,
+        step_9,
+        (
+          state_10,
+          may_10,
+          step_10,
+          (state_10, may_11, step_11, row_23_end),
+        ),
+      ),
+    ),
+  ),
+)
 
 -- they are a run from the empty state, and lead to the last state above
 pub row_23 : IsRun row_8 seeds empty_state walk state_16

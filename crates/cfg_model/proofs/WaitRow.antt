@@ -7,12 +7,12 @@ use Rattle.cfg_model.specs.declared.state.Mark.TheVariants as marks
 use Rattle.cfg_model.specs.Chain.{OnChain, IsTerminatorOf}
 use Rattle.cfg_model.specs.Successors.{IsSuccessor, IsCall}
 use Rattle.cfg_model.specs.Waiter.{follower, released}
-use Rattle.cfg_model.specs.Waits.{FollowsFrom, IsReleasedBy, IsTarget}
+use Rattle.cfg_model.specs.Waits.{FollowsFrom, IsTarget}
 use Rattle.cfg_model.specs.Event.{Event, Steps, new_entry}
 use Rattle.cfg_model.specs.Reason.{May, EndsAStart, WantReason, EndReturns}
 use Rattle.cfg_model.specs.Fact.{Holds}
 use Rattle.cfg_model.specs.Run.{IsRun}
-use Rattle.cfg_model.specs.State.{BuilderState, StartMap, TerminatorMap, TerminatorEntry, empty_state, IsStart, IsReturned, IsTold}
+use Rattle.cfg_model.specs.State.{BuilderState, StartMap, TerminatorMap, TerminatorEntry, empty_state, IsStart}
 use Rattle.cfg_model.proofs.WaiterOrder.{waiter_cmp_total}
 use Rattle.cfg_model.proofs.Rows.{row_10}
 
@@ -328,22 +328,64 @@ opening =
     ∷ Event.Want 0x10004 ∷ Event.Terminator 0x10004 ∷ Event.Want 0x1000c ∷ Event.Terminator 0x1000c ∷ waits
 
 tells : IsRun row_10 seeds (state_of starts_4 returned_2) telling (state_of starts_5 told_2)
-tells =
-    (state_of starts_4 told_1, may_tell_1, step_tell_1, (state_of starts_5 told_1, may_fall, step_fall, (state_of starts_5 released_1, may_enter, step_enter,
-    (state_of starts_5 released_2, may_follow, step_follow, (state_of starts_5 told_2, may_tell_2, step_tell_2, refl)))))
+tells = (
+  state_of starts_4 told_1,
+  may_tell_1,
+  step_tell_1,
+  (
+    state_of starts_5 told_1,
+    may_fall,
+    step_fall,
+    (
+      state_of starts_5 released_1,
+      may_enter,
+      step_enter,
+      (state_of starts_5 released_2, may_follow, step_follow, (state_of starts_5 told_2, may_tell_2, step_tell_2, refl)),
+    ),
+  ),
+)
 
 waits_then : IsRun row_10 seeds opened waits (state_of starts_5 told_2)
-waits_then =
-    (state_of starts_4 waiting_1, may_wait_1, step_wait_1, (state_of starts_4 waiting_2, may_wait_2, step_wait_2, (state_of starts_4 waiting_3, may_wait_3, step_wait_3,
-    (state_of starts_4 returned_1, may_return_1, step_return_1, (state_of starts_4 returned_2, may_return_2, step_return_2, tells)))))
+waits_then = (
+  state_of starts_4 waiting_1,
+  may_wait_1,
+  step_wait_1,
+  (
+    state_of starts_4 waiting_2,
+    may_wait_2,
+    step_wait_2,
+    (
+      state_of starts_4 waiting_3,
+      may_wait_3,
+      step_wait_3,
+      (state_of starts_4 returned_1, may_return_1, step_return_1, (state_of starts_4 returned_2, may_return_2, step_return_2, tells)),
+    ),
+  ),
+)
 
 opens_last : IsRun row_10 seeds (state_of starts_2 entered_2) (Event.Want 0x10004 ∷ Event.Terminator 0x10004 ∷ Event.Want 0x1000c ∷ Event.Terminator 0x1000c ∷ waits) (state_of starts_5 told_2)
-opens_last =
-    (state_of starts_3 entered_2, may_open_5, step_open_5, (state_of starts_3 entered_3, may_open_6, step_open_6,
-    (state_of starts_4 entered_3, may_open_7, step_open_7, (opened, may_open_8, step_open_8, waits_then))))
+opens_last = (
+  state_of starts_3 entered_2,
+  may_open_5,
+  step_open_5,
+  (
+    state_of starts_3 entered_3,
+    may_open_6,
+    step_open_6,
+    (state_of starts_4 entered_3, may_open_7, step_open_7, (opened, may_open_8, step_open_8, waits_then)),
+  ),
+)
 
 -- they are a run from the empty state
 pub row_10_waits : IsRun row_10 seeds empty_state opening (state_of starts_5 told_2)
-row_10_waits =
-    (state_of starts_1 maps.empty, may_open_1, step_open_1, (state_of starts_1 entered_1, may_open_2, step_open_2,
-    (state_of starts_2 entered_1, may_open_3, step_open_3, (state_of starts_2 entered_2, may_open_4, step_open_4, opens_last))))
+row_10_waits = (
+  state_of starts_1 maps.empty,
+  may_open_1,
+  step_open_1,
+  (
+    state_of starts_1 entered_1,
+    may_open_2,
+    step_open_2,
+    (state_of starts_2 entered_1, may_open_3, step_open_3, (state_of starts_2 entered_2, may_open_4, step_open_4, opens_last)),
+  ),
+)

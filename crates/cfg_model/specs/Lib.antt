@@ -24,5 +24,6 @@ pub mod Shard
 pub mod Sound
 pub mod Shown
 pub mod Run
+pub mod Brought
 pub mod StateLaws
 pub mod StateCode

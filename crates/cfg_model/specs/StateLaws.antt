@@ -1,11 +1,12 @@
 -- The laws of a builder's state, as statements: what later crates prove on their public functions.
-use Rattle.std.specs.Prelude.{◌≡◌, ◌≢◌, ◌↔◌, ℕ, List}
+use Rattle.std.specs.Prelude.{◌≡◌, ◌≢◌, ◌↔◌, ℕ, List, Contains}
 use Rattle.cfg_model.specs.Instructions.{InstructionMap, IsLawful}
 use Rattle.cfg_model.specs.Meeting.{IsMeeting, IsFirstStop}
 use Rattle.cfg_model.specs.Event.{Event, Steps}
 use Rattle.cfg_model.specs.Fact.{Fact, Holds, IsSoundFact}
 use Rattle.cfg_model.specs.Reason.{Reason, May}
-use Rattle.cfg_model.specs.State.{BuilderState, empty_state, IsStart, IsNear}
+use Rattle.cfg_model.specs.State.{BuilderState, empty_state, IsStart, IsNear, StandsAt}
+use Rattle.cfg_model.specs.Brought.{facts_of}
 use Rattle.cfg_model.specs.Left.{HasNothingLeft, IsSettled}
 use Rattle.cfg_model.specs.Kept.{KeepsBlocks, KeepsStatus, ReturnedReturn, IsKept, IsClosed}
 use Rattle.cfg_model.specs.Shard.{Shard, shard_of_event, IsBacked}
@@ -30,6 +31,14 @@ FactsLast = (map : InstructionMap) (seeds : List ℕ) → IsLawful map → (old 
 
 abbrev pub ReasonsLast : Type 0
 ReasonsLast = (map : InstructionMap) (seeds : List ℕ) → IsLawful map → (old : BuilderState) (event : Event) (new : BuilderState) → May map seeds old event → Steps map old event new → (other : Event) → Reason map seeds (Holds map old) other → Reason map seeds (Holds map new) other
+
+-- What an event brings holds after it. And what is read at an end is known: where x stands at k, k has
+-- an entry, and x is anchored at or before k.
+abbrev pub EventsBringFacts : Type 0
+EventsBringFacts = (map : InstructionMap) (seeds : List ℕ) (old : BuilderState) (event : Event) (new : BuilderState) → May map seeds old event → Steps map old event new → (fact : Fact) → Contains (facts_of event) fact → Holds map new fact
+
+abbrev pub StandingIsKnown : Type 0
+StandingIsKnown = (map : InstructionMap) (seeds : List ℕ) (state : BuilderState) (k x : ℕ) → KeepsBlocks map seeds state → StandsAt state.ends k x → Holds map state (Fact.End k) × Holds map state (Fact.Anchored x k)
 
 -- The empty state is kept.
 abbrev pub EmptyIsKept : Type 0
