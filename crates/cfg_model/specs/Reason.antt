@@ -1,4 +1,6 @@
--- Why a builder may make an event: the reason that each of the nine needs, from what is known.
+-- Why a builder may make an event: the reason that each of the nine needs, from what is known (this
+-- project's profile). Known says which facts are known: those that hold of a state, those that a worker
+-- has seen, or those that are true of the program.
 use Rattle.std.specs.Prelude.{◌≢◌, ℕ, List, Contains, Some, ◌⊎◌}
 use Rattle.cfg_model.specs.declared.state.WaitKind.{WaitKind}
 use Rattle.cfg_model.specs.declared.state.WaitKind.TheVariants.{Follow, Release}
@@ -19,13 +21,15 @@ pub record EndReturns (map : InstructionMap) (Known : Fact → Type 0) (t : ℕ)
   pub ends : IsTerminatorOf map t end
   pub returned : Known (Fact.Returned end)
 
--- k ends the chain of a start: of one that is known, or k is known to be entered.
+-- k ends the chain of a start: of one that is known, or k is known to be entered. In a kept state the
+-- second says no more than the first.
 pub data EndsAStart (map : InstructionMap) (Known : Fact → Type 0) (k : ℕ) : Type 0 where
   start : {t : ℕ} → Known (Fact.Start t) → IsTerminatorOf map t k → EndsAStart map Known k
   entered : Known (Fact.Terminator k) → EndsAStart map Known k
 
 -- s may be wanted: it is a seed; or a target of a terminator that ends a start's chain; or the fall of
--- such a call whose target's chain ends in a return that is known; or it stands at some end.
+-- such a call whose target's chain ends in a return that is known; or it stands at an end, of which
+-- where it is anchored is the fact.
 pub data WantReason (map : InstructionMap) (seeds : List ℕ) (Known : Fact → Type 0) (s : ℕ) : Type 0 where
   seed : Contains seeds s → WantReason map seeds Known s
   target : {k : ℕ} → EndsAStart map Known k → IsTarget map k s → WantReason map seeds Known s
