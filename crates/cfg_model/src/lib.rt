@@ -4,6 +4,7 @@
 //!   from addresses to instructions.
 //! - [`graph`]: functions, basic blocks and edges as plain data, and their lists.
 //! - [`laws`]: laws of these definitions, above all that a program has one graph.
+//! - [`state`]: what a builder notes of a start and of a terminator that waits.
 //! - `specs/`: chains, return status, reachable addresses, leaders, blocks, edges, functions and
 //!   the graph of a program, as definitions on the map alone.
 #![tactic(auto)]
@@ -13,6 +14,7 @@ pub mod graph;
 pub mod laws;
 pub mod memory;
 pub mod plain;
+pub mod state;
 
 pub use flow::{Chains, Flow};
 pub use graph::{
@@ -21,3 +23,4 @@ pub use graph::{
 pub use laws::one_graph;
 pub use memory::Memory;
 pub use plain::plain_graph;
+pub use state::{Mark, WaitKind, Waiter};
