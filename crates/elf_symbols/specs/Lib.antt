@@ -1,2 +1,7 @@
 pub mod Seeds
 pub mod Index
+pub mod Tables
+pub mod Symbols
+pub mod Names
+pub mod Found
+pub mod Merged

@@ -10,8 +10,12 @@ ghost use Rattle.elf_image.specs.Seeds as spec;
 ghost use Rattle.elf_image.specs.Faults.{first_fault, first_symbol_fault};
 ghost use Rattle.elf_image.specs.Outcome.{IfMalformed};
 ghost use Rattle.elf_symbols.specs.Seeds.{addresses_of, name_in, LiesIn};
+ghost use Rattle.elf_symbols.specs.Found.{AreFound};
 
-use crate::seed::Seeds;
+use crate::merge::{by_address, merged};
+use crate::seed::{Seed, Seeds};
+use crate::symbol::symbol_seeds;
+use crate::table::symbol_table;
 use elf_image::{ElfError, Image};
 use std::alloc::Global;
 
@@ -36,7 +40,24 @@ pub fn seeds(alloc: Global, image: &Image) -> Result<Seeds, ElfError>
     ensures malformed { IfErr result (λ e. IfMalformed e (λ f. first_fault image.now ≡ Some f)) }
     ensures of_symbols { IfErr result (λ e. IfMalformed e (λ f. first_symbol_fault image.now ≡ Some f)) }
 {
-    let _ = alloc;
-    let _ = image.entry();
-    Err(ElfError::Memory)
+    let sorted = by_address(found(alloc, image)?);
+    let seeds = merged(alloc, image, &sorted)?;
+    Ok(Seeds::new(alloc, seeds)?)
+}
+
+/// The seeds of the symbols, and the entry.
+fn found(alloc: Global, image: &Image) -> Result<Vec<Seed>, ElfError>
+    ensures found { IfOk result (λ v. AreFound image.now v.items) }
+    ensures good { OnOk result (first_symbol_fault image.now ≡ None) }
+    ensures bad { IfErr result (λ e. IfMalformed e (λ f. first_symbol_fault image.now ≡ Some f)) }
+{
+    let mut seeds = match symbol_table(image).map_err(ElfError::Malformed)? {
+        Some(table) => symbol_seeds(alloc, image, &table)?,
+        None => Vec::new(alloc),
+    };
+    seeds.push(Seed {
+        address: image.entry(),
+        name: None,
+    })?;
+    Ok(seeds)
 }

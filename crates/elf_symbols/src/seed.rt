@@ -1,10 +1,11 @@
 //! Seeds and their names.
 
-ghost use Rattle.std.specs.Prelude.{◌≡◌};
+ghost use Rattle.std.specs.Prelude.{◌≡◌, IfOk};
 ghost use Rattle.std.specs.List.Sorted.{IsStrictlyIncreasing};
 ghost use Rattle.elf_symbols.specs.Seeds.{addresses_of, name_in};
 
 use elf_image::Span;
+use std::alloc::{AllocError, Global};
 use std::marker::Model;
 
 /// An address from which control flow is followed.
@@ -38,6 +39,15 @@ impl Model for Seeds {
 }
 
 impl Seeds {
+    /// Prepares seeds whose addresses rise.
+    pub(crate) fn new(alloc: Global, seeds: Vec<Seed>) -> Result<Seeds, AllocError>
+        requires { IsStrictlyIncreasing (addresses_of seeds.items) }
+        ensures { IfOk result (λ s. s ≡ seeds.items) }
+    {
+        let addresses = seeds.iter().map(|s| s.address).collect(alloc)?;
+        Ok(Seeds { seeds, addresses })
+    }
+
     /// The addresses, rising, each once.
     pub fn addresses(&self) -> &[u64]
         ensures addresses { result.now ≡ addresses_of self.now }

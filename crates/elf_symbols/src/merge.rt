@@ -1,0 +1,73 @@
+//! Seeds of equal addresses become one.
+
+ghost use Rattle.std.specs.Prelude.{◌≡◌, ℕ, ◌≤◌, ◌++◌, [], ◌∷◌, IfOk, IfSome, OnOk, All};
+ghost use Rattle.std.specs.List.Sorted.{IsNonDecreasingBy, IsPermutation};
+ghost use Rattle.std.specs.Option.{option_map};
+ghost use Rattle.elf_image.specs.ReadOnly.{span_bytes};
+ghost use Rattle.elf_image.specs.Seeds.{lesser};
+ghost use Rattle.elf_symbols.specs.Seeds.{LiesIn, text_of};
+ghost use Rattle.elf_symbols.specs.Names.{lesser_name};
+ghost use Rattle.elf_symbols.specs.Merged.{AreMerged};
+
+use crate::seed::Seed;
+use elf_image::{Image, Span};
+use std::alloc::{AllocError, Global};
+
+/// The lesser of two names by the order of their bytes.
+fn lesser_span(image: &Image, s: Span, t: Span) -> Span
+    requires first { LiesIn image.now s }
+    requires second { LiesIn image.now t }
+    ensures text { span_bytes image.now result ≡ lesser (span_bytes image.now s) (span_bytes image.now t) }
+    ensures lies { LiesIn image.now result }
+{
+    if image.bytes(t).cmp(image.bytes(s)).is_lt() {
+        t
+    } else {
+        s
+    }
+}
+
+/// The lesser of two names, where there are two.
+fn lesser_name(image: &Image, s: Option<Span>, t: Option<Span>) -> Option<Span>
+    requires first { IfSome s (LiesIn image.now) }
+    requires second { IfSome t (LiesIn image.now) }
+    ensures text { option_map (span_bytes image.now) result
+        ≡ lesser_name (option_map (span_bytes image.now) s) (option_map (span_bytes image.now) t) }
+    ensures lies { IfSome result (LiesIn image.now) }
+{
+    match (s, t) {
+        (Some(s), Some(t)) => Some(lesser_span(image, s, t)),
+        (Some(s), None) => Some(s),
+        (None, t) => t,
+    }
+}
+
+/// The seeds in the order of their addresses.
+pub(crate) fn by_address(mut seeds: Vec<Seed>) -> Vec<Seed>
+    ensures permutation { IsPermutation seeds.items result.items }
+    ensures sorted { IsNonDecreasingBy (λ s. s.address) result.items }
+{
+    seeds.sort_unstable_by_key(|s| s.address);
+    seeds
+}
+
+/// The seeds, each address once. `sorted` are in the order of their addresses.
+pub(crate) fn merged(
+    alloc: Global,
+    image: &Image,
+    sorted: &[Seed],
+) -> Result<Vec<Seed>, AllocError>
+    requires sorted { IsNonDecreasingBy (λ s. s.address) sorted.now }
+    requires lie { All (λ s. IfSome s.name (LiesIn image.now)) sorted.now }
+    ensures { IfOk result (λ v. AreMerged image.now sorted.now v.items) }
+{
+    let mut merged: Vec<Seed> = Vec::new(alloc);
+    for seed in sorted {
+        let mut seed = *seed;
+        if let Some(last) = merged.pop_if(|last| last.address == seed.address) {
+            seed.name = lesser_name(image, last.name, seed.name);
+        }
+        merged.push(seed)?;
+    }
+    Ok(merged)
+}
