@@ -31,6 +31,7 @@ pub(crate) struct Symbol {
 }
 
 /// The symbol at an offset of a symbol table.
+#[tactic(auto, unfolding(elf_image::specs::Symbols::symbol_at))]
 fn symbol_at(symbols: &[u8], at: usize) -> Symbol
     requires { at + 24 ≤ length symbols.now }
     ensures { symbol_of result ≡ spec.symbol_at symbols.now at }
@@ -80,6 +81,7 @@ fn code_section(image: &Image, i: u16) -> Option<Section>
 }
 
 /// Whether a symbol is that of a function at a code address of the code section which it names.
+#[tactic(auto, unfolding(elf_image::specs::Symbols::is_seed_symbol))]
 fn is_seed_symbol(image: &Image, s: &Symbol) -> bool
     ensures { result ≡ spec.is_seed_symbol image.now (symbol_of s.now) }
 {
@@ -96,7 +98,18 @@ fn is_seed_symbol(image: &Image, s: &Symbol) -> bool
 fn string_len(strings: &[u8], at: u32) -> Option<usize>
     ensures { result ≡ position (λ b. b == 0) (drop at strings.now) }
 {
-    strings.get(at as usize..)?.iter().position(|b| *b == 0)
+    let at = at as usize;
+    if at > strings.len() {
+        return None;
+    }
+    first_zero(&strings[at..])
+}
+
+/// The place of the first zero byte.
+fn first_zero(bytes: &[u8]) -> Option<usize>
+    ensures { result ≡ position (λ b. b == 0) bytes.now }
+{
+    bytes.iter().position(|b| *b == 0)
 }
 
 /// The seed of a symbol; `None` where its name does not stand in the string table.

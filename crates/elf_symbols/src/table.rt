@@ -26,6 +26,7 @@ pub(crate) struct SymbolTable {
 }
 
 /// How many symbol tables a file has.
+#[tactic(auto, using(crate::proofs::Tables::count_more), unfolding(elf_image::specs::Symbols::symbol_tables, elf_image::specs::Sections::sections))]
 fn table_count(image: &Image) -> u32
     ensures { result ≡ length (spec.symbol_tables image.now) }
 {

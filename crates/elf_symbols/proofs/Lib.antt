@@ -1,0 +1,8 @@
+pub mod Parts
+pub mod Strings
+pub mod Members
+pub mod Rising
+pub mod Tables
+pub mod Pass
+pub mod LeastName
+pub mod FindSeed
