@@ -7,6 +7,7 @@ use Rattle.std.specs.declared.cmp.Ordering.TheVariants.{Less, Equal, Greater}
 use Rattle.std.proofs.lemmas.Bool.{cases_Bool, both_ways}
 use Rattle.std.proofs.lemmas.Cmp.{nat_list_cmp_total, tied_itself}
 use Rattle.std.proofs.lemmas.Option.{IfSome_then}
+use Rattle.elf_image.specs.Seeds.{lesser}
 use Rattle.elf_symbols.specs.declared.seed.Seed.{Seed}
 use Rattle.elf_symbols.specs.Seeds.{text_of}
 use Rattle.elf_symbols.specs.Names.{lesser_name, IsNoLess, IsLeastName}
@@ -74,6 +75,25 @@ if_some (Some t) P h = h t refl
 pub lesser-none : (o : Option (List ℕ)) → lesser_name o None ≡ o
 lesser-none None = refl
 lesser-none (Some s) = refl
+
+-- the order of two names does not matter
+lesser-comm : (s t : List ℕ) → lesser s t ≡ lesser t s
+lesser-comm s t = elim (cases_Bool (less t s)) [
+  | inl below ↦ elim (cases_Bool (less s t)) [
+    | inl over ↦ absurd (both_ways (less s s) (not_itself s) (less_trans s t s over below))
+    | inr above ↦ rw (below, above) refl
+  ]
+  | inr above ↦ elim (cases_Bool (less s t)) [
+    | inl over ↦ rw (above, over) refl
+    | inr under ↦ rw (above, under) (same_texts s t under above)
+  ]
+]
+
+pub lesser_name-comm : (o p : Option (List ℕ)) → lesser_name o p ≡ lesser_name p o
+lesser_name-comm None None = refl
+lesser_name-comm None (Some t) = refl
+lesser_name-comm (Some s) None = refl
+lesser_name-comm (Some s) (Some t) = ap Some (lesser-comm s t)
 
 -- there is one least name at most
 pub least-unique : (bytes : List ℕ) (In : Seed → Type 0) (a : ℕ) (o p : Option (List ℕ)) → IsLeastName bytes In a o → IsLeastName bytes In a p → o ≡ p

@@ -6,3 +6,4 @@ pub mod Tables
 pub mod Pass
 pub mod LeastName
 pub mod FindSeed
+pub mod MergeStep

@@ -48,16 +48,16 @@ ascends-same (x ∷ xs) (y ∷ ys) a b to fro =
     let same : x ≡ y = first_same (Contains-cons_cases y ys x (to x (Contains-here x xs))) (Contains-cons_cases x xs y (fro y (Contains-here y ys))) in
     ap₂ (λ z zs. z ∷ zs) same
     (ascends-same xs ys a.1 b.1
-    (λ z there. rest (a.0 z there) (sym same) (Contains-cons_cases y ys z (to z (Contains-later x xs z there))))
-    (λ z there. rest (b.0 z there) same (Contains-cons_cases x xs z (fro z (Contains-later y ys z there)))))
+    (λ z there. rest x y z ys (a.0 z there) (sym same) (Contains-cons_cases y ys z (to z (Contains-later x xs z there))))
+    (λ z there. rest y x z xs (b.0 z there) same (Contains-cons_cases x xs z (fro z (Contains-later y ys z there)))))
   where
     first_same : (y ≡ x) ⊎ Contains ys x → (x ≡ y) ⊎ Contains xs y → x ≡ y
     first_same (inl e) o = sym e
     first_same (inr there) (inl e) = e
     first_same (inr there) (inr here) = let up = b.0 x there in let down = a.0 y here in absurd (omega arith)
-    rest : {u v z : ℕ} {zs : List ℕ} → u < z → v ≡ u → (v ≡ z) ⊎ Contains zs z → Contains zs z
-    rest less e (inl is) = absurd (omega arith)
-    rest less e (inr there) = there
+    rest : (u v z : ℕ) (zs : List ℕ) → u < z → v ≡ u → (v ≡ z) ⊎ Contains zs z → Contains zs z
+    rest u v z zs less e (inl is) = absurd (omega arith)
+    rest u v z zs less e (inr there) = there
 
 -- one more number in its place
 with_less : (a x : ℕ) (xs : List ℕ) → a < x → with_number a (x ∷ xs) ≡ a ∷ x ∷ xs
@@ -72,20 +72,20 @@ with_more a x xs more = rw (le-ltb a x (omega arith), ne_eqb a x (λ e. omega ar
 with_here : (a : ℕ) (xs : List ℕ) → Contains (with_number a xs) a
 with_here a [] = Contains-here a []
 with_here a (x ∷ xs) = elim (cases_order a x) [
-  | inl same ↦ rw with_same a x xs same (0, omega arith, sym same)
+  | inl same ↦ rw (with_same a x xs same) (0, omega arith, sym same)
   | inr other ↦ elim other [
-    | inl less ↦ rw with_less a x xs less (Contains-here a (x ∷ xs))
-    | inr more ↦ rw with_more a x xs more (Contains-later x (with_number a xs) a (with_here a xs))
+    | inl less ↦ rw (with_less a x xs less) (Contains-here a (x ∷ xs))
+    | inr more ↦ rw (with_more a x xs more) (Contains-later x (with_number a xs) a (with_here a xs))
   ]
 ]
 
 with_later : (a : ℕ) (xs : List ℕ) (z : ℕ) → Contains xs z → Contains (with_number a xs) z
 with_later a [] z there = absurd (no-member z there)
 with_later a (x ∷ xs) z there = elim (cases_order a x) [
-  | inl same ↦ rw with_same a x xs same there
+  | inl same ↦ rw (with_same a x xs same) there
   | inr other ↦ elim other [
-    | inl less ↦ rw with_less a x xs less (Contains-later a (x ∷ xs) z there)
-    | inr more ↦ rw with_more a x xs more (elim (Contains-cons_cases x xs z there) [
+    | inl less ↦ rw (with_less a x xs less) (Contains-later a (x ∷ xs) z there)
+    | inr more ↦ rw (with_more a x xs more) (elim (Contains-cons_cases x xs z there) [
       | inl is ↦ (0, omega arith, is)
       | inr later ↦ Contains-later x (with_number a xs) z (with_later a xs z later)
     ])
@@ -95,10 +95,10 @@ with_later a (x ∷ xs) z there = elim (cases_order a x) [
 with_cases : (a : ℕ) (xs : List ℕ) (z : ℕ) → Contains (with_number a xs) z → (a ≡ z) ⊎ Contains xs z
 with_cases a [] z there = Contains-cons_cases a [] z there
 with_cases a (x ∷ xs) z there = elim (cases_order a x) [
-  | inl same ↦ inr (rw with_same a x xs same at there)
+  | inl same ↦ inr (rw (with_same a x xs same) at there)
   | inr other ↦ elim other [
-    | inl less ↦ Contains-cons_cases a (x ∷ xs) z (rw with_less a x xs less at there)
-    | inr more ↦ elim (Contains-cons_cases x (with_number a xs) z (rw with_more a x xs more at there)) [
+    | inl less ↦ Contains-cons_cases a (x ∷ xs) z (rw (with_less a x xs less) at there)
+    | inr more ↦ elim (Contains-cons_cases x (with_number a xs) z (rw (with_more a x xs more) at there)) [
       | inl is ↦ inr (0, omega arith, is)
       | inr later ↦ elim (with_cases a xs z later) [
         | inl is ↦ inl is
@@ -111,13 +111,13 @@ with_cases a (x ∷ xs) z there = elim (cases_order a x) [
 with_ascends : (a : ℕ) (xs : List ℕ) → Ascends xs → Ascends (with_number a xs)
 with_ascends a [] up = (λ y there. absurd (no-member y there), tt)
 with_ascends a (x ∷ xs) up = elim (cases_order a x) [
-  | inl same ↦ rw with_same a x xs same up
+  | inl same ↦ rw (with_same a x xs same) up
   | inr other ↦ elim other [
-    | inl less ↦ rw with_less a x xs less (λ y there. elim (Contains-cons_cases x xs y there) [
+    | inl less ↦ rw (with_less a x xs less) (λ y there. elim (Contains-cons_cases x xs y there) [
       | inl is ↦ omega arith
       | inr later ↦ let above = up.0 y later in omega arith
     ], up)
-    | inr more ↦ rw with_more a x xs more (λ y there. elim (with_cases a xs y there) [
+    | inr more ↦ rw (with_more a x xs more) (λ y there. elim (with_cases a xs y there) [
       | inl is ↦ omega arith
       | inr later ↦ up.0 y later
     ], with_ascends a xs up.1)

@@ -1,6 +1,7 @@
 -- Symbol tables among the sections of a file.
 use Rattle.std.proofs.Common.{◌≡◌, ℕ, ◌+◌, ◌<◌, ◌≤◌, Bool, true, false, ◌||◌, cond, nat_lt, List, [], ◌∷◌, map, length, get_or, refl, sym, ap, ◌∙◌, arith, inl, inr, Option, Some, None}
 use Rattle.std.specs.List.{filter, find, list_any, range_with_len}
+use Rattle.std.specs.Option.{option_map_or}
 use Rattle.std.proofs.lemmas.Bool.{cases_Bool, or_left, lt-ltb}
 use Rattle.std.proofs.lemmas.List.{length-append}
 use Rattle.std.proofs.lemmas.List.FromFn.{filter_of_map_range_with_len_more}
@@ -9,7 +10,7 @@ use Rattle.elf_image.specs.Header.{section_count}
 use Rattle.elf_image.specs.Sections.{section, sections, is_symbol_table}
 use Rattle.elf_image.specs.Symbols.{symbol_table, symbol_tables}
 use Rattle.elf_image.specs.declared.fault.Fault.TheVariants.{SymbolTable, SymbolName}
-use Rattle.elf_image.specs.FaultTests.{is_bad_symbol_table, has_bad_symbol_table}
+use Rattle.elf_image.specs.FaultTests.{is_bad_symbol_table, has_bad_symbol_table, has_bad_name_in, has_bad_symbol_name}
 use Rattle.elf_image.specs.Faults.{has_fault, first_among, first_symbol_fault}
 use Rattle.elf_image.proofs.Finds.{find-at, find-none}
 use Rattle.elf_image.proofs.Ranges.{any-none, length-sections, get_or-sections}
@@ -104,3 +105,12 @@ module _ (bytes : List ℕ) where
   pub first-none : has_fault bytes SymbolTable ≡ false → has_fault bytes SymbolName ≡ false → first_symbol_fault bytes ≡ None
   unfolding first_symbol_fault first_among
   first-none good good' = rw (good, good') refl
+
+  -- the names of the symbols, where there is a table and where there is none
+  pub names-of_table : (s : Section) → symbol_table bytes ≡ Some s → has_fault bytes SymbolName ≡ has_bad_name_in bytes s
+  unfolding has_fault has_bad_symbol_name
+  names-of_table s found = ap (λ o. option_map_or (has_bad_name_in bytes) o false) found
+
+  pub names-no_table : symbol_table bytes ≡ None → has_fault bytes SymbolName ≡ false
+  unfolding has_fault has_bad_symbol_name
+  names-no_table none = ap (λ o. option_map_or (has_bad_name_in bytes) o false) none

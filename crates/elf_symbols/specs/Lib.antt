@@ -3,5 +3,4 @@ pub mod Index
 pub mod Tables
 pub mod Symbols
 pub mod Names
-pub mod Found
 pub mod Merged

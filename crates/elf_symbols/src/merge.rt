@@ -1,13 +1,13 @@
 //! Seeds of equal addresses become one.
 
-ghost use Rattle.std.specs.Prelude.{◌≡◌, ℕ, ◌≤◌, ◌++◌, [], ◌∷◌, IfOk, IfSome, OnOk, All};
+ghost use Rattle.std.specs.Prelude.{◌≡◌, ℕ, ◌≤◌, ◌++◌, [], ◌∷◌, IfOk, IfSome, IfNone, OnOk, All};
 ghost use Rattle.std.specs.List.Sorted.{IsNonDecreasingBy, IsPermutation};
 ghost use Rattle.std.specs.Option.{option_map};
 ghost use Rattle.elf_image.specs.ReadOnly.{span_bytes};
 ghost use Rattle.elf_image.specs.Seeds.{lesser};
 ghost use Rattle.elf_symbols.specs.Seeds.{LiesIn, text_of};
 ghost use Rattle.elf_symbols.specs.Names.{lesser_name};
-ghost use Rattle.elf_symbols.specs.Merged.{AreMerged};
+ghost use Rattle.elf_symbols.specs.Merged.{AreMerged, EndsElsewhere, AddsSeed};
 
 use crate::seed::Seed;
 use elf_image::{Image, Span};
@@ -51,6 +51,34 @@ pub(crate) fn by_address(mut seeds: Vec<Seed>) -> Vec<Seed>
     seeds
 }
 
+/// Takes the last of some seeds, if it stands at `a`.
+fn pop_at(seeds: &mut Vec<Seed>, a: u64) -> Option<Seed>
+    ensures taken { IfSome result (λ last. seeds.old.items ≡ seeds.new.items ++ last ∷ []) }
+    ensures at { IfSome result (λ last. last.address ≡ a) }
+    ensures kept { IfNone result (seeds.new.items ≡ seeds.old.items) }
+    ensures elsewhere { IfNone result (EndsElsewhere seeds.old.items a) }
+{
+    let last = *seeds.last()?;
+    if last.address == a { seeds.pop() } else { None }
+}
+
+/// Adds a seed to merged seeds, none of which stands at a higher address.
+fn add(image: &Image, merged: &mut Vec<Seed>, seed: Seed) -> Result<(), AllocError>
+    requires lie { All (λ s. IfSome s.name (LiesIn image.now)) merged.old.items }
+    requires lies { IfSome seed.name (LiesIn image.now) }
+    ensures { OnOk result (AddsSeed image.now seed merged.old.items merged.new.items) }
+{
+    let mut name = seed.name;
+    if let Some(last) = pop_at(merged, seed.address) {
+        name = lesser_name(image, last.name, name);
+    }
+    merged.push(Seed {
+        address: seed.address,
+        name,
+    })?;
+    Ok(())
+}
+
 /// The seeds, each address once. `sorted` are in the order of their addresses.
 pub(crate) fn merged(
     alloc: Global,
@@ -63,11 +91,7 @@ pub(crate) fn merged(
 {
     let mut merged: Vec<Seed> = Vec::new(alloc);
     for seed in sorted {
-        let mut seed = *seed;
-        if let Some(last) = merged.pop_if(|last| last.address == seed.address) {
-            seed.name = lesser_name(image, last.name, seed.name);
-        }
-        merged.push(seed)?;
+        add(image, &mut merged, *seed)?;
     }
     Ok(merged)
 }

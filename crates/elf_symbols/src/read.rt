@@ -2,19 +2,21 @@
 
 ghost use Rattle.std.specs.Prelude.{◌≡◌, ℕ, ◌<◌, length, IsTrue, IfOk, IfErr, IfSome, OnOk, None, Some, All, Contains};
 ghost use Rattle.std.specs.List.Sorted.{IsStrictlyIncreasing};
+ghost use Rattle.std.specs.List.{AllZip};
 ghost use Rattle.std.specs.Option.{option_map};
 ghost use Rattle.elf_image.specs.Header.{entry};
 ghost use Rattle.elf_image.specs.Code.{is_code};
 ghost use Rattle.elf_image.specs.ReadOnly.{span_bytes};
+ghost use Rattle.elf_image.specs.Symbols.{seed_symbols};
 ghost use Rattle.elf_image.specs.Seeds as spec;
 ghost use Rattle.elf_image.specs.Faults.{first_fault, first_symbol_fault};
 ghost use Rattle.elf_image.specs.Outcome.{IfMalformed};
 ghost use Rattle.elf_symbols.specs.Seeds.{addresses_of, name_in, LiesIn};
-ghost use Rattle.elf_symbols.specs.Found.{AreFound};
+ghost use Rattle.elf_symbols.specs.Symbols.{IsSeedOf, strings_in};
 
 use crate::merge::{by_address, merged};
 use crate::seed::{Seed, Seeds};
-use crate::symbol::symbol_seeds;
+use crate::symbol::table_seeds;
 use crate::table::symbol_table;
 use elf_image::{ElfError, Image};
 use std::alloc::Global;
@@ -40,24 +42,25 @@ pub fn seeds(alloc: Global, image: &Image) -> Result<Seeds, ElfError>
     ensures malformed { IfErr result (λ e. IfMalformed e (λ f. first_fault image.now ≡ Some f)) }
     ensures of_symbols { IfErr result (λ e. IfMalformed e (λ f. first_symbol_fault image.now ≡ Some f)) }
 {
-    let sorted = by_address(found(alloc, image)?);
-    let seeds = merged(alloc, image, &sorted)?;
+    let entry = image.entry();
+    let mut found = symbol_seeds(alloc, image)?;
+    found.push(Seed {
+        address: entry,
+        name: None,
+    })?;
+    let seeds = merged(alloc, image, &by_address(found))?;
     Ok(Seeds::new(alloc, seeds)?)
 }
 
-/// The seeds of the symbols, and the entry.
-fn found(alloc: Global, image: &Image) -> Result<Vec<Seed>, ElfError>
-    ensures found { IfOk result (λ v. AreFound image.now v.items) }
+/// A seed for each seed symbol, in the order of the symbol table.
+fn symbol_seeds(alloc: Global, image: &Image) -> Result<Vec<Seed>, ElfError>
+    ensures each { IfOk result
+        (λ v. AllZip (IsSeedOf image.now (strings_in image.now)) (seed_symbols image.now) v.items) }
     ensures good { OnOk result (first_symbol_fault image.now ≡ None) }
     ensures bad { IfErr result (λ e. IfMalformed e (λ f. first_symbol_fault image.now ≡ Some f)) }
 {
-    let mut seeds = match symbol_table(image).map_err(ElfError::Malformed)? {
-        Some(table) => symbol_seeds(alloc, image, &table)?,
-        None => Vec::new(alloc),
-    };
-    seeds.push(Seed {
-        address: image.entry(),
-        name: None,
-    })?;
-    Ok(seeds)
+    match symbol_table(image).map_err(ElfError::Malformed)? {
+        Some(table) => table_seeds(alloc, image, &table),
+        None => Ok(Vec::new(alloc)),
+    }
 }

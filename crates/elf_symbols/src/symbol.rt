@@ -130,7 +130,7 @@ fn seed_of(image: &Image, strings: &Section, s: &Symbol) -> Option<Seed>
 }
 
 /// The seeds of the symbols of a table, in its order.
-pub(crate) fn symbol_seeds(
+pub(crate) fn table_seeds(
     alloc: Global,
     image: &Image,
     table: &SymbolTable,

@@ -3,8 +3,8 @@ use Rattle.elf_image.specs.Symbols as spec
 use Rattle.elf_image.specs.FaultTests.{is_bad_name}
 use Rattle.elf_symbols.specs.Symbols.{symbol_of}
 use Rattle.elf_symbols.proofs.Pass.{Passed, read-skip, read-push, all-good, one-bad, all-each}
-use Rattle.elf_symbols.proofs.symbol.symbol_seeds.Goals as goal
-use Rattle.elf_symbols.proofs.symbol.symbol_seeds.Goals.{then-is_seed_symbol+in-Some+in_ok-push, else-is_seed_symbol}
+use Rattle.elf_symbols.proofs.symbol.table_seeds.Goals as goal
+use Rattle.elf_symbols.proofs.symbol.table_seeds.Goals.{then-is_seed_symbol+in-Some+in_ok-push, else-is_seed_symbol}
 
 pub returns-in_default-clause-bad : goal.returns-in_default-clause-bad
 returns-in_default-clause-bad c =
