@@ -7,3 +7,6 @@ pub mod Pass
 pub mod LeastName
 pub mod FindSeed
 pub mod MergeStep
+pub mod Codes
+pub mod Names
+pub mod Answer

@@ -1,5 +1,5 @@
 -- Symbol tables among the sections of a file.
-use Rattle.std.proofs.Common.{◌≡◌, ℕ, ◌+◌, ◌<◌, ◌≤◌, Bool, true, false, ◌||◌, cond, nat_lt, List, [], ◌∷◌, map, length, get_or, refl, sym, ap, ◌∙◌, arith, inl, inr, Option, Some, None}
+use Rattle.std.proofs.Common.{◌≡◌, ℕ, ◌+◌, ◌<◌, ◌≤◌, Bool, true, false, ◌||◌, cond, nat_lt, List, [], ◌∷◌, map, length, get_or, refl, sym, ap, ◌∙◌, arith, inl, inr, Option, Some, None, Result, Ok, Err, OnOk, IfErr}
 use Rattle.std.specs.List.{filter, find, list_any, range_with_len}
 use Rattle.std.specs.Option.{option_map_or}
 use Rattle.std.proofs.lemmas.Bool.{cases_Bool, or_left, lt-ltb}
@@ -10,6 +10,12 @@ use Rattle.elf_image.specs.Header.{section_count}
 use Rattle.elf_image.specs.Sections.{section, sections, is_symbol_table}
 use Rattle.elf_image.specs.Symbols.{symbol_table, symbol_tables}
 use Rattle.elf_image.specs.declared.fault.Fault.TheVariants.{SymbolTable, SymbolName}
+use Rattle.elf_image.specs.declared.fault.Fault.TheVariants as fault
+use Rattle.elf_image.specs.declared.fault.ElfError.{ElfError}
+use Rattle.elf_image.specs.declared.fault.ElfError.TheVariants.{Malformed, Memory}
+use Rattle.elf_image.specs.Outcome.{IfMalformed}
+use Rattle.elf_symbols.specs.declared.table.SymbolTable.{SymbolTable as Tables}
+use Rattle.elf_symbols.specs.Tables.{IsTableOf}
 use Rattle.elf_image.specs.FaultTests.{is_bad_symbol_table, has_bad_symbol_table, has_bad_name_in, has_bad_symbol_name}
 use Rattle.elf_image.specs.Faults.{has_fault, first_among, first_symbol_fault}
 use Rattle.elf_image.proofs.Finds.{find-at, find-none}
@@ -114,3 +120,16 @@ module _ (bytes : List ℕ) where
   pub names-no_table : symbol_table bytes ≡ None → has_fault bytes SymbolName ≡ false
   unfolding has_fault has_bad_symbol_name
   names-no_table none = ap (λ o. option_map_or (has_bad_name_in bytes) o false) none
+
+  -- the judgement of a table's names, in an answer
+  pub good-of_table : {X : Type 0} (r : Result X ElfError) (t : Tables) → IsTableOf bytes t → has_fault bytes fault.SymbolTable ≡ false → OnOk r (has_bad_name_in bytes t.symbols ≡ false) → OnOk r (first_symbol_fault bytes ≡ None)
+  good-of_table (Ok v) t is good names = first-none good (names-of_table t.symbols is.symbols ∙ names)
+  good-of_table (Err e) t is good names = tt
+
+  named : (e : ElfError) (t : Tables) → IsTableOf bytes t → has_fault bytes fault.SymbolTable ≡ false → IfMalformed e (λ f. (f ≡ SymbolName) × (has_bad_name_in bytes t.symbols ≡ true)) → IfMalformed e (λ f. first_symbol_fault bytes ≡ Some f)
+  named (Malformed f) t is good it = first-name good (names-of_table t.symbols is.symbols ∙ it.1) ∙ ap Some (sym it.0)
+  named Memory t is good it = tt
+
+  pub bad-of_table : {X : Type 0} (r : Result X ElfError) (t : Tables) → IsTableOf bytes t → has_fault bytes fault.SymbolTable ≡ false → IfErr r (λ e. IfMalformed e (λ f. (f ≡ SymbolName) × (has_bad_name_in bytes t.symbols ≡ true))) → IfErr r (λ e. IfMalformed e (λ f. first_symbol_fault bytes ≡ Some f))
+  bad-of_table (Ok v) t is good it = tt
+  bad-of_table (Err e) t is good it = named e t is good it

@@ -59,8 +59,9 @@ fn symbol_seeds(alloc: Global, image: &Image) -> Result<Vec<Seed>, ElfError>
     ensures good { OnOk result (first_symbol_fault image.now ≡ None) }
     ensures bad { IfErr result (λ e. IfMalformed e (λ f. first_symbol_fault image.now ≡ Some f)) }
 {
-    match symbol_table(image).map_err(ElfError::Malformed)? {
-        Some(table) => table_seeds(alloc, image, &table),
-        None => Ok(Vec::new(alloc)),
+    match symbol_table(image) {
+        Ok(Some(table)) => table_seeds(alloc, image, &table),
+        Ok(None) => Ok(Vec::new(alloc)),
+        Err(fault) => Err(ElfError::Malformed(fault)),
     }
 }
