@@ -17,7 +17,8 @@ use Rattle.elf_image.specs.Outcome.{IfMalformed}
 use Rattle.elf_symbols.specs.declared.table.SymbolTable.{SymbolTable as Tables}
 use Rattle.elf_symbols.specs.Tables.{IsTableOf}
 use Rattle.elf_image.specs.FaultTests.{is_bad_symbol_table, has_bad_symbol_table, has_bad_name_in, has_bad_symbol_name}
-use Rattle.elf_image.specs.Faults.{has_fault, first_among, first_symbol_fault}
+use Rattle.elf_image.specs.Faults.{has_fault, first_among, first_symbol_fault, first_fault, IsImage}
+use Rattle.elf_image.proofs.FirstFault.{first-from_symbols}
 use Rattle.elf_image.proofs.Finds.{find-at, find-none}
 use Rattle.elf_image.proofs.Ranges.{any-none, length-sections, get_or-sections}
 
@@ -133,3 +134,8 @@ module _ (bytes : List ℕ) where
   pub bad-of_table : {X : Type 0} (r : Result X ElfError) (t : Tables) → IsTableOf bytes t → has_fault bytes fault.SymbolTable ≡ false → IfErr r (λ e. IfMalformed e (λ f. (f ≡ SymbolName) × (has_bad_name_in bytes t.symbols ≡ true))) → IfErr r (λ e. IfMalformed e (λ f. first_symbol_fault bytes ≡ Some f))
   bad-of_table (Ok v) t is good it = tt
   bad-of_table (Err e) t is good it = named e t is good it
+
+  -- the first fault of the symbols of an accepted file is its first fault
+  pub bad-of_image : IsImage bytes → (e : ElfError) → IfMalformed e (λ f. first_symbol_fault bytes ≡ Some f) → IfMalformed e (λ f. first_fault bytes ≡ Some f)
+  bad-of_image image (Malformed f) it = first-from_symbols bytes image ∙ it
+  bad-of_image image Memory it = tt
