@@ -1,6 +1,6 @@
 -- The name that is found at an address.
-use Rattle.std.proofs.Common.{◌≡◌, ℕ, ◌+◌, ◌<◌, ◌≤◌, Bool, true, false, cond, eqb, List, [], ◌∷◌, ◌++◌, map, length, get_or, Option, Some, None, Ok, Err, nat_cmp, refl, sym, ap, ◌∙◌, subst, arith, inl, inr}
-use Rattle.std.specs.List.{find, list_any, Contains}
+use Rattle.std.proofs.Common.{◌≡◌, ℕ, ◌<◌, ◌≤◌, eqb, List, [], ◌∷◌, ◌++◌, length, get_or, None, Ok, Err, nat_cmp, refl, sym, ap, ◌∙◌, subst, arith, inl, inr}
+use Rattle.std.specs.List.{Contains}
 use Rattle.std.specs.List.Sorted.{IsStrictlyIncreasing, IsBinarySearchResult}
 use Rattle.std.specs.Option.{option_and_then}
 use Rattle.std.proofs.lemmas.Bool.{cases_eq, cases_lt, eq-eqb, ne_eqb}
@@ -8,11 +8,10 @@ use Rattle.std.proofs.lemmas.List.{get_or-map, length-map}
 use Rattle.std.proofs.lemmas.List.Folds.{list_any_none}
 use Rattle.std.proofs.lemmas.List.Sorted.{searched}
 use Rattle.std.proofs.lemmas.List.Kept.{AllPairs-from_increasing}
-use Rattle.elf_image.specs.declared.section.Span.{Span}
 use Rattle.elf_image.proofs.Finds.{find-at, find-none}
 use Rattle.elf_symbols.specs.declared.seed.Seed.{Seed}
 use Rattle.elf_symbols.specs.Seeds.{addresses_of, name_in}
-use Rattle.elf_symbols.proofs.Members.{Contains-here, Contains-later}
+use Rattle.elf_symbols.proofs.Members.{Contains-later}
 
 -- no seed stands at the address
 pub name_in-none : (ms : List Seed) (a : ℕ) → (Contains (addresses_of ms) a → ⊥) → name_in ms a ≡ None

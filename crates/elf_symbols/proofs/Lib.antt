@@ -1,3 +1,4 @@
+mod Examples
 pub mod Parts
 pub mod Strings
 pub mod Members

@@ -1,5 +1,5 @@
 -- One more seed among those that are merged.
-use Rattle.std.proofs.Common.{◌≡◌, ℕ, ◌+◌, ◌<◌, ◌≤◌, List, [], ◌∷◌, ◌++◌, map, length, get_or, take, Option, Some, None, refl, sym, ap, ◌∙◌, subst, arith, inl, inr}
+use Rattle.std.proofs.Common.{◌≡◌, ℕ, ◌<◌, ◌≤◌, List, [], ◌∷◌, ◌++◌, length, get_or, take, Option, Some, None, refl, sym, ap, ◌∙◌, subst, arith, inl, inr}
 use Rattle.std.specs.Prelude.{◌⊎◌, IfSome}
 use Rattle.std.specs.List.{All, Contains}
 use Rattle.std.specs.List.Sorted.{IsNonDecreasingBy}
@@ -13,7 +13,7 @@ use Rattle.elf_symbols.specs.declared.seed.Seed.{Seed}
 use Rattle.elf_symbols.specs.Seeds.{addresses_of, name_in, text_of, LiesIn}
 use Rattle.elf_symbols.specs.Names.{lesser_name, IsLeastName}
 use Rattle.elf_symbols.specs.Merged.{AreMerged, EndsElsewhere}
-use Rattle.elf_symbols.proofs.Members.{no-member, Contains-here, Contains-later, Contains-cons_cases, Contains-map, Contains-from_map}
+use Rattle.elf_symbols.proofs.Members.{no-member, Contains-here, Contains-later, Contains-cons_cases, Contains-from_map}
 use Rattle.elf_symbols.proofs.Rising.{Ascends, ascends-from_increasing, increasing-from_ascends}
 use Rattle.elf_symbols.proofs.LeastName.{least-none, least-here, least-there}
 use Rattle.elf_symbols.proofs.FindSeed.{name_in-none, name_in-push_here, name_in-push_other}

@@ -1,5 +1,5 @@
 -- Numbers that rise, each once: their elements determine them.
-use Rattle.std.proofs.Common.{◌≡◌, ℕ, zero, suc, ◌<◌, ◌≤◌, ◌+◌, Bool, cond, ltb, eqb, List, [], ◌∷◌, length, get_or, refl, sym, ap, ap₂, ◌∙◌, subst, arith, inl, inr, add-one}
+use Rattle.std.proofs.Common.{◌≡◌, ℕ, zero, suc, ◌<◌, List, [], ◌∷◌, length, get_or, refl, sym, ap₂, subst, arith, inl, inr, add-one}
 use Rattle.std.specs.Prelude.{◌⊎◌}
 use Rattle.std.specs.List.{Contains, AllPairs}
 use Rattle.std.specs.List.Sorted.{IsStrictlyIncreasing}
@@ -55,6 +55,7 @@ ascends-same (x ∷ xs) (y ∷ ys) a b to fro =
     first_same (inl e) o = sym e
     first_same (inr there) (inl e) = e
     first_same (inr there) (inr here) = let up = b.0 x there in let down = a.0 y here in absurd (omega arith)
+
     rest : (u v z : ℕ) (zs : List ℕ) → u < z → v ≡ u → (v ≡ z) ⊎ Contains zs z → Contains zs z
     rest u v z zs less e (inl is) = absurd (omega arith)
     rest u v z zs less e (inr there) = there
@@ -113,14 +114,20 @@ with_ascends a [] up = (λ y there. absurd (no-member y there), tt)
 with_ascends a (x ∷ xs) up = elim (cases_order a x) [
   | inl same ↦ rw (with_same a x xs same) up
   | inr other ↦ elim other [
-    | inl less ↦ rw (with_less a x xs less) (λ y there. elim (Contains-cons_cases x xs y there) [
-      | inl is ↦ omega arith
-      | inr later ↦ let above = up.0 y later in omega arith
-    ], up)
-    | inr more ↦ rw (with_more a x xs more) (λ y there. elim (with_cases a xs y there) [
-      | inl is ↦ omega arith
-      | inr later ↦ up.0 y later
-    ], with_ascends a xs up.1)
+    | inl less ↦ rw (with_less a x xs less) (
+      λ y there. elim (Contains-cons_cases x xs y there) [
+        | inl is ↦ omega arith
+        | inr later ↦ let above = up.0 y later in omega arith
+      ],
+      up,
+    )
+    | inr more ↦ rw (with_more a x xs more) (
+      λ y there. elim (with_cases a xs y there) [
+        | inl is ↦ omega arith
+        | inr later ↦ up.0 y later
+      ],
+      with_ascends a xs up.1,
+    )
   ]
 ]
 

@@ -1,5 +1,5 @@
 -- What a list of seeds says: the addresses where control flow starts, and where their names stand in the file.
-use Rattle.std.specs.Prelude.{ℕ, ◌+◌, ◌≤◌, ◌==◌, List, length, map, IfSome}
+use Rattle.std.specs.Prelude.{ℕ, ◌+◌, ◌≤◌, ◌==◌, List, length, map}
 use Rattle.std.specs.List.{find}
 use Rattle.std.specs.Option.{option_map, option_and_then}
 use Rattle.std.specs.declared.option.Option.{Option}

@@ -1,9 +1,8 @@
 -- Symbols as they are read. No public clause names what stands here.
-use Rattle.std.specs.Prelude.{◌≡◌, ℕ, ◌==◌, List, [], if◌then◌else◌, IfSome}
+use Rattle.std.specs.Prelude.{◌≡◌, ℕ, List, [], if◌then◌else◌, IfSome}
 use Rattle.std.specs.Option.{option_map_or}
 use Rattle.std.specs.declared.option.Option.{Option}
 use Rattle.std.specs.declared.option.Option.TheVariants.{None, Some}
-use Rattle.elf_image.specs.Code.{is_code}
 use Rattle.elf_image.specs.Seeds.{has_bytes}
 use Rattle.elf_image.specs.Symbols as spec
 use Rattle.elf_symbols.specs.declared.symbol.Symbol.{Symbol}

@@ -80,11 +80,7 @@ fn add(image: &Image, merged: &mut Vec<Seed>, seed: Seed) -> Result<(), AllocErr
 }
 
 /// The seeds, each address once. `sorted` are in the order of their addresses.
-pub(crate) fn merged(
-    alloc: Global,
-    image: &Image,
-    sorted: &[Seed],
-) -> Result<Vec<Seed>, AllocError>
+pub(crate) fn merged(alloc: Global, image: &Image, sorted: &[Seed]) -> Result<Vec<Seed>, AllocError>
     requires sorted { IsNonDecreasingBy (λ s. s.address) sorted.now }
     requires lie { All (λ s. IfSome s.name (LiesIn image.now)) sorted.now }
     ensures { IfOk result (λ v. AreMerged image.now sorted.now v.items) }

@@ -42,12 +42,12 @@ pub fn seeds(alloc: Global, image: &Image) -> Result<Seeds, ElfError>
     ensures malformed { IfErr result (λ e. IfMalformed e (λ f. first_fault image.now ≡ Some f)) }
     ensures of_symbols { IfErr result (λ e. IfMalformed e (λ f. first_symbol_fault image.now ≡ Some f)) }
 {
-    let entry = image.entry();
-    let mut found = symbol_seeds(alloc, image)?;
-    found.push(Seed {
-        address: entry,
+    let entry = Seed {
+        address: image.entry(),
         name: None,
-    })?;
+    };
+    let mut found = symbol_seeds(alloc, image)?;
+    found.push(entry)?;
     let seeds = merged(alloc, image, &by_address(found))?;
     Ok(Seeds::new(alloc, seeds)?)
 }

@@ -99,7 +99,11 @@ fn names(rt: HostRuntime) -> Result<(), Fail> {
         // The lesser of two names; an odd address is passed over.
         (&[], &[0x10000, 0x10004], [b"a", b"", b"c"]),
         // The address of `odd` becomes that of the second halfword.
-        (&[(152, 2)], &[0x10000, 0x10002, 0x10004], [b"a", b"odd", b"c"]),
+        (
+            &[(152, 2)],
+            &[0x10000, 0x10002, 0x10004],
+            [b"a", b"odd", b"c"],
+        ),
         // `a` is no function, but an object or of no type.
         (&[(124, 0x11)], &[0x10000, 0x10004], [b"b", b"", b"c"]),
         (&[(124, 0x10)], &[0x10000, 0x10004], [b"b", b"", b"c"]),
@@ -150,7 +154,10 @@ fn faults(rt: HostRuntime) -> Result<(), Fail> {
     let image = edited(rt.alloc(), &RET_FILE, &[(204, 2)])?;
     assert_eq!(rt; verdict(rt.alloc(), &image), "SymbolTable");
     let cases: [(&[(usize, u8)], &str); 9] = [
-        (&[(96, 0xFF), (97, 0xFF), (98, 0xFF), (99, 0xFF)], "SymbolName"),
+        (
+            &[(96, 0xFF), (97, 0xFF), (98, 0xFF), (99, 0xFF)],
+            "SymbolName",
+        ),
         // The last byte of the string table ends a name, one past it does not.
         (&[(96, 10)], "-"),
         (&[(96, 11)], "SymbolName"),

@@ -1,4 +1,4 @@
-use Rattle.std.proofs.Common.{◌*◌, ◌∙◌, ap, arith}
+use Rattle.std.proofs.Common.{◌*◌, ◌∙◌, ap}
 use Rattle.elf_image.specs.Symbols as spec
 use Rattle.elf_symbols.proofs.Parts.{symbol_of_part}
 use Rattle.elf_symbols.proofs.symbol.read_symbol.Goals as goal

@@ -1,4 +1,4 @@
-use Rattle.std.proofs.Common.{◌≡◌, ◌+◌, ◌∙◌, refl, sym, ap, subst, arith}
+use Rattle.std.proofs.Common.{◌+◌, ◌∙◌, refl, sym, ap, subst, arith}
 use Rattle.elf_image.specs.Symbols as spec
 use Rattle.elf_image.specs.FaultTests.{is_bad_name}
 use Rattle.elf_symbols.specs.Symbols.{symbol_of}
@@ -10,10 +10,12 @@ pub returns-in_default-clause-bad : goal.returns-in_default-clause-bad
 returns-in_default-clause-bad c =
     let bytes = c.args.image.now in
     let table = c.args.table.now in
-    let is = sym c.read_symbol-symbol.ensures in
-    (refl, one-bad bytes table.symbols table.strings c.requires.strings _ refl c.loop-i.i (omega arith)
-    (ap (spec.is_seed_symbol bytes) is ∙ sym c.is_seed_symbol.ensures ∙ c.if-is_seed_symbol.true)
-    (ap (is_bad_name (spec.section_bytes bytes table.strings) table.strings.size) is ∙ sym c.in_default.ensures.bad))
+    let is = sym c.read_symbol-symbol.ensures in (
+      refl,
+      one-bad bytes table.symbols table.strings c.requires.strings _ refl c.loop-i.i (omega arith)
+          (ap (spec.is_seed_symbol bytes) is ∙ sym c.is_seed_symbol.ensures ∙ c.if-is_seed_symbol.true)
+          (ap (is_bad_name (spec.section_bytes bytes table.strings) table.strings.size) is ∙ sym c.in_default.ensures.bad),
+    )
 
 pub loop-i-preserved : goal.loop-i-preserved
 loop-i-preserved c =

@@ -1,4 +1,4 @@
-use Rattle.std.proofs.Common.{◌≤◌, ◌<◌, ◌∙◌, length, sym, arith}
+use Rattle.std.proofs.Common.{◌≤◌, ◌∙◌, length, sym, arith}
 use Rattle.elf_image.specs.Symbols.{symbol_tables}
 use Rattle.elf_symbols.proofs.Tables.{bad-many, good-none, judged-one, first-table}
 use Rattle.elf_symbols.proofs.table.symbol_table.Goals as goal
