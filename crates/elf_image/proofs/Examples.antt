@@ -1,8 +1,9 @@
 -- The definitions at work on small files, by computation.
-use Rattle.std.proofs.Common.{◌≡◌, ℕ, true, false, List, [], ◌∷◌, ◌++◌, length, take, replicate, refl, Option, Some, None}
+use Rattle.byteorder.specs.Endian.{little_bytes}
+use Rattle.std.proofs.Common.{◌≡◌, ℕ, codes, true, false, List, [], ◌∷◌, ◌++◌, length, take, replicate, refl, Option, Some, None}
 use Rattle.std.specs.List.{slice_set}
 use Rattle.elf_image.specs.declared.fault.Fault.{Fault}
-use Rattle.elf_image.specs.declared.fault.Fault.TheVariants.{Short, Magic, Class, Data, Version, Machine, FileType, HeaderSize, ProgramTable, Interp, NoSections, SectionTable, SectionRange, SectionWrap, CodeParity, CodeOverlap, Entry, SymbolTable}
+use Rattle.elf_image.specs.declared.fault.Fault.TheVariants.{Short, Magic, Class, Data, Version, Machine, FileType, HeaderSize, ProgramTable, Interp, NoSections, SectionTable, SectionRange, SectionWrap, CodeParity, CodeOverlap, Entry, SymbolTable, SymbolName}
 use Rattle.elf_image.specs.Number.{u16_at, u32_at, u64_at}
 use Rattle.elf_image.specs.Header.{program_header_types}
 use Rattle.elf_image.specs.Sections.{section, sections}
@@ -162,3 +163,63 @@ code_as_data = (refl, refl, refl)
 only_entry : (seeds ret_file ≡ 0x10000 ∷ []) × (seed_name ret_file 0x10000 ≡ None)
 unfolding all_of_it ret_file byte_in_8
 only_entry = (refl, refl)
+
+-- a section header: type, flags, address, offset, size, link and entry size
+entry_of : ℕ → ℕ → ℕ → ℕ → ℕ → ℕ → ℕ → List ℕ
+entry_of kind flags address offset size link entry_size =
+    little_bytes 4 0 ++ little_bytes 4 kind ++ little_bytes 8 flags ++ little_bytes 8 address ++ little_bytes 8 offset ++ little_bytes 8 size
+    ++ little_bytes 4 link ++ little_bytes 4 0 ++ little_bytes 8 1 ++ little_bytes 8 entry_size
+
+-- the symbol of a function in section 1: the offset of its name, and its value
+function : ℕ → ℕ → List ℕ
+function name value = little_bytes 4 name ++ (0x12 ∷ 0 ∷ []) ++ little_bytes 2 1 ++ little_bytes 8 value ++ little_bytes 8 0
+
+-- two instructions `ret` at 10000 (hexadecimal), and the functions b and a there, odd at 10001 and c at 10004
+named_file : List ℕ
+named_file =
+    (0x7F ∷ 0x45 ∷ 0x4C ∷ 0x46 ∷ 2 ∷ 1 ∷ 1 ∷ replicate 9 0)
+    ++ little_bytes 2 2 ++ little_bytes 2 243 ++ little_bytes 4 1 ++ little_bytes 8 0x10000 ++ little_bytes 8 0 ++ little_bytes 8 208 ++ little_bytes 4 0
+    ++ little_bytes 2 64 ++ little_bytes 2 0 ++ little_bytes 2 0 ++ little_bytes 2 64 ++ little_bytes 2 5 ++ little_bytes 2 0
+    ++ little_bytes 4 0x8067 ++ little_bytes 4 0x8067
+    ++ replicate 24 0 ++ function 1 0x10000 ++ function 3 0x10000 ++ function 5 0x10001 ++ function 9 0x10004
+    ++ (0 ∷ codes "b") ++ (0 ∷ codes "a") ++ (0 ∷ codes "odd") ++ (0 ∷ codes "c") ++ replicate 6 0
+    ++ replicate 64 0 ++ entry_of 1 6 0x10000 64 8 0 0 ++ entry_of 1 2 0x20000 72 0 0 0 ++ entry_of 2 0 0 72 120 4 24 ++ entry_of 3 0 0 192 11 0 0
+
+named_file-length : length named_file ≡ 528
+unfolding named_file function entry_of
+named_file-length = refl
+
+named_file-fault : first_fault named_file ≡ None
+unfolding all_of_it named_file function entry_of
+named_file-fault = refl
+
+named_file-seeds : seeds named_file ≡ 0x10000 ∷ 0x10004 ∷ []
+unfolding all_of_it named_file function entry_of
+named_file-seeds = refl
+
+named_file-names : (seed_name named_file 0x10000 ≡ Some (codes "a")) × (seed_name named_file 0x10004 ≡ Some (codes "c")) × (seed_name named_file 0x10001 ≡ None)
+unfolding all_of_it named_file function entry_of
+named_file-names = (refl, refl, refl)
+
+Names : List (ℕ × ℕ) → Option Fault → Type 0
+unfolding all_of_it named_file function entry_of edited
+Names edits fault = first_fault (edited edits named_file) ≡ fault
+
+-- a name past the string table, at its end, on its last zero byte, and without one
+name_far : Names ((96, 0xFF) ∷ (97, 0xFF) ∷ (98, 0xFF) ∷ (99, 0xFF) ∷ []) (Some SymbolName)
+unfolding Names
+name_far = refl
+
+name_end : (Names ((96, 11) ∷ []) (Some SymbolName)) × (Names ((96, 10) ∷ []) None) × (Names ((496, 10) ∷ []) (Some SymbolName))
+unfolding Names
+name_end = (refl, refl, refl)
+
+-- a symbol that is no function, or of no code section, is passed over
+no_seed : (Names ((96, 0xFF) ∷ (100, 0x11) ∷ []) None) × (Names ((96, 0xFF) ∷ (102, 2) ∷ []) None) × (Names ((96, 0xFF) ∷ (102, 0) ∷ []) None)
+unfolding Names
+no_seed = (refl, refl, refl)
+
+-- entries of another size, a size that is no multiple of it, a link to no string table or to no section, and a second table
+bad_table : (Names ((456, 23) ∷ []) (Some SymbolTable)) × (Names ((432, 121) ∷ []) (Some SymbolTable)) × (Names ((440, 3) ∷ []) (Some SymbolTable)) × (Names ((440, 5) ∷ []) (Some SymbolTable)) × (Names ((340, 2) ∷ []) (Some SymbolTable))
+unfolding Names
+bad_table = (refl, refl, refl, refl, refl)

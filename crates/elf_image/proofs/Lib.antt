@@ -6,3 +6,4 @@ pub mod LaidOut
 pub mod Filled
 pub mod FirstFault
 pub mod Accepted
+pub mod OneSection

@@ -1,6 +1,5 @@
 -- The name of a fault, as it is printed.
-use Rattle.std.specs.Prelude.{ℕ, List}
-use Rattle.std.specs.Prelude.{codes}
+use Rattle.std.specs.Prelude.{ℕ, List, codes}
 use Rattle.elf_image.specs.declared.fault.Fault.{Fault}
 use Rattle.elf_image.specs.declared.fault.Fault.TheVariants.{TooLarge, Short, Magic, Class, Data, Version, Machine, FileType, HeaderSize, ProgramTable, Interp, NoSections, SectionTable, SectionRange, SectionWrap, CodeParity, CodeOverlap, Entry, SymbolTable, SymbolName}
 

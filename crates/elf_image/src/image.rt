@@ -1,9 +1,9 @@
 //! An accepted file and what is read of it.
 
-ghost use Rattle.std.specs.Prelude.{◌≡◌, ℕ, ◌+◌, ◌-◌, ◌<◌, ◌≤◌, ◌^◌, List, length, false, IsTrue, IsSome, IfOk, IfErr, OnOk, OnSome, IfSome, None, Some};
+ghost use Rattle.std.specs.Prelude.{◌≡◌, ℕ, ◌+◌, ◌-◌, ◌<◌, ◌≤◌, ◌^◌, List, length, true, false, IsTrue, IsSome, IfOk, IfErr, OnOk, OnSome, IfSome, None, Some};
 ghost use Rattle.elf_image.specs.Header as header;
-ghost use Rattle.elf_image.specs.Sections.{section, file_offset};
-ghost use Rattle.elf_image.specs.Code.{code_section_of, is_code, section_start, half_at, word_at};
+ghost use Rattle.elf_image.specs.Sections.{section, is_code_section, holds_bytes, file_offset};
+ghost use Rattle.elf_image.specs.Code.{is_even, code_section_of, is_code, section_start, half_at, word_at};
 ghost use Rattle.elf_image.specs.ReadOnly.{is_read_only, data_section_of, data_word, span_bytes};
 ghost use Rattle.elf_image.specs.FaultTests.{is_out_of_file};
 ghost use Rattle.elf_image.specs.Faults.{first_fault, first_image_fault, first_symbol_fault, IsImage};
@@ -57,6 +57,7 @@ impl Image {
         ensures entry { result ≡ header.entry self.now }
         ensures code { IsTrue (is_code self.now result) }
         ensures image { IsImage self.now }
+        ensures rest { first_fault self.now ≡ first_symbol_fault self.now }
     {
         u64_at(&self.bytes, 24)
     }
@@ -65,6 +66,7 @@ impl Image {
     fn code_section(&self, a: u64) -> Option<Section>
         ensures value { result ≡ code_section_of self.now a }
         ensures found { IfSome result (IsFoundAt self.now a 2) }
+        ensures image { IsImage self.now }
     {
         code_section(&self.layout.code, a)
     }
@@ -89,6 +91,9 @@ impl Image {
     pub fn section_start(&self, a: u64) -> Option<u64>
         ensures value { result ≡ section_start self.now a }
         ensures below { IfSome result (λ start. start ≤ a) }
+        // Each even address from the start on up to `a` has the same start.
+        ensures same { IfSome result
+            (λ start. (b : ℕ) → start ≤ b → b ≤ a → is_even b ≡ true → section_start self.now b ≡ Some start) }
     {
         let s = self.code_section(a)?;
         Some(s.address)
@@ -146,6 +151,9 @@ impl Image {
         ensures section { result ≡ section self.now i }
         ensures in_file { is_out_of_file (length self.now) result ≡ false }
         ensures small { length self.now ≤ 67108864 }
+        // A code section is that of each code address in it.
+        ensures code { (a : ℕ) → is_code_section result ≡ true → is_even a ≡ true → holds_bytes a 2 result ≡ true
+            → code_section_of self.now a ≡ Some result }
     {
         self.layout.sections[i as usize]
     }

@@ -1,4 +1,11 @@
 //! One statically linked ELF-64 executable for RISC-V, judged and read (System V ABI, ELF-64).
+//!
+//! [`Image::parse`] takes the bytes of a file and names its first [`Fault`], if it has one of the first eighteen;
+//! the two faults of symbols are judged by whoever reads symbols. To a contract an [`Image`] is the list of the
+//! file's bytes, and every answer is a definition of `specs/` on that list.
+//!
+//! The way of a file: `header` judges the header and the two tables, `table` reads and judges the section headers,
+//! `layout` judges code sections together and keeps what `spans` searches, and `image` answers reads.
 #![tactic(auto)]
 
 mod fault;

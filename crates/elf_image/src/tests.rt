@@ -38,18 +38,15 @@ fn verdict(alloc: Global, bytes: Vec<u8>) -> &'static str {
     }
 }
 
-/// The last eight-byte address, as edits of an `sh_addr` from an offset on.
-const fn last_address(at: usize) -> [(usize, u8); 8] {
-    [
-        (at, 0xFF),
-        (at + 1, 0xFF),
-        (at + 2, 0xFF),
-        (at + 3, 0xFF),
-        (at + 4, 0xFF),
-        (at + 5, 0xFF),
-        (at + 6, 0xFF),
-        (at + 7, 0xFF),
-    ]
+/// The file with FF (hexadecimal) in the eight bytes from an offset on.
+fn with_last_address(alloc: Global, at: usize) -> Result<Vec<u8>, AllocError> {
+    let mut bytes = Vec::from_slice(alloc, &RET_FILE)?;
+    for (i, place) in bytes.iter_mut().enumerate() {
+        if i >= at && i - at < 8 {
+            *place = 0xFF;
+        }
+    }
+    Ok(bytes)
 }
 
 /// A file of `blocks` blocks of 4,096 zero bytes and `more` bytes besides.
@@ -155,15 +152,15 @@ fn limits(rt: HostRuntime) -> Result<(), Fail> {
     let alloc = rt.alloc();
     // A table at the end of the address space.
     assert_eq!(rt;
-        verdict(alloc, edited(alloc, &last_address(40))?),
+        verdict(alloc, with_last_address(alloc, 40)?),
         "SectionTable"
     );
     // Code of four bytes at the last address, and an empty section there.
     assert_eq!(rt;
-        verdict(alloc, edited(alloc, &last_address(152))?),
+        verdict(alloc, with_last_address(alloc, 152)?),
         "SectionWrap"
     );
-    assert_eq!(rt; verdict(alloc, edited(alloc, &last_address(216))?), "-");
+    assert_eq!(rt; verdict(alloc, with_last_address(alloc, 216)?), "-");
     let cases: [(&[(usize, u8)], &str); 6] = [
         // SHT_NOBITS has no bytes in the file, and an empty SHT_PROGBITS still has an offset.
         (&[(204, 8), (233, 0xFF)], "-"),
@@ -196,9 +193,13 @@ fn limits(rt: HostRuntime) -> Result<(), Fail> {
     Ok(())
 }
 
+/// A value that threads may share.
+fn shared<T: Sync>(_value: &T) {}
+
 #[test]
 fn reads(rt: HostRuntime) -> Result<(), Fail> {
     let image = Image::parse(rt.alloc(), Vec::from_slice(rt.alloc(), &RET_FILE)?)?;
+    shared(&image);
     assert_eq!(rt; image.entry(), 0x10000);
     for (a, start, half, word) in [
         (0xFFFE, None, None, None),

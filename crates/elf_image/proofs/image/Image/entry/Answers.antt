@@ -1,6 +1,8 @@
 use Rattle.std.proofs.Common.{◌≡◌, ◌∙◌, ap, subst, length, arith, true}
 use Rattle.elf_image.specs.Header as header
 use Rattle.elf_image.specs.Code.{is_code}
+use Rattle.elf_image.specs.Faults.{first_fault, first_symbol_fault}
+use Rattle.elf_image.proofs.FirstFault.{first-from_symbols}
 use Rattle.elf_image.proofs.Accepted.{is_long, entry_is_code}
 use Rattle.elf_image.proofs.image.Image.entry.Goals as goal
 
@@ -13,3 +15,8 @@ returns-clause-code c =
     let entry = c.u64_at.ensures ∙ ap header.entry (c.deref.ensures.value ∙ c.self.view_is) in
     let code = entry_is_code c.self.inside.bytes.items c.self.invariant.image in
     ap (is_code c.args.self.now) entry ∙ subst (λ bytes. is_code bytes (header.entry bytes) ≡ true) c.self.view_is code
+
+pub returns-clause-rest : goal.returns-clause-rest
+returns-clause-rest c =
+    subst (λ bytes. first_fault bytes ≡ first_symbol_fault bytes) c.self.view_is
+    (first-from_symbols c.self.inside.bytes.items c.self.invariant.image)
