@@ -1,0 +1,13 @@
+mod Examples
+pub mod Parts
+pub mod Strings
+pub mod Members
+pub mod Rising
+pub mod Tables
+pub mod Pass
+pub mod LeastName
+pub mod FindSeed
+pub mod MergeStep
+pub mod Codes
+pub mod Names
+pub mod Answer

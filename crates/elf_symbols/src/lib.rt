@@ -1,0 +1,15 @@
+//! The seeds of an accepted file: its entry and the functions that its symbol table names (System V ABI, ELF-64).
+#![tactic(auto)]
+
+mod merge;
+mod number;
+mod read;
+mod seed;
+mod symbol;
+mod table;
+
+pub use read::seeds;
+pub use seed::{Seed, Seeds};
+
+#[cfg(test)]
+mod tests;
