@@ -1,0 +1,11 @@
+pub mod Number
+pub mod Header
+pub mod Sections
+pub mod Code
+pub mod ReadOnly
+pub mod Symbols
+pub mod Seeds
+pub mod FaultTests
+pub mod Faults
+pub mod FaultNames
+pub mod Outcome

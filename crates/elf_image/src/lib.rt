@@ -1,0 +1,8 @@
+//! One statically linked ELF-64 executable for RISC-V, judged and read (System V ABI, ELF-64).
+#![tactic(auto)]
+
+mod fault;
+mod section;
+
+pub use fault::{ElfError, Fault};
+pub use section::{Section, Span};
