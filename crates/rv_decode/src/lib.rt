@@ -1,0 +1,8 @@
+//! The decoder of 32-bit RISC-V instructions: RV64IMA with Zicsr and Zifencei.
+#![tactic(auto)]
+
+mod instructions;
+
+pub use instructions::{
+    AtomicKind, BranchKind, CsrKind, ImmKind, ImmWKind, Insn, LoadKind, RegKind, RegWKind, StoreKind,
+};
