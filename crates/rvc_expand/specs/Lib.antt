@@ -1,0 +1,5 @@
+pub mod Bits
+pub mod Formats
+pub mod Instructions
+pub mod Halfword
+pub mod Table
