@@ -10,9 +10,9 @@ use Rattle.elf_image.specs.Sections.{section, sections, is_null, is_nobits, is_s
 use Rattle.elf_image.specs.Code.{is_even, is_code}
 use Rattle.elf_image.specs.Symbols.{Symbol, symbol_table, symbol_tables, seed_symbols_in, strings_of}
 
--- `size` bytes from `offset` on pass the end of the file
-abbrev pub leaves_file : List ℕ → ℕ → ℕ → Bool
-leaves_file bytes offset size = nat_lt (length bytes) (offset + size)
+-- `size` bytes from `offset` on pass the end of a file of `len` bytes
+abbrev pub leaves_file : ℕ → ℕ → ℕ → Bool
+leaves_file len offset size = nat_lt len (offset + size)
 
 -- 1. more than 64 MiB
 unfoldable pub is_too_large : List ℕ → Bool
@@ -55,7 +55,7 @@ has_wrong_header_size bytes = not (header.header_size bytes == 64)
 unfoldable pub has_bad_program_table : List ℕ → Bool
 has_bad_program_table bytes =
     nat_lt 0 (header.program_header_count bytes)
-    && (not (header.program_header_size bytes == 56) || leaves_file bytes (header.program_table_offset bytes) (56 * header.program_header_count bytes))
+    && (not (header.program_header_size bytes == 56) || leaves_file (length bytes) (header.program_table_offset bytes) (56 * header.program_header_count bytes))
 
 -- 11. there is a program header PT_INTERP
 unfoldable pub has_interpreter : List ℕ → Bool
@@ -68,14 +68,14 @@ has_no_sections bytes = header.section_count bytes == 0
 -- 13. the section headers are no Elf64_Shdrs, or their table leaves the file
 unfoldable pub has_bad_section_table : List ℕ → Bool
 has_bad_section_table bytes =
-    not (header.section_header_size bytes == 64) || leaves_file bytes (header.section_table_offset bytes) (64 * header.section_count bytes)
+    not (header.section_header_size bytes == 64) || leaves_file (length bytes) (header.section_table_offset bytes) (64 * header.section_count bytes)
 
 -- 14. a section that has bytes in the file (it is neither SHT_NULL nor SHT_NOBITS) leaves the file
-abbrev pub is_out_of_file : List ℕ → Section → Bool
-is_out_of_file bytes s = not (is_null s) && not (is_nobits s) && leaves_file bytes s.offset s.size
+abbrev pub is_out_of_file : ℕ → Section → Bool
+is_out_of_file len s = not (is_null s) && not (is_nobits s) && leaves_file len s.offset s.size
 
 unfoldable pub has_section_out_of_file : List ℕ → Bool
-has_section_out_of_file bytes = list_any (is_out_of_file bytes) (sections bytes)
+has_section_out_of_file bytes = list_any (is_out_of_file (length bytes)) (sections bytes)
 
 -- 15. a section with SHF_ALLOC passes the last 64-bit address
 abbrev pub is_wrapping : Section → Bool

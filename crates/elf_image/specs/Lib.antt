@@ -7,5 +7,6 @@ pub mod Symbols
 pub mod Seeds
 pub mod FaultTests
 pub mod Faults
+pub mod Passes
 pub mod FaultNames
 pub mod Outcome

@@ -2,6 +2,8 @@
 #![tactic(auto)]
 
 mod fault;
+mod header;
+mod number;
 mod section;
 
 pub use fault::{ElfError, Fault};

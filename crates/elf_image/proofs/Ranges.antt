@@ -1,0 +1,19 @@
+-- Tests of a list that is made from a function of the index.
+use Rattle.std.proofs.Common.{◌≡◌, ℕ, ◌+◌, ◌<◌, Bool, true, false, List, map, length, get_or, refl, ap, sym, ◌∙◌, arith}
+use Rattle.std.specs.List.{range_with_len, list_any, All}
+use Rattle.std.proofs.lemmas.List.Folds.{list_any_none, list_any_at}
+use Rattle.std.proofs.lemmas.List.FromFn.{get_or-map-range_with_len, length-map-range_with_len}
+
+module _ {X : Type 0} (p : X → Bool) (f : ℕ → X) where
+  -- no element passes
+  pub any-none : (n : ℕ) → ((k : ℕ) → k < n → p (f k) ≡ false) → list_any p (map f (range_with_len 0 n)) ≡ false
+  any-none n h =
+      list_any_none p (map f (range_with_len 0 n)) (λ k d below.
+          let within : k < n = omega (arith, length-map-range_with_len f 0 n) in
+          ap p (get_or-map-range_with_len f 0 n k k d within (omega arith)) ∙ h k within)
+
+  -- one element passes
+  pub any-at : (n k : ℕ) → k < n → p (f k) ≡ true → list_any p (map f (range_with_len 0 n)) ≡ true
+  any-at n k within h =
+      list_any_at p (map f (range_with_len 0 n)) k (f k) (omega (arith, length-map-range_with_len f 0 n))
+          (ap p (get_or-map-range_with_len f 0 n k k (f k) within (omega arith)) ∙ h)
