@@ -11,11 +11,11 @@ use Rattle.elf_image.specs.ReadOnly.{is_read_only, data_section_of, data_word}
 use Rattle.elf_image.specs.Symbols.{symbol_at, symbol_tables, is_seed_symbol, seed_symbols_in}
 use Rattle.elf_image.specs.Seeds.{seeds, seed_name}
 use Rattle.elf_image.specs.FaultTests.{is_too_large, is_short, has_wrong_magic, has_wrong_class, has_wrong_data, has_wrong_version, has_wrong_machine, has_wrong_type, has_wrong_header_size, has_bad_program_table, has_interpreter, has_no_sections, has_bad_section_table, has_section_out_of_file, has_wrapping_section, has_odd_code, has_code_overlap, has_entry_outside_code, has_bad_symbol_table, has_bad_symbol_name}
-use Rattle.elf_image.specs.Faults.{has_fault, first_fault}
+use Rattle.elf_image.specs.Faults.{has_fault, first_among, first_fault}
 
 -- everything that a first fault computes with
 all_of_it : Unit {0}
-unfolding u16_at u32_at u64_at program_header_types section sections code_section_of symbol_at symbol_tables is_seed_symbol seed_symbols_in is_too_large is_short has_wrong_magic has_wrong_class has_wrong_data has_wrong_version has_wrong_machine has_wrong_type has_wrong_header_size has_bad_program_table has_interpreter has_no_sections has_bad_section_table has_section_out_of_file has_wrapping_section has_odd_code has_code_overlap has_entry_outside_code has_bad_symbol_table has_bad_symbol_name has_fault first_fault is_read_only data_section_of seeds seed_name
+unfolding u16_at u32_at u64_at first_among program_header_types section sections code_section_of symbol_at symbol_tables is_seed_symbol seed_symbols_in is_too_large is_short has_wrong_magic has_wrong_class has_wrong_data has_wrong_version has_wrong_machine has_wrong_type has_wrong_header_size has_bad_program_table has_interpreter has_no_sections has_bad_section_table has_section_out_of_file has_wrapping_section has_odd_code has_code_overlap has_entry_outside_code has_bad_symbol_table has_bad_symbol_name has_fault first_fault is_read_only data_section_of seeds seed_name
 all_of_it = tt
 
 -- a number of up to 255 in the eight bytes of a field

@@ -1,2 +1,7 @@
 mod Examples
 pub mod Ranges
+pub mod Finds
+pub mod Pairs
+pub mod LaidOut
+pub mod Filled
+pub mod FirstFault

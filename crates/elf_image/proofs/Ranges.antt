@@ -1,8 +1,8 @@
 -- Tests of a list that is made from a function of the index.
-use Rattle.std.proofs.Common.{◌≡◌, ℕ, ◌+◌, ◌<◌, Bool, true, false, List, map, length, get_or, refl, ap, sym, ◌∙◌, arith}
+use Rattle.std.proofs.Common.{◌≡◌, ℕ, ◌+◌, ◌<◌, Bool, true, false, List, [], ◌∷◌, ◌++◌, map, length, get_or, refl, ap, sym, ◌∙◌, arith}
 use Rattle.std.specs.List.{range_with_len, list_any, All}
 use Rattle.std.proofs.lemmas.List.Folds.{list_any_none, list_any_at}
-use Rattle.std.proofs.lemmas.List.FromFn.{get_or-map-range_with_len, length-map-range_with_len}
+use Rattle.std.proofs.lemmas.List.FromFn.{get_or-map-range_with_len, length-map-range_with_len, map-range_with_len_more}
 
 module _ {X : Type 0} (p : X → Bool) (f : ℕ → X) where
   -- no element passes
@@ -17,3 +17,7 @@ module _ {X : Type 0} (p : X → Bool) (f : ℕ → X) where
   any-at n k within h =
       list_any_at p (map f (range_with_len 0 n)) k (f k) (omega (arith, length-map-range_with_len f 0 n))
           (ap p (get_or-map-range_with_len f 0 n k k (f k) within (omega arith)) ∙ h)
+
+-- a loop that pushes the value at each index: one more
+pub range-push : {X : Type 0} (f : ℕ → X) (n : ℕ) (xs ys : List X) (x : X) → xs ≡ map f (range_with_len 0 n) → x ≡ f n → ys ≡ xs ++ x ∷ [] → ys ≡ map f (range_with_len 0 (n + 1))
+range-push f n xs ys x before here after = after ∙ rw (before, here) (sym (map-range_with_len_more f 0 n n (omega arith)))

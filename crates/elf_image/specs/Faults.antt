@@ -40,7 +40,7 @@ abbrev pub symbol_faults : List Fault
 symbol_faults = SymbolTable ∷ SymbolName ∷ []
 
 -- the first fault of a file among some, if it has one of them
-abbrev pub first_among : List Fault → List ℕ → Option Fault
+unfoldable pub first_among : List Fault → List ℕ → Option Fault
 first_among faults bytes = find (has_fault bytes) faults
 
 unfoldable pub first_image_fault : List ℕ → Option Fault

@@ -8,5 +8,7 @@ pub mod Seeds
 pub mod FaultTests
 pub mod Faults
 pub mod Passes
+pub mod Spans
+pub mod Layout
 pub mod FaultNames
 pub mod Outcome

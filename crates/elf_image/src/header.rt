@@ -39,7 +39,7 @@ pub(crate) fn leaves_file(len: usize, offset: u64, size: u64) -> bool
 }
 
 /// The first fault among the size of the file and its first six bytes.
-#[tactic(auto, unfolding(crate::specs::Faults::has_fault, crate::specs::FaultTests::is_too_large, crate::specs::FaultTests::is_short, crate::specs::FaultTests::has_wrong_magic, crate::specs::FaultTests::has_wrong_class, crate::specs::FaultTests::has_wrong_data))]
+#[tactic(auto, unfolding(crate::specs::Faults::first_among, crate::specs::Faults::has_fault, crate::specs::FaultTests::is_too_large, crate::specs::FaultTests::is_short, crate::specs::FaultTests::has_wrong_magic, crate::specs::FaultTests::has_wrong_class, crate::specs::FaultTests::has_wrong_data))]
 pub(crate) fn ident_fault(bytes: &[u8]) -> Option<Fault>
     ensures first { result ≡ first_among ident_faults bytes.now }
     ensures long_enough { result ≡ None → 64 ≤ length bytes.now }
@@ -63,7 +63,7 @@ pub(crate) fn ident_fault(bytes: &[u8]) -> Option<Fault>
 }
 
 /// The first fault among the version, the machine, the type and the size of the header.
-#[tactic(auto, unfolding(crate::specs::Faults::has_fault, crate::specs::FaultTests::has_wrong_version, crate::specs::FaultTests::has_wrong_machine, crate::specs::FaultTests::has_wrong_type, crate::specs::FaultTests::has_wrong_header_size))]
+#[tactic(auto, unfolding(crate::specs::Faults::first_among, crate::specs::Faults::has_fault, crate::specs::FaultTests::has_wrong_version, crate::specs::FaultTests::has_wrong_machine, crate::specs::FaultTests::has_wrong_type, crate::specs::FaultTests::has_wrong_header_size))]
 pub(crate) fn header_fault(bytes: &[u8]) -> Option<Fault>
     requires { 64 ≤ length bytes.now }
     ensures { result ≡ first_among header_faults bytes.now }
@@ -128,7 +128,7 @@ fn is_bad_section_table(bytes: &[u8]) -> bool
 }
 
 /// The first fault of the program header table and the section header table.
-#[tactic(auto, unfolding(crate::specs::Faults::has_fault, crate::specs::FaultTests::has_no_sections))]
+#[tactic(auto, unfolding(crate::specs::Faults::first_among, crate::specs::Faults::has_fault, crate::specs::FaultTests::has_no_sections))]
 pub(crate) fn table_fault(bytes: &[u8]) -> Option<Fault>
     requires { 64 ≤ length bytes.now }
     ensures { result ≡ first_among table_faults bytes.now }
@@ -149,6 +149,7 @@ pub(crate) fn table_fault(bytes: &[u8]) -> Option<Fault>
 }
 
 /// The first fault of the header and the two tables that it names.
+#[tactic(auto, unfolding(crate::specs::Faults::first_among))]
 pub(crate) fn file_fault(bytes: &[u8]) -> Option<Fault>
     ensures { result ≡ first_among (ident_faults ++ header_faults ++ table_faults) bytes.now }
 {

@@ -3,8 +3,11 @@
 
 mod fault;
 mod header;
+mod layout;
 mod number;
 mod section;
+mod spans;
+mod table;
 
 pub use fault::{ElfError, Fault};
 pub use section::{Section, Span};
