@@ -63,7 +63,7 @@ fails_step true true m all more ih same h = ap (λ x. m && x) (ih h) ∙ and_fal
 fails_step true false m all more ih same h = ap (λ b. b && all) (same refl)
 
 -- where one clashes, not all are met
-clash_fails : (w : ℕ) (k : Condition) → meets w k ≡ true → (cs : List Condition) → list_any (clash k) cs ≡ true → list_all (meets w) cs ≡ false
+pub clash_fails : (w : ℕ) (k : Condition) → meets w k ≡ true → (cs : List Condition) → list_any (clash k) cs ≡ true → list_all (meets w) cs ≡ false
 clash_fails w k m [] h = cc
 clash_fails w k m (c ∷ cs) h =
     fails_step (same_field k c) (eqb k.value c.value) (meets w c) (list_all (meets w) cs) (list_any (clash k) cs)
@@ -80,3 +80,30 @@ first_meaning-given w k m [] = refl
 first_meaning-given w k m (r ∷ rs) =
     given_step (list_any (clash k) r.conditions) (holds r w) w (record { conditions = elsewhere k r.conditions; meaning = r.meaning }) (given k rs) (first_meaning rs w)
     (first_meaning-given w k m rs) (clash_fails w k m r.conditions) (elsewhere_same w k m r.conditions)
+
+-- the rows without the condition k
+abbrev pub without : Condition → List Row → List Row
+without k [] = []
+without k (r ∷ rs) = cond (list_any (λ c. same_field k c && eqb k.value c.value) r.conditions) (without k rs) (r ∷ without k rs)
+
+unmet_step : (w : ℕ) (k c : Condition) (all more : Bool) → meets w k ≡ false → (more ≡ true → all ≡ false) → ((same_field k c && eqb k.value c.value) || more) ≡ true → (meets w c && all) ≡ false
+unmet_step w k c all true m ih h = ap (λ x. meets w c && x) (ih refl) ∙ and_false (meets w c)
+unmet_step w k c all false m ih h =
+    let s : same_field k c ≡ true = grind (arith, nat_tests) in
+    let v : k.value ≡ c.value = grind (arith, nat_tests) in
+    let f : field w k.high k.low ≡ field w c.high c.low = field_at w k.high k.low c.high c.low s in
+    let e : meets w c ≡ meets w k = ap (λ (x : ℕ). eqb x c.value) (sym f) ∙ ap (eqb (field w k.high k.low)) (sym v) in
+    ap (λ x. x && all) (e ∙ m)
+
+-- a row with a condition that is not met does not hold
+unmet_fails : (w : ℕ) (k : Condition) → meets w k ≡ false → (cs : List Condition) → list_any (λ c. same_field k c && eqb k.value c.value) cs ≡ true → list_all (meets w) cs ≡ false
+unmet_fails w k m [] h = cc
+unmet_fails w k m (c ∷ cs) h =
+    unmet_step w k c (list_all (meets w) cs) (list_any (λ d. same_field k d && eqb k.value d.value) cs) m (unmet_fails w k m cs) h
+
+-- a word that does not meet k means by the rows what it means by those without k
+pub first_meaning-without : (w : ℕ) (k : Condition) → meets w k ≡ false → (rs : List Row) → first_meaning (without k rs) w ≡ first_meaning rs w
+first_meaning-without w k m [] = refl
+first_meaning-without w k m (r ∷ rs) =
+    given_step (list_any (λ c. same_field k c && eqb k.value c.value) r.conditions) (holds r w) w r (without k rs) (first_meaning rs w)
+    (first_meaning-without w k m rs) (unmet_fails w k m r.conditions) (λ _. refl)

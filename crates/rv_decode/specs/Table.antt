@@ -82,15 +82,15 @@ funct12_is n = record { high = 31; low = 20; value = n }
 
 unfoldable pub upper_rows : List Row
 upper_rows =
-  record { conditions = opcode_is 0x37 ∷ []; meaning = λ w. Lui (rd w) (u_immediate w) } ∷
-  record { conditions = opcode_is 0x17 ∷ []; meaning = λ w. Auipc (rd w) (u_immediate w) } ∷ []
+    record { conditions = opcode_is 0x37 ∷ []; meaning = λ w. Lui (rd w) (u_immediate w) } ∷
+    record { conditions = opcode_is 0x17 ∷ []; meaning = λ w. Auipc (rd w) (u_immediate w) } ∷ []
 
 -- ---- opcode 6F and 67: JAL and JALR (section 2.5.1)
 
 unfoldable pub jump_rows : List Row
 jump_rows =
-  record { conditions = opcode_is 0x6F ∷ []; meaning = λ w. Jal (rd w) (j_offset w) } ∷
-  record { conditions = opcode_is 0x67 ∷ funct3_is 0 ∷ []; meaning = λ w. Jalr (rd w) (rs1 w) (i_immediate w) } ∷ []
+    record { conditions = opcode_is 0x6F ∷ []; meaning = λ w. Jal (rd w) (j_offset w) } ∷
+    record { conditions = opcode_is 0x67 ∷ funct3_is 0 ∷ []; meaning = λ w. Jalr (rd w) (rs1 w) (i_immediate w) } ∷ []
 
 -- ---- opcode 63: BRANCH (section 2.5.2), by funct3
 
@@ -102,12 +102,12 @@ branch_row f3 kind = record { conditions = opcode_is 0x63 ∷ funct3_is f3 ∷ [
 
 unfoldable pub branch_rows : List Row
 branch_rows =
-  branch_row 0 Beq ∷
-  branch_row 1 Bne ∷
-  branch_row 4 Blt ∷
-  branch_row 5 Bge ∷
-  branch_row 6 Bltu ∷
-  branch_row 7 Bgeu ∷ []
+    branch_row 0 Beq ∷
+    branch_row 1 Bne ∷
+    branch_row 4 Blt ∷
+    branch_row 5 Bge ∷
+    branch_row 6 Bltu ∷
+    branch_row 7 Bgeu ∷ []
 
 -- ---- opcode 03: LOAD (sections 2.6 and 4.3), by funct3
 
@@ -119,13 +119,13 @@ load_row f3 kind = record { conditions = opcode_is 0x03 ∷ funct3_is f3 ∷ [];
 
 unfoldable pub load_rows : List Row
 load_rows =
-  load_row 0 Lb ∷
-  load_row 1 Lh ∷
-  load_row 2 Lw ∷
-  load_row 3 Ld ∷
-  load_row 4 Lbu ∷
-  load_row 5 Lhu ∷
-  load_row 6 Lwu ∷ []
+    load_row 0 Lb ∷
+    load_row 1 Lh ∷
+    load_row 2 Lw ∷
+    load_row 3 Ld ∷
+    load_row 4 Lbu ∷
+    load_row 5 Lhu ∷
+    load_row 6 Lwu ∷ []
 
 -- ---- opcode 23: STORE (sections 2.6 and 4.3), by funct3
 
@@ -137,10 +137,10 @@ store_row f3 kind = record { conditions = opcode_is 0x23 ∷ funct3_is f3 ∷ []
 
 unfoldable pub store_rows : List Row
 store_rows =
-  store_row 0 Sb ∷
-  store_row 1 Sh ∷
-  store_row 2 Sw ∷
-  store_row 3 Sd ∷ []
+    store_row 0 Sb ∷
+    store_row 1 Sh ∷
+    store_row 2 Sw ∷
+    store_row 3 Sd ∷ []
 
 -- ---- opcode 13: OP-IMM (sections 2.4.1 and 4.2.1), by funct3; a shift by funct6 too
 
@@ -158,15 +158,15 @@ shift_row f3 f6 kind = record { conditions = opcode_is 0x13 ∷ funct3_is f3 ∷
 
 unfoldable pub imm_rows : List Row
 imm_rows =
-  imm_row 0 Addi ∷
-  imm_row 2 Slti ∷
-  imm_row 3 Sltiu ∷
-  imm_row 4 Xori ∷
-  imm_row 6 Ori ∷
-  imm_row 7 Andi ∷
-  shift_row 1 0b000000 Slli ∷
-  shift_row 5 0b000000 Srli ∷
-  shift_row 5 0b010000 Srai ∷ []
+    imm_row 0 Addi ∷
+    imm_row 2 Slti ∷
+    imm_row 3 Sltiu ∷
+    imm_row 4 Xori ∷
+    imm_row 6 Ori ∷
+    imm_row 7 Andi ∷
+    shift_row 1 0b000000 Slli ∷
+    shift_row 5 0b000000 Srli ∷
+    shift_row 5 0b010000 Srai ∷ []
 
 -- ---- opcode 1B: OP-IMM-32 (section 4.2.1), by funct3; a shift by funct7 too
 
@@ -184,10 +184,10 @@ shift_w_row f3 f7 kind = record { conditions = opcode_is 0x1B ∷ funct3_is f3 �
 
 unfoldable pub imm_w_rows : List Row
 imm_w_rows =
-  imm_w_row 0 Addiw ∷
-  shift_w_row 1 0x00 Slliw ∷
-  shift_w_row 5 0x00 Srliw ∷
-  shift_w_row 5 0x20 Sraiw ∷ []
+    imm_w_row 0 Addiw ∷
+    shift_w_row 1 0x00 Slliw ∷
+    shift_w_row 5 0x00 Srliw ∷
+    shift_w_row 5 0x20 Sraiw ∷ []
 
 -- ---- opcode 33: OP (section 2.4.2, and chapter 13 for the rows of "M"), by funct7 and funct3
 
@@ -199,24 +199,24 @@ reg_row f7 f3 kind = record { conditions = opcode_is 0x33 ∷ funct7_is f7 ∷ f
 
 unfoldable pub reg_rows : List Row
 reg_rows =
-  reg_row 0x00 0 Add ∷
-  reg_row 0x00 1 Sll ∷
-  reg_row 0x00 2 Slt ∷
-  reg_row 0x00 3 Sltu ∷
-  reg_row 0x00 4 Xor ∷
-  reg_row 0x00 5 Srl ∷
-  reg_row 0x00 6 Or ∷
-  reg_row 0x00 7 And ∷
-  reg_row 0x20 0 Sub ∷
-  reg_row 0x20 5 Sra ∷
-  reg_row 0x01 0 Mul ∷
-  reg_row 0x01 1 Mulh ∷
-  reg_row 0x01 2 Mulhsu ∷
-  reg_row 0x01 3 Mulhu ∷
-  reg_row 0x01 4 Div ∷
-  reg_row 0x01 5 Divu ∷
-  reg_row 0x01 6 Rem ∷
-  reg_row 0x01 7 Remu ∷ []
+    reg_row 0x00 0 Add ∷
+    reg_row 0x00 1 Sll ∷
+    reg_row 0x00 2 Slt ∷
+    reg_row 0x00 3 Sltu ∷
+    reg_row 0x00 4 Xor ∷
+    reg_row 0x00 5 Srl ∷
+    reg_row 0x00 6 Or ∷
+    reg_row 0x00 7 And ∷
+    reg_row 0x20 0 Sub ∷
+    reg_row 0x20 5 Sra ∷
+    reg_row 0x01 0 Mul ∷
+    reg_row 0x01 1 Mulh ∷
+    reg_row 0x01 2 Mulhsu ∷
+    reg_row 0x01 3 Mulhu ∷
+    reg_row 0x01 4 Div ∷
+    reg_row 0x01 5 Divu ∷
+    reg_row 0x01 6 Rem ∷
+    reg_row 0x01 7 Remu ∷ []
 
 -- ---- opcode 3B: OP-32 (section 4.2.2, and chapter 13 for the rows of "M"), by funct7 and funct3
 
@@ -228,16 +228,16 @@ reg_w_row f7 f3 kind = record { conditions = opcode_is 0x3B ∷ funct7_is f7 ∷
 
 unfoldable pub reg_w_rows : List Row
 reg_w_rows =
-  reg_w_row 0x00 0 Addw ∷
-  reg_w_row 0x00 1 Sllw ∷
-  reg_w_row 0x00 5 Srlw ∷
-  reg_w_row 0x20 0 Subw ∷
-  reg_w_row 0x20 5 Sraw ∷
-  reg_w_row 0x01 0 Mulw ∷
-  reg_w_row 0x01 4 Divw ∷
-  reg_w_row 0x01 5 Divuw ∷
-  reg_w_row 0x01 6 Remw ∷
-  reg_w_row 0x01 7 Remuw ∷ []
+    reg_w_row 0x00 0 Addw ∷
+    reg_w_row 0x00 1 Sllw ∷
+    reg_w_row 0x00 5 Srlw ∷
+    reg_w_row 0x20 0 Subw ∷
+    reg_w_row 0x20 5 Sraw ∷
+    reg_w_row 0x01 0 Mulw ∷
+    reg_w_row 0x01 4 Divw ∷
+    reg_w_row 0x01 5 Divuw ∷
+    reg_w_row 0x01 6 Remw ∷
+    reg_w_row 0x01 7 Remuw ∷ []
 
 -- ---- opcode 2F: AMO (chapter 14), by funct3, which is 2 for a word and 3 for a doubleword, and
 -- funct5; bits 26 and 25 are the ordering bits
@@ -255,17 +255,17 @@ atomic_row f3 wide f5 kind = record { conditions = opcode_is 0x2F ∷ funct3_is 
 -- LR.W to AMOMAXU.W at funct3 = 2, LR.D to AMOMAXU.D at funct3 = 3
 unfoldable pub atomic_rows_of : ℕ → Bool → List Row
 atomic_rows_of f3 wide =
-  lr_row f3 wide ∷
-  atomic_row f3 wide 0b00011 atomic_kind.Sc ∷
-  atomic_row f3 wide 0b00001 atomic_kind.Swap ∷
-  atomic_row f3 wide 0b00000 atomic_kind.Add ∷
-  atomic_row f3 wide 0b00100 atomic_kind.Xor ∷
-  atomic_row f3 wide 0b01100 atomic_kind.And ∷
-  atomic_row f3 wide 0b01000 atomic_kind.Or ∷
-  atomic_row f3 wide 0b10000 atomic_kind.Min ∷
-  atomic_row f3 wide 0b10100 atomic_kind.Max ∷
-  atomic_row f3 wide 0b11000 atomic_kind.Minu ∷
-  atomic_row f3 wide 0b11100 atomic_kind.Maxu ∷ []
+    lr_row f3 wide ∷
+    atomic_row f3 wide 0b00011 atomic_kind.Sc ∷
+    atomic_row f3 wide 0b00001 atomic_kind.Swap ∷
+    atomic_row f3 wide 0b00000 atomic_kind.Add ∷
+    atomic_row f3 wide 0b00100 atomic_kind.Xor ∷
+    atomic_row f3 wide 0b01100 atomic_kind.And ∷
+    atomic_row f3 wide 0b01000 atomic_kind.Or ∷
+    atomic_row f3 wide 0b10000 atomic_kind.Min ∷
+    atomic_row f3 wide 0b10100 atomic_kind.Max ∷
+    atomic_row f3 wide 0b11000 atomic_kind.Minu ∷
+    atomic_row f3 wide 0b11100 atomic_kind.Maxu ∷ []
 
 unfoldable pub atomic_rows : List Row
 unfolding atomic_rows_of
@@ -276,15 +276,15 @@ atomic_rows = atomic_rows_of 2 false ++ atomic_rows_of 3 true
 
 unfoldable pub fence_rows : List Row
 fence_rows =
-  record { conditions = opcode_is 0x0F ∷ funct3_is 0 ∷ []; meaning = λ w. Fence } ∷
-  record { conditions = opcode_is 0x0F ∷ funct3_is 1 ∷ []; meaning = λ w. FenceI } ∷ []
+    record { conditions = opcode_is 0x0F ∷ funct3_is 0 ∷ []; meaning = λ w. Fence } ∷
+    record { conditions = opcode_is 0x0F ∷ funct3_is 1 ∷ []; meaning = λ w. FenceI } ∷ []
 
 -- ---- opcode 73: SYSTEM, ECALL and EBREAK (section 2.8), each one word, and the operations on control
 -- and status registers (section 7.1), by funct3
 
 abbrev pub environment_row : ℕ → Insn → Row
 environment_row f12 instruction_meant =
-  record { conditions = opcode_is 0x73 ∷ funct3_is 0 ∷ rd_is 0 ∷ rs1_is 0 ∷ funct12_is f12 ∷ []; meaning = λ w. instruction_meant }
+    record { conditions = opcode_is 0x73 ∷ funct3_is 0 ∷ rd_is 0 ∷ rs1_is 0 ∷ funct12_is f12 ∷ []; meaning = λ w. instruction_meant }
 
 abbrev pub csr_access : CsrKind → ℕ → Insn
 csr_access kind w = Csr kind (rd w) (rs1 w) (csr w)
@@ -294,21 +294,21 @@ csr_row f3 kind = record { conditions = opcode_is 0x73 ∷ funct3_is f3 ∷ []; 
 
 unfoldable pub system_rows : List Row
 system_rows =
-  environment_row 0 Ecall ∷
-  environment_row 1 Ebreak ∷
-  csr_row 1 Csrrw ∷
-  csr_row 2 Csrrs ∷
-  csr_row 3 Csrrc ∷
-  csr_row 5 Csrrwi ∷
-  csr_row 6 Csrrsi ∷
-  csr_row 7 Csrrci ∷ []
+    environment_row 0 Ecall ∷
+    environment_row 1 Ebreak ∷
+    csr_row 1 Csrrw ∷
+    csr_row 2 Csrrs ∷
+    csr_row 3 Csrrc ∷
+    csr_row 5 Csrrwi ∷
+    csr_row 6 Csrrsi ∷
+    csr_row 7 Csrrci ∷ []
 
 -- ---- the table
 
 unfoldable pub rows : List Row
 rows =
-  upper_rows ++ jump_rows ++ branch_rows ++ load_rows ++ store_rows ++ imm_rows ++ imm_w_rows
-  ++ reg_rows ++ reg_w_rows ++ atomic_rows ++ fence_rows ++ system_rows
+    upper_rows ++ jump_rows ++ branch_rows ++ load_rows ++ store_rows ++ imm_rows ++ imm_w_rows
+    ++ reg_rows ++ reg_w_rows ++ atomic_rows ++ fence_rows ++ system_rows
 
 -- The instruction that a word is: the meaning of the row that holds of it, and none where none does.
 unfoldable pub instruction : ℕ → Option Insn

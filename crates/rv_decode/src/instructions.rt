@@ -7,13 +7,26 @@
 #[derive(Clone, Copy, Debug, PartialEq, Eq)]
 pub enum Insn {
     /// LUI: `imm` is bits 31 to 12 of the word in place, sign extended (section 2.4).
-    Lui { rd: u8, imm: i64 },
+    Lui {
+        rd: u8,
+        imm: i64,
+    },
     /// AUIPC: `imm` is bits 31 to 12 of the word in place, sign extended (section 2.4).
-    Auipc { rd: u8, imm: i64 },
+    Auipc {
+        rd: u8,
+        imm: i64,
+    },
     /// JAL: `offset` in bytes from the instruction's address, even (section 2.5.1).
-    Jal { rd: u8, offset: i64 },
+    Jal {
+        rd: u8,
+        offset: i64,
+    },
     /// JALR: the target is `rs1` plus `imm` with bit 0 cleared (section 2.5.1).
-    Jalr { rd: u8, rs1: u8, imm: i64 },
+    Jalr {
+        rd: u8,
+        rs1: u8,
+        imm: i64,
+    },
     /// A conditional branch: `offset` in bytes from the instruction's address, even (section 2.5.2).
     Branch {
         kind: BranchKind,
