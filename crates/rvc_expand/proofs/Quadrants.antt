@@ -1,8 +1,9 @@
 -- The rows of a quadrant hold of no halfword of another, so a halfword's expansion is that of its own
 -- quadrant's rows.
-use Rattle.std.proofs.Common.{◌≡◌, ◌≢◌, ℕ, ◌≤◌, ◌==◌, Bool, true, false, cond, List, [], ◌∷◌, ◌++◌, Option, Some, None, refl, ◌∙◌, arith}
+use Rattle.std.proofs.Common.{◌≡◌, ◌≢◌, ℕ, Bool, true, false, cond, List, [], ◌∷◌, ◌++◌, Option, Some, None, refl, ◌∙◌, arith}
 use Rattle.std.proofs.lemmas.Bool.{ne_eqb}
 use Rattle.rvc_expand.specs.Bits.{field}
+use Rattle.rvc_expand.specs.Laws.{NoneOfQuadrant3}
 use Rattle.rvc_expand.specs.Table.{Form, first_word, quadrant_0, quadrant_1, quadrant_2, forms, expansion}
 
 -- ---- joined lists of rows
@@ -53,13 +54,16 @@ pub expansion-quadrant_2 : (h : ℕ) → field h 1 0 ≡ 2 → expansion h ≡ f
 unfolding expansion forms
 expansion-quadrant_2 h is =
     first_word-append_right (quadrant_0 ++ quadrant_1) quadrant_2 h
-        (first_word-append_right quadrant_0 quadrant_1 h (outside_quadrant_0 h (omega arith))
-        ∙ outside_quadrant_1 h (omega arith))
+    (first_word-append_right quadrant_0 quadrant_1 h (outside_quadrant_0 h (omega arith))
+    ∙ outside_quadrant_1 h (omega arith))
 
 pub expansion-quadrant_3 : (h : ℕ) → field h 1 0 ≡ 3 → expansion h ≡ None
 unfolding expansion forms
 expansion-quadrant_3 h is =
     first_word-append_right (quadrant_0 ++ quadrant_1) quadrant_2 h
-        (first_word-append_right quadrant_0 quadrant_1 h (outside_quadrant_0 h (omega arith))
-        ∙ outside_quadrant_1 h (omega arith))
+    (first_word-append_right quadrant_0 quadrant_1 h (outside_quadrant_0 h (omega arith))
+    ∙ outside_quadrant_1 h (omega arith))
     ∙ outside_quadrant_2 h (omega arith)
+
+pub none_of_quadrant_3 : NoneOfQuadrant3
+none_of_quadrant_3 half is = expansion-quadrant_3 half is

@@ -46,7 +46,7 @@ lui_immediate half = sign_extended 18 32 (placed half ((12, 12, 17) ∷ (6, 2, 1
 unfoldable pub addi16sp_immediate : ℕ → ℕ
 addi16sp_immediate half =
     sign_extended 10 12
-        (placed half ((12, 12, 9) ∷ (6, 6, 4) ∷ (5, 5, 6) ∷ (4, 3, 7) ∷ (2, 2, 5) ∷ []))
+    (placed half ((12, 12, 9) ∷ (6, 6, 4) ∷ (5, 5, 6) ∷ (4, 3, 7) ∷ (2, 2, 5) ∷ []))
 
 -- C.ADDI4SPN: nzuimm[9:2]
 unfoldable pub addi4spn_immediate : ℕ → ℕ
@@ -80,11 +80,11 @@ sdsp_offset half = placed half ((12, 10, 3) ∷ (9, 7, 6) ∷ [])
 unfoldable pub jump_offset : ℕ → ℕ
 jump_offset half =
     sign_extended 12 21
-        (placed half ((12, 12, 11) ∷ (11, 11, 4) ∷ (10, 9, 8) ∷ (8, 8, 10) ∷ (7, 7, 6) ∷ (6, 6, 7)
-            ∷ (5, 3, 1) ∷ (2, 2, 5) ∷ []))
+    (placed half ((12, 12, 11) ∷ (11, 11, 4) ∷ (10, 9, 8) ∷ (8, 8, 10) ∷ (7, 7, 6) ∷ (6, 6, 7)
+    ∷ (5, 3, 1) ∷ (2, 2, 5) ∷ []))
 
 -- C.BEQZ, C.BNEZ: imm[8:1], signed
 unfoldable pub branch_offset : ℕ → ℕ
 branch_offset half =
     sign_extended 9 13
-        (placed half ((12, 12, 8) ∷ (11, 10, 3) ∷ (6, 5, 6) ∷ (4, 3, 1) ∷ (2, 2, 5) ∷ []))
+    (placed half ((12, 12, 8) ∷ (11, 10, 3) ∷ (6, 5, 6) ∷ (4, 3, 1) ∷ (2, 2, 5) ∷ []))

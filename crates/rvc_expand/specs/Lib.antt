@@ -3,3 +3,4 @@ pub mod Formats
 pub mod Instructions
 pub mod Halfword
 pub mod Table
+pub mod Laws

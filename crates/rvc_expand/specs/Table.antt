@@ -29,7 +29,7 @@ unfoldable pub quadrant_0 : List Form
 quadrant_0 =
     -- C.ADDI4SPN; with immediate 0 the halfword 0000 is the defined illegal instruction
     form (λ h. is_at h 0b00 0b000 && is_nonzero (addi4spn_immediate h))
-        (λ h. addi (second_popular h) stack_pointer (addi4spn_immediate h))
+    (λ h. addi (second_popular h) stack_pointer (addi4spn_immediate h))
     -- C.LW
     ∷ form (λ h. is_at h 0b00 0b010) (λ h. lw (second_popular h) (first_popular h) (word_offset h))
     -- C.LD
@@ -48,42 +48,42 @@ quadrant_1 =
     form (λ h. is_at h 0b01 0b000) (λ h. addi (first_register h) (first_register h) (small_immediate h))
     -- C.ADDIW
     ∷ form (λ h. is_at h 0b01 0b001 && is_nonzero (first_register h))
-        (λ h. addiw (first_register h) (first_register h) (small_immediate h))
+    (λ h. addiw (first_register h) (first_register h) (small_immediate h))
     -- C.LI
     ∷ form (λ h. is_at h 0b01 0b010) (λ h. addi (first_register h) zero_register (small_immediate h))
     -- C.ADDI16SP
     ∷ form (λ h. is_at h 0b01 0b011 && first_register h == stack_pointer && is_nonzero (addi16sp_immediate h))
-        (λ h. addi stack_pointer stack_pointer (addi16sp_immediate h))
+    (λ h. addi stack_pointer stack_pointer (addi16sp_immediate h))
     -- C.LUI
     ∷ form (λ h. is_at h 0b01 0b011 && not (first_register h == stack_pointer) && is_nonzero (lui_immediate h))
-        (λ h. lui (first_register h) (lui_immediate h))
+    (λ h. lui (first_register h) (lui_immediate h))
     -- C.SRLI
     ∷ form (λ h. is_at h 0b01 0b100 && field h 11 10 == 0b00)
-        (λ h. srli (first_popular h) (first_popular h) (shift_amount h))
+    (λ h. srli (first_popular h) (first_popular h) (shift_amount h))
     -- C.SRAI
     ∷ form (λ h. is_at h 0b01 0b100 && field h 11 10 == 0b01)
-        (λ h. srai (first_popular h) (first_popular h) (shift_amount h))
+    (λ h. srai (first_popular h) (first_popular h) (shift_amount h))
     -- C.ANDI
     ∷ form (λ h. is_at h 0b01 0b100 && field h 11 10 == 0b10)
-        (λ h. andi (first_popular h) (first_popular h) (small_immediate h))
+    (λ h. andi (first_popular h) (first_popular h) (small_immediate h))
     -- C.SUB
     ∷ form (λ h. is_at h 0b01 0b100 && field h 11 10 == 0b11 && field h 12 12 == 0 && field h 6 5 == 0b00)
-        (λ h. sub (first_popular h) (first_popular h) (second_popular h))
+    (λ h. sub (first_popular h) (first_popular h) (second_popular h))
     -- C.XOR
     ∷ form (λ h. is_at h 0b01 0b100 && field h 11 10 == 0b11 && field h 12 12 == 0 && field h 6 5 == 0b01)
-        (λ h. xor (first_popular h) (first_popular h) (second_popular h))
+    (λ h. xor (first_popular h) (first_popular h) (second_popular h))
     -- C.OR
     ∷ form (λ h. is_at h 0b01 0b100 && field h 11 10 == 0b11 && field h 12 12 == 0 && field h 6 5 == 0b10)
-        (λ h. or (first_popular h) (first_popular h) (second_popular h))
+    (λ h. or (first_popular h) (first_popular h) (second_popular h))
     -- C.AND
     ∷ form (λ h. is_at h 0b01 0b100 && field h 11 10 == 0b11 && field h 12 12 == 0 && field h 6 5 == 0b11)
-        (λ h. and (first_popular h) (first_popular h) (second_popular h))
+    (λ h. and (first_popular h) (first_popular h) (second_popular h))
     -- C.SUBW
     ∷ form (λ h. is_at h 0b01 0b100 && field h 11 10 == 0b11 && field h 12 12 == 1 && field h 6 5 == 0b00)
-        (λ h. subw (first_popular h) (first_popular h) (second_popular h))
+    (λ h. subw (first_popular h) (first_popular h) (second_popular h))
     -- C.ADDW
     ∷ form (λ h. is_at h 0b01 0b100 && field h 11 10 == 0b11 && field h 12 12 == 1 && field h 6 5 == 0b01)
-        (λ h. addw (first_popular h) (first_popular h) (second_popular h))
+    (λ h. addw (first_popular h) (first_popular h) (second_popular h))
     -- C.J
     ∷ form (λ h. is_at h 0b01 0b101) (λ h. jal zero_register (jump_offset h))
     -- C.BEQZ
@@ -99,25 +99,25 @@ quadrant_2 =
     form (λ h. is_at h 0b10 0b000) (λ h. slli (first_register h) (first_register h) (shift_amount h))
     -- C.LWSP
     ∷ form (λ h. is_at h 0b10 0b010 && is_nonzero (first_register h))
-        (λ h. lw (first_register h) stack_pointer (lwsp_offset h))
+    (λ h. lw (first_register h) stack_pointer (lwsp_offset h))
     -- C.LDSP
     ∷ form (λ h. is_at h 0b10 0b011 && is_nonzero (first_register h))
-        (λ h. ld (first_register h) stack_pointer (ldsp_offset h))
+    (λ h. ld (first_register h) stack_pointer (ldsp_offset h))
     -- C.JR
     ∷ form (λ h. is_at h 0b10 0b100 && field h 12 12 == 0 && second_register h == 0 && is_nonzero (first_register h))
-        (λ h. jalr zero_register (first_register h) 0)
+    (λ h. jalr zero_register (first_register h) 0)
     -- C.MV
     ∷ form (λ h. is_at h 0b10 0b100 && field h 12 12 == 0 && is_nonzero (second_register h))
-        (λ h. add (first_register h) zero_register (second_register h))
+    (λ h. add (first_register h) zero_register (second_register h))
     -- C.EBREAK
     ∷ form (λ h. is_at h 0b10 0b100 && field h 12 12 == 1 && second_register h == 0 && first_register h == 0)
-        (λ h. ebreak)
+    (λ h. ebreak)
     -- C.JALR
     ∷ form (λ h. is_at h 0b10 0b100 && field h 12 12 == 1 && second_register h == 0 && is_nonzero (first_register h))
-        (λ h. jalr link_register (first_register h) 0)
+    (λ h. jalr link_register (first_register h) 0)
     -- C.ADD
     ∷ form (λ h. is_at h 0b10 0b100 && field h 12 12 == 1 && is_nonzero (second_register h))
-        (λ h. add (first_register h) (first_register h) (second_register h))
+    (λ h. add (first_register h) (first_register h) (second_register h))
     -- C.SWSP
     ∷ form (λ h. is_at h 0b10 0b110) (λ h. sw (second_register h) stack_pointer (swsp_offset h))
     -- C.SDSP

@@ -8,15 +8,25 @@ use crate::formats::{b_type, i_type, j_type, r_type, s_type, u_type};
 
 // The major opcodes, by the ISA manual's names.
 const LOAD: u32 = 0x03;
+
 const OP_IMM: u32 = 0x13;
+
 const OP_IMM_32: u32 = 0x1b;
+
 const STORE: u32 = 0x23;
+
 const OP: u32 = 0x33;
+
 const LUI: u32 = 0x37;
+
 const OP_32: u32 = 0x3b;
+
 const BRANCH: u32 = 0x63;
+
 const JALR: u32 = 0x67;
+
 const JAL: u32 = 0x6f;
+
 const SYSTEM: u32 = 0x73;
 
 /// `addi rd, rs1, immediate`.

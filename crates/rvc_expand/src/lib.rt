@@ -14,5 +14,7 @@ mod halfword;
 mod instructions;
 pub mod laws;
 mod rows;
+#[cfg(test)]
+mod tests;
 
 pub use rows::expand;

@@ -1,22 +1,28 @@
 //! The choice of the row of the compressed table that holds of a halfword.
 
-ghost use Rattle.std.specs.Prelude.{◌≡◌, ◌<◌, ◌^◌};
+ghost use Rattle.std.specs.Prelude.{◌≡◌, if◌then◌else◌};
 ghost use Rattle.rvc_expand.specs.Bits.{field};
+ghost use Rattle.rvc_expand.specs.Halfword.{is_nonzero};
 ghost use Rattle.rvc_expand.specs.Table.{quadrant_0, quadrant_1, quadrant_2, first_word, expansion};
 
 use crate::bits::field;
 use crate::halfword::{
-    addi16sp_immediate, addi4spn_immediate, branch_offset, double_offset, first_popular, first_register,
-    jump_offset, ldsp_offset, lui_immediate, lwsp_offset, sdsp_offset, second_popular, second_register,
-    shift_amount, small_immediate, swsp_offset, word_offset,
+    addi4spn_immediate, addi16sp_immediate, branch_offset, double_offset, first_popular,
+    first_register, jump_offset, ldsp_offset, lui_immediate, lwsp_offset, sdsp_offset,
+    second_popular, second_register, shift_amount, small_immediate, swsp_offset, word_offset,
 };
 use crate::instructions::{
-    add, addi, addiw, addw, and, andi, beq, bne, ebreak, jal, jalr, ld, lui, lw, or, sd, slli, srai, srli,
-    sub, subw, sw, xor,
+    add, addi, addiw, addw, and, andi, beq, bne, ebreak, jal, jalr, ld, lui, lw, or, sd, slli,
+    srai, srli, sub, subw, sw, xor,
 };
 
+/// x0, whose value is always 0.
 const ZERO: u32 = 0;
+
+/// x1, the return address.
 const LINK_REGISTER: u32 = 1;
+
+/// x2.
 const STACK_POINTER: u32 = 2;
 
 /// The 32-bit instruction that the 16-bit instruction `half` stands for (RISC-V Unprivileged ISA
@@ -45,12 +51,14 @@ fn expand_quadrant_0(half: u32) -> Option<u32>
     requires quadrant { field half 1 0 ≡ 0 }
     ensures { result ≡ first_word quadrant_0 half }
 {
+    let base = first_popular(half);
+    let data = second_popular(half);
     match field(half, 15, 13) {
         0b000 => expand_addi4spn(half),
-        0b010 => Some(lw(second_popular(half), first_popular(half), word_offset(half))),
-        0b011 => Some(ld(second_popular(half), first_popular(half), double_offset(half))),
-        0b110 => Some(sw(second_popular(half), first_popular(half), word_offset(half))),
-        0b111 => Some(sd(second_popular(half), first_popular(half), double_offset(half))),
+        0b010 => Some(lw(data, base, word_offset(half))),
+        0b011 => Some(ld(data, base, double_offset(half))),
+        0b110 => Some(sw(data, base, word_offset(half))),
+        0b111 => Some(sd(data, base, double_offset(half))),
         _ => None,
     }
 }
@@ -63,10 +71,8 @@ fn expand_addi4spn(half: u32) -> Option<u32>
     requires funct3 { field half 15 13 ≡ 0 }
     ensures { result ≡ first_word quadrant_0 half }
 {
-    match addi4spn_immediate(half) {
-        0 => None,
-        immediate => Some(addi(second_popular(half), STACK_POINTER, immediate)),
-    }
+    let immediate = nonzero(addi4spn_immediate(half))?;
+    Some(addi(second_popular(half), STACK_POINTER, immediate))
 }
 
 /// Quadrant 1: arithmetic with small immediates, and jumps and branches.
@@ -100,15 +106,11 @@ fn expand_addi16sp_or_lui(half: u32) -> Option<u32>
 {
     let rd = first_register(half);
     if rd == STACK_POINTER {
-        match addi16sp_immediate(half) {
-            0 => None,
-            immediate => Some(addi(STACK_POINTER, STACK_POINTER, immediate)),
-        }
+        let immediate = nonzero(addi16sp_immediate(half))?;
+        Some(addi(STACK_POINTER, STACK_POINTER, immediate))
     } else {
-        match lui_immediate(half) {
-            0 => None,
-            immediate => Some(lui(rd, immediate)),
-        }
+        let immediate = nonzero(lui_immediate(half))?;
+        Some(lui(rd, immediate))
     }
 }
 
@@ -178,7 +180,11 @@ fn expand_move_or_jump(half: u32) -> Option<u32>
     requires funct3 { field half 15 13 ≡ 4 }
     ensures { result ≡ first_word quadrant_2 half }
 {
-    match (field(half, 12, 12), first_register(half), second_register(half)) {
+    match (
+        field(half, 12, 12),
+        first_register(half),
+        second_register(half),
+    ) {
         (0, ZERO, ZERO) => None,
         (0, rs1, ZERO) => Some(jalr(ZERO, rs1, 0)),
         (0, rd, rs2) => Some(add(rd, ZERO, rs2)),
@@ -186,4 +192,12 @@ fn expand_move_or_jump(half: u32) -> Option<u32>
         (_, rs1, ZERO) => Some(jalr(LINK_REGISTER, rs1, 0)),
         (_, rd, rs2) => Some(add(rd, rd, rs2)),
     }
+}
+
+/// The number, where it is not 0: an immediate of 0 is refused by some forms.
+#[inline]
+fn nonzero(number: u32) -> Option<u32>
+    ensures { result ≡ (if is_nonzero number then Some number else None) }
+{
+    (number != 0).then_some(number)
 }
