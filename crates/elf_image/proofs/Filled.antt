@@ -1,5 +1,5 @@
 -- Sections without those that are empty.
-use Rattle.std.proofs.Common.{◌≡◌, ℕ, ◌+◌, ◌<◌, Bool, true, false, ◌&&◌, ◌||◌, List, [], ◌∷◌, ltb, refl, sym, ap, ap₂, ◌∙◌, arith, inl, inr, subst}
+use Rattle.std.proofs.Common.{◌≡◌, ℕ, ◌<◌, Bool, true, false, ◌&&◌, ◌||◌, List, [], ◌∷◌, ltb, refl, sym, ap, ap₂, ◌∙◌, arith, inl, inr, subst}
 use Rattle.std.specs.List.{find, filter, list_any, All}
 use Rattle.std.proofs.lemmas.Bool.{cases_Bool, ltb-true, and_parts}
 use Rattle.std.proofs.lemmas.List.Elements.{All-cons}
@@ -24,7 +24,7 @@ pub finds_among : (test : Section → Bool) (xs all filled : List Section) → f
 finds_among test xs all filled is same a n some =
     same a n some ∙ ap (find (holds_bytes a n)) is
     ∙ find-filter (λ s. test s && ltb 0 s.size) (holds_bytes a n) (λ s. test s && holds_bytes a n s)
-        (λ s. and_assoc (test s) (ltb 0 s.size) (holds_bytes a n s) ∙ ap (λ b. test s && b) (holds-filled a n some s)) all
+    (λ s. and_assoc (test s) (ltb 0 s.size) (holds_bytes a n s) ∙ ap (λ b. test s && b) (holds-filled a n some s)) all
 
 -- an empty section shares no address
 empty-shares : (s t : Section) → ltb 0 s.size ≡ false → shares_address s t ≡ false
@@ -38,10 +38,12 @@ any_shares-filled test s [] = refl
 any_shares-filled test s (t ∷ ts) =
     let rest = any_shares-filled test s ts in
     elim (cases_Bool (test t)) [
-      inl passes ↦ elim (cases_Bool (ltb 0 t.size)) [
-        inl full ↦ rw (passes, full) (ap (λ b. shares_address s t || b) rest)
-      | inr empty ↦ rw (passes, empty, shares-empty s t empty) rest ]
-    | inr fails ↦ rw fails rest ]
+      | inl passes ↦ elim (cases_Bool (ltb 0 t.size)) [
+        | inl full ↦ rw (passes, full) (ap (λ b. shares_address s t || b) rest)
+        | inr empty ↦ rw (passes, empty, shares-empty s t empty) rest
+      ]
+      | inr fails ↦ rw fails rest
+    ]
 
 empty-any_shares : (s : Section) (ts : List Section) → ltb 0 s.size ≡ false → list_any (shares_address s) ts ≡ false
 empty-any_shares s [] empty = refl
@@ -53,17 +55,20 @@ pairs-filled test [] = refl
 pairs-filled test (s ∷ ss) =
     let rest = pairs-filled test ss in
     elim (cases_Bool (test s)) [
-      inl passes ↦ elim (cases_Bool (ltb 0 s.size)) [
-        inl full ↦ rw (passes, full) (ap₂ (λ a b. a || b) (any_shares-filled test s ss) rest)
-      | inr empty ↦ rw (passes, empty, empty-any_shares s (filter test ss) empty) rest ]
-    | inr fails ↦ rw fails rest ]
+      | inl passes ↦ elim (cases_Bool (ltb 0 s.size)) [
+        | inl full ↦ rw (passes, full) (ap₂ (λ a b. a || b) (any_shares-filled test s ss) rest)
+        | inr empty ↦ rw (passes, empty, empty-any_shares s (filter test ss) empty) rest
+      ]
+      | inr fails ↦ rw fails rest
+    ]
 
 -- what a filter keeps passes
 pub filled-kept : (test : Section → Bool) (all filled : List Section) → filled ≡ filter (λ s. test s && ltb 0 s.size) all → All (λ s. 0 < s.size) filled
 filled-kept test all filled is = subst (All (λ s. 0 < s.size)) (sym is) (kept test all)
-    where
-      kept : (test : Section → Bool) (ss : List Section) → All (λ s. 0 < s.size) (filter (λ s. test s && ltb 0 s.size) ss)
-      kept test [] = λ k d below. absurd (omega arith)
-      kept test (s ∷ ss) = elim (cases_Bool (test s && ltb 0 s.size)) [
-          inl passes ↦ rw passes (All-cons (λ s. 0 < s.size) s (filter (λ s. test s && ltb 0 s.size) ss) (ltb-true 0 s.size (and_parts (test s) (ltb 0 s.size) passes).1) (kept test ss))
-        | inr fails ↦ rw fails (kept test ss) ]
+  where
+    kept : (test : Section → Bool) (ss : List Section) → All (λ s. 0 < s.size) (filter (λ s. test s && ltb 0 s.size) ss)
+    kept test [] = λ k d below. absurd (omega arith)
+    kept test (s ∷ ss) = elim (cases_Bool (test s && ltb 0 s.size)) [
+      | inl passes ↦ rw passes (All-cons (λ s. 0 < s.size) s (filter (λ s. test s && ltb 0 s.size) ss) (ltb-true 0 s.size (and_parts (test s) (ltb 0 s.size) passes).1) (kept test ss))
+      | inr fails ↦ rw fails (kept test ss)
+    ]

@@ -1,6 +1,6 @@
 -- The first fault, pass by pass.
-use Rattle.std.proofs.Common.{◌≡◌, ℕ, zero, suc, ◌<◌, ◌≤◌, Bool, true, false, cond, List, [], ◌∷◌, ◌++◌, length, get_or, Option, Some, None, refl, sym, ap, ◌∙◌, arith, lit<}
-use Rattle.std.specs.List.{find, list_any}
+use Rattle.std.proofs.Common.{◌≡◌, ℕ, zero, suc, ◌<◌, ◌≤◌, Bool, true, false, cond, List, [], ◌∷◌, ◌++◌, length, get_or, Option, Some, None, refl, ap, ◌∙◌, arith, lit<}
+use Rattle.std.specs.List.{find}
 use Rattle.std.specs.Option.{option_or}
 use Rattle.std.proofs.lemmas.Bool.{ltb-false}
 use Rattle.std.proofs.lemmas.List.Folds.{find-append}
@@ -22,7 +22,7 @@ found-none : (x : Fault) (o : Option Fault) (b : Bool) → cond b (Some x) o ≡
 found-none x o true h = cc
 found-none x o false h = (refl, h)
 
-none-at : (p : Fault → Bool) (fs : List Fault) (k : ℕ) (d : Fault) → find p fs ≡ None → k < length fs → p (get_or fs k d) ≡ false
+pub none-at : (p : Fault → Bool) (fs : List Fault) (k : ℕ) (d : Fault) → find p fs ≡ None → k < length fs → p (get_or fs k d) ≡ false
 none-at p [] k d none within = absurd (omega arith)
 none-at p (f ∷ fs) zero d none within = (found-none f (find p fs) (p f) none).0
 none-at p (f ∷ fs) (suc k) d none within = none-at p fs k d (found-none f (find p fs) (p f) none).1 (omega arith)

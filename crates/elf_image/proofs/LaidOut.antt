@@ -1,8 +1,7 @@
 -- Sections of which each ends where the next begins, or before.
-use Rattle.std.proofs.Common.{◌≡◌, ◌≢◌, ℕ, suc, zero, ◌+◌, ◌-◌, ◌<◌, ◌≤◌, ◌^◌, Bool, true, false, not, cond, List, [], ◌∷◌, length, get_or, Option, Some, None, MatchBool, refl, sym, ap, ◌∙◌, subst, arith, inl, inr, leb, ltb, max, min, ap₂}
-use Rattle.std.specs.Prelude.{◌⊎◌}
-use Rattle.std.specs.List.{find, All, AllWithin, AllAdjacentBelow, Contains, list_any}
-use Rattle.std.specs.List.Sorted.{IsPermutation, IsNonDecreasingBy, IsPartitionedBy, IsPartitionPoint}
+use Rattle.std.proofs.Common.{◌≡◌, ◌≢◌, ℕ, suc, zero, ◌+◌, ◌-◌, ◌<◌, ◌≤◌, true, false, cond, List, length, get_or, Some, None, refl, sym, ap, ◌∙◌, subst, arith, inl, inr, leb, ltb, max, min, ap₂}
+use Rattle.std.specs.List.{find, All, Contains}
+use Rattle.std.specs.List.Sorted.{IsPermutation, IsNonDecreasingBy, IsPartitionPoint}
 use Rattle.std.proofs.lemmas.Bool.{cases_Bool, cases_order, false_from_ne_true, cond-true, cond-false, ltb-true, lt-ltb, leb-true, leb-false}
 use Rattle.std.proofs.lemmas.Bool.Decides.{nat_tests}
 use Rattle.std.proofs.Math.Nat.{max_comm, min_comm}
@@ -14,7 +13,7 @@ use Rattle.elf_image.specs.Sections.{holds_bytes}
 use Rattle.elf_image.specs.FaultTests.{any_pair, shares_address}
 use Rattle.elf_image.specs.Spans.{IsLaidOut, HasOverhang, FindsSame}
 use Rattle.elf_image.proofs.Finds.{find-at, find-none, find-permutation}
-use Rattle.elf_image.proofs.Pairs.{Pair, any_pair-at, pair-from_any_pair, any_pair-permutation}
+use Rattle.elf_image.proofs.Pairs.{any_pair-at, pair-from_any_pair, any_pair-permutation}
 
 -- a section, to read past the end of a list
 abbrev pub no_section : Section
@@ -59,31 +58,36 @@ laid_out-once xs out a n some s t s_there t_there s_holds t_holds =
     let s_in = holds-true a n (get_or xs i no_section) (ap (holds_bytes a n) is_s ∙ s_holds) in
     let t_in = holds-true a n (get_or xs j no_section) (ap (holds_bytes a n) is_t ∙ t_holds) in
     elim (cases_order i j) [
-      inl same ↦ sym is_s ∙ ap (λ k. get_or xs k no_section) same ∙ is_t
-    | inr other ↦ elim other [
-        inl less ↦ absurd (omega (arith, end-le-start xs out i j no_section less t_there.1))
-      | inr more ↦ absurd (omega (arith, end-le-start xs out j i no_section more s_there.1)) ] ]
+      | inl same ↦ sym is_s ∙ ap (λ k. get_or xs k no_section) same ∙ is_t
+      | inr other ↦ elim other [
+        | inl less ↦ absurd (omega (arith, end-le-start xs out i j no_section less t_there.1))
+        | inr more ↦ absurd (omega (arith, end-le-start xs out j i no_section more s_there.1))
+      ]
+    ]
 
 -- the section before the first that begins past the address is the only one that may have the bytes
 pub find-laid_out : (xs : List Section) → IsLaidOut xs → (a n i : ℕ) (d : Section) → 0 < n → i < length xs → ((k : ℕ) → suc i ≤ k → k < length xs → a < (get_or xs k d).address) → (get_or xs i d).address ≤ a → find (holds_bytes a n) xs ≡ cond (holds_bytes a n (get_or xs i d)) (Some (get_or xs i d)) None
 find-laid_out xs out a n i d some within after here =
     elim (cases_Bool (holds_bytes a n (get_or xs i d))) [
-      inl passes ↦
-        find-at (holds_bytes a n) xs i d within
-            (λ k below. holds-above a n (get_or xs k d) (omega (arith, end-le-start xs out k i d below within))) passes
-        ∙ sym (cond-true _ (Some (get_or xs i d)) None passes)
-    | inr fails ↦
-        find-none (holds_bytes a n) xs (list_any_none (holds_bytes a n) xs (λ k e below. others k e below fails))
-        ∙ sym (cond-false _ (Some (get_or xs i d)) None fails) ]
-    where
-      others : (k : ℕ) (e : Section) → k < length xs → holds_bytes a n (get_or xs i d) ≡ false → holds_bytes a n (get_or xs k e) ≡ false
-      others k e below fails =
-          let same = get_or_default xs k e d below in
-          elim (cases_order k i) [
-            inl at ↦ ap (holds_bytes a n) (same ∙ ap (λ j. get_or xs j d) at) ∙ fails
+      | inl passes ↦
+          find-at (holds_bytes a n) xs i d within
+          (λ k below. holds-above a n (get_or xs k d) (omega (arith, end-le-start xs out k i d below within))) passes
+          ∙ sym (cond-true _ (Some (get_or xs i d)) None passes)
+      | inr fails ↦
+          find-none (holds_bytes a n) xs (list_any_none (holds_bytes a n) xs (λ k e below. others k e below fails))
+          ∙ sym (cond-false _ (Some (get_or xs i d)) None fails)
+    ]
+  where
+    others : (k : ℕ) (e : Section) → k < length xs → holds_bytes a n (get_or xs i d) ≡ false → holds_bytes a n (get_or xs k e) ≡ false
+    others k e below fails =
+        let same = get_or_default xs k e d below in
+        elim (cases_order k i) [
+          | inl at ↦ ap (holds_bytes a n) (same ∙ ap (λ j. get_or xs j d) at) ∙ fails
           | inr other ↦ ap (holds_bytes a n) same ∙ elim other [
-              inl less ↦ holds-above a n (get_or xs k d) (omega (arith, end-le-start xs out k i d less within))
-            | inr more ↦ holds-below a n (get_or xs k d) (after k more below) ] ]
+            | inl less ↦ holds-above a n (get_or xs k d) (omega (arith, end-le-start xs out k i d less within))
+            | inr more ↦ holds-below a n (get_or xs k d) (after k more below)
+          ]
+        ]
 
 -- where the first begins past the address, none has the bytes
 pub find-before_all : (xs : List Section) (a n : ℕ) → ((k : ℕ) (d : Section) → k < length xs → a < (get_or xs k d).address) → find (holds_bytes a n) xs ≡ None
@@ -100,13 +104,15 @@ shares-from s t in_order over some = lt-ltb (max s.address t.address) (min (s.ad
 pub laid_out-apart : (xs : List Section) → IsLaidOut xs → any_pair shares_address xs ≡ false
 laid_out-apart xs out =
     false_from_ne_true (any_pair shares_address xs) (λ some.
-        let p = pair-from_any_pair shares_address no_section xs some in
-        let met = shares-true (get_or xs p.first no_section) (get_or xs p.second no_section) p.holds in
-        elim (cases_order p.first p.second) [
-          inl same ↦ p.differ same
-        | inr other ↦ elim other [
-            inl less ↦ absurd (omega (arith, end-le-start xs out p.first p.second no_section less p.second_within))
-          | inr more ↦ absurd (omega (arith, end-le-start xs out p.second p.first no_section more p.first_within)) ] ])
+    let p = pair-from_any_pair shares_address no_section xs some in
+    let met = shares-true (get_or xs p.first no_section) (get_or xs p.second no_section) p.holds in
+    elim (cases_order p.first p.second) [
+      | inl same ↦ p.differ same
+      | inr other ↦ elim other [
+        | inl less ↦ absurd (omega (arith, end-le-start xs out p.first p.second no_section less p.second_within))
+        | inr more ↦ absurd (omega (arith, end-le-start xs out p.second p.first no_section more p.first_within))
+      ]
+    ])
 
 -- sections in order, none of them empty, of which one ends past the next: the two share an address
 pub overhang-pair : (xs : List Section) → IsNonDecreasingBy (λ s. s.address) xs → All (λ s. 0 < s.size) xs → HasOverhang xs → any_pair shares_address xs ≡ true
@@ -138,8 +144,8 @@ find-none_before xs a n i none split =
 pub find-last_before : (xs : List Section) → IsLaidOut xs → (a n i : ℕ) → 0 < n → i ≢ 0 → i ≤ length xs → IsPartitionPoint (λ (s : Section). leb s.address a ≡ true) (λ s. leb s.address a ≡ false) xs i → find (holds_bytes a n) xs ≡ cond (holds_bytes a n (get_or xs (i - 1) no_section)) (Some (get_or xs (i - 1) no_section)) None
 find-last_before xs out a n i some there within split =
     find-laid_out xs out a n (i - 1) no_section some (omega arith)
-        (λ k after below. leb-false (get_or xs k no_section).address a (split.1 k no_section (omega arith) below))
-        (leb-true (get_or xs (i - 1) no_section).address a (split.0 (i - 1) no_section (omega arith) (omega arith)))
+    (λ k after below. leb-false (get_or xs k no_section).address a (split.1 k no_section (omega arith) below))
+    (leb-true (get_or xs (i - 1) no_section).address a (split.0 (i - 1) no_section (omega arith) (omega arith)))
 
 -- what is known of sections once they are sorted: xs as given, ys in order, and the two lists that were read
 module _ (xs ys given read : List Section) (is_given : given ≡ xs) (is_read : read ≡ ys) (moved : IsPermutation given ys) where

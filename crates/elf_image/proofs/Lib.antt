@@ -5,3 +5,4 @@ pub mod Pairs
 pub mod LaidOut
 pub mod Filled
 pub mod FirstFault
+pub mod Accepted

@@ -10,5 +10,7 @@ pub mod Faults
 pub mod Passes
 pub mod Spans
 pub mod Layout
+pub mod Found
+pub mod Image
 pub mod FaultNames
 pub mod Outcome

@@ -1,5 +1,5 @@
 -- The faults of an image, in the order of `image_faults`, as the passes of the parse judge them.
-use Rattle.std.specs.Prelude.{List, [], ◌∷◌, ◌++◌}
+use Rattle.std.specs.Prelude.{List, [], ◌∷◌}
 use Rattle.elf_image.specs.declared.fault.Fault.{Fault}
 use Rattle.elf_image.specs.declared.fault.Fault.TheVariants.{TooLarge, Short, Magic, Class, Data, Version, Machine, FileType, HeaderSize, ProgramTable, Interp, NoSections, SectionTable, SectionRange, SectionWrap, CodeParity, CodeOverlap, Entry}
 

@@ -5,7 +5,7 @@ ghost use Rattle.std.specs.List.{find, filter};
 ghost use Rattle.elf_image.specs.Sections.{sections, is_code_section, is_read_only_section, holds_bytes};
 ghost use Rattle.elf_image.specs.Code.{is_even};
 ghost use Rattle.elf_image.specs.FaultTests.{any_pair, shares_address};
-ghost use Rattle.elf_image.specs.Faults.{first_among, first_image_fault, IsImage};
+ghost use Rattle.elf_image.specs.Faults.{first_among, first_fault, first_image_fault, IsImage};
 ghost use Rattle.elf_image.specs.Passes.{code_faults};
 ghost use Rattle.elf_image.specs.Outcome.{IfMalformed};
 ghost use Rattle.elf_image.specs.Layout.{FindsAmong, IsLayoutOf};
@@ -39,7 +39,11 @@ fn code_spans(alloc: Global, sections: &[Section]) -> Result<Spans, AllocError>
 fn filled_code(alloc: Global, sections: &[Section]) -> Result<Vec<Section>, AllocError>
     ensures { IfOk result (λ v. v.items ≡ filter (λ s. is_code_section s && nat_lt 0 s.size) sections.now) }
 {
-    sections.iter().copied().filter(|s| s.is_code() && s.size > 0).collect(alloc)
+    sections
+        .iter()
+        .copied()
+        .filter(|s| s.is_code() && s.size > 0)
+        .collect(alloc)
 }
 
 /// The read-only sections that are not empty.
@@ -53,7 +57,11 @@ fn read_only_spans(alloc: Global, sections: &[Section]) -> Result<Spans, AllocEr
 fn filled_read_only(alloc: Global, sections: &[Section]) -> Result<Vec<Section>, AllocError>
     ensures { IfOk result (λ v. v.items ≡ filter (λ s. is_read_only_section s && nat_lt 0 s.size) sections.now) }
 {
-    sections.iter().copied().filter(|s| s.is_read_only() && s.size > 0).collect(alloc)
+    sections
+        .iter()
+        .copied()
+        .filter(|s| s.is_read_only() && s.size > 0)
+        .collect(alloc)
 }
 
 /// The section that has both bytes of the halfword at `a`, where `a` is even.
@@ -85,6 +93,7 @@ pub(crate) fn judge(alloc: Global, bytes: &[u8]) -> Result<Layout, ElfError>
     ensures image { IfOk result (λ _. IsImage bytes.now) }
     ensures layout { IfOk result (λ layout. IsLayoutOf bytes.now layout) }
     ensures malformed { IfErr result (λ e. IfMalformed e (λ f. first_image_fault bytes.now ≡ Some f)) }
+    ensures first { IfErr result (λ e. IfMalformed e (λ f. first_fault bytes.now ≡ Some f)) }
 {
     if let Some(fault) = file_fault(bytes) {
         return Err(ElfError::Malformed(fault));

@@ -3,6 +3,7 @@
 
 mod fault;
 mod header;
+mod image;
 mod layout;
 mod number;
 mod section;
@@ -10,4 +11,8 @@ mod spans;
 mod table;
 
 pub use fault::{ElfError, Fault};
+pub use image::Image;
 pub use section::{Section, Span};
+
+#[cfg(test)]
+mod tests;

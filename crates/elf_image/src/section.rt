@@ -2,12 +2,16 @@
 
 /// `SHT_NULL`, `SHT_PROGBITS` and `SHT_NOBITS` of `sh_type`.
 const SHT_NULL: u32 = 0;
+
 const SHT_PROGBITS: u32 = 1;
+
 const SHT_NOBITS: u32 = 8;
 
 /// `SHF_WRITE`, `SHF_ALLOC` and `SHF_EXECINSTR` of `sh_flags`.
 const SHF_WRITE: u64 = 1;
+
 const SHF_ALLOC: u64 = 2;
+
 const SHF_EXECINSTR: u64 = 4;
 
 /// The header of one section, an `Elf64_Shdr` (System V ABI, "Section Header"), without the fields that nothing
@@ -66,9 +70,7 @@ impl Section {
     pub fn holds_bytes(&self, a: u64, n: u64) -> bool
         ensures { result ≡ holds_bytes a n self.now }
     {
-        a >= self.address
-            && a - self.address <= self.size
-            && n <= self.size - (a - self.address)
+        a >= self.address && a - self.address <= self.size && n <= self.size - (a - self.address)
     }
 }
 

@@ -1,4 +1,4 @@
-use Rattle.std.proofs.Common.{◌≡◌, ℕ, ◌<◌, true, false, eqb, sym, arith, rules}
+use Rattle.std.proofs.Common.{◌≡◌, ◌<◌, true, eqb, sym, arith}
 use Rattle.std.proofs.lemmas.Bool.Decides.{nat_tests}
 use Rattle.elf_image.specs.Header as header
 use Rattle.elf_image.specs.Header.{program_header_types}
@@ -20,4 +20,4 @@ unfolding has_fault has_interpreter program_header_types
 returns c =
     let bytes = c.args.bytes.now in
     sym (any-none (λ kind. eqb kind 3) (header.program_header_type bytes) (header.program_header_count bytes)
-        (λ k below. c.loop-i.invariant k (omega arith)))
+    (λ k below. c.loop-i.invariant k (omega arith)))

@@ -10,5 +10,5 @@ new-requires c =
 pub returns : goal.returns
 returns c =
     IfOk-weaker c.new.result _ _
-        (λ spans same. finds_among is_read_only_section spans.sections.items c.args.sections.now c.in_ok-filled_read_only.field-0.items c.in_ok-filled_read_only.ensures same)
-        c.new.ensures.same
+    (λ spans same. finds_among is_read_only_section spans.sections.items c.args.sections.now c.in_ok-filled_read_only.field-0.items c.in_ok-filled_read_only.ensures same)
+    c.new.ensures.same

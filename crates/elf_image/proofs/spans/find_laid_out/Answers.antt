@@ -1,6 +1,6 @@
-use Rattle.std.proofs.Common.{◌≡◌, ℕ, suc, ◌+◌, ◌-◌, ◌<◌, ◌≤◌, Bool, true, false, List, length, get_or, leb, sym, ◌∙◌, arith, rules, cond}
+use Rattle.std.proofs.Common.{◌≡◌, true, false, leb, sym, ◌∙◌, rules}
 use Rattle.std.specs.List.Sorted.{IsPartitionPoint}
-use Rattle.std.proofs.lemmas.Bool.{leb-true, leb-false, cond-true, cond-false}
+use Rattle.std.proofs.lemmas.Bool.{cond-true, cond-false}
 use Rattle.std.proofs.lemmas.List.Sorted.{IsPartitionPoint-from_clause, IsPartitionedBy-leb}
 use Rattle.elf_image.specs.declared.section.Section.{Section}
 use Rattle.elf_image.proofs.LaidOut.{find-none_before, find-last_before, laid_out-rises}
@@ -16,16 +16,16 @@ split c =
 pub returns-then-after-eq0 : goal.returns-then-after-eq0
 returns-then-after-eq0 c =
     sym (find-none_before c.args.sections.now c.args.a c.args.n c.partition_point-after.result c.if-after-eq0.true
-        (split (goal.at.returns-then-after-eq0 c).After-partition_point-after))
+    (split (goal.at.returns-then-after-eq0 c).After-partition_point-after))
 
 pub returns-then-holds_bytes : goal.returns-then-holds_bytes
 returns-then-holds_bytes c =
     sym (find-last_before c.args.sections.now c.requires.laid_out c.args.a c.args.n c.partition_point-after.result c.requires.some
-            c.if-after-eq0.false c.partition_point-after.ensures.bound (split (goal.at.returns-then-holds_bytes c).After-partition_point-after)
-        ∙ cond-true _ _ _ (sym c.holds_bytes.ensures ∙ c.if-holds_bytes.true))
+    c.if-after-eq0.false c.partition_point-after.ensures.bound (split (goal.at.returns-then-holds_bytes c).After-partition_point-after)
+    ∙ cond-true _ _ _ (sym c.holds_bytes.ensures ∙ c.if-holds_bytes.true))
 
 pub returns-else-holds_bytes : goal.returns-else-holds_bytes
 returns-else-holds_bytes c =
     sym (find-last_before c.args.sections.now c.requires.laid_out c.args.a c.args.n c.partition_point-after.result c.requires.some
-            c.if-after-eq0.false c.partition_point-after.ensures.bound (split (goal.at.returns-else-holds_bytes c).After-partition_point-after)
-        ∙ cond-false _ _ _ (sym c.holds_bytes.ensures ∙ c.if-holds_bytes.false))
+    c.if-after-eq0.false c.partition_point-after.ensures.bound (split (goal.at.returns-else-holds_bytes c).After-partition_point-after)
+    ∙ cond-false _ _ _ (sym c.holds_bytes.ensures ∙ c.if-holds_bytes.false))

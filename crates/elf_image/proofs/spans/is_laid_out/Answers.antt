@@ -1,4 +1,4 @@
-use Rattle.std.proofs.Common.{◌≡◌, ◌+◌, ◌<◌, ◌≤◌, ℕ, Bool, true, false, List, length, get_or, leb, MatchBool, sym, rules}
+use Rattle.std.proofs.Common.{◌≡◌, ◌+◌, Bool, true, false, List, leb, MatchBool, sym, rules}
 use Rattle.std.specs.List.{IsAllAdjacentAnswer}
 use Rattle.std.proofs.lemmas.Bool.{leb-true, leb-false}
 use Rattle.std.proofs.lemmas.List.Sorted.{answers_always}
