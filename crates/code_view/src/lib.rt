@@ -1,1 +1,10 @@
+//! A file's code as a program: the control flow of its instructions under table cuts.
+//!
+//! - `cuts`: how many entries are kept of a jump table. - `code`: the instructions of an image.
 #![tactic(auto)]
+
+mod code;
+mod cuts;
+
+pub use code::Code;
+pub use cuts::Cuts;

@@ -3,6 +3,7 @@
 
 ghost use Rattle.std.specs.Prelude.{◌≡◌, IsTrue};
 ghost use Rattle.elf_image.specs.Code.{is_code};
+ghost use Rattle.elf_image.specs.Faults.{IsImage};
 ghost use Rattle.rv_flow.specs.Placed.{placed_at, compressed_insn, whole_insn};
 
 use elf_image::Image;
@@ -25,7 +26,8 @@ pub struct Placed {
 /// section. Longer forms are none.
 pub fn insn_at(image: &Image, a: u64) -> Placed
     requires { IsTrue (is_code image.now a) }
-    ensures { result ≡ placed_at image.now a }
+    ensures placed { result ≡ placed_at image.now a }
+    ensures image { IsImage image.now }
 {
     let bad = Placed {
         length: 2,

@@ -3,6 +3,7 @@
 
 ghost use Rattle.std.specs.Prelude.{◌≡◌, ◌≤◌, IsTrue, Some};
 ghost use Rattle.elf_image.specs.Code.{is_code};
+ghost use Rattle.elf_image.specs.Faults.{IsImage};
 ghost use Rattle.rv_flow.specs.Raw.{raw_flow_at, insn_flow, jalr_flow, pair_target, upper_before, upper_of, word_before, address_plus, is_unimp};
 
 use crate::placed::insn_at;
@@ -34,7 +35,8 @@ pub enum RawFlow {
 /// The flow of the instruction at the code address `a`.
 pub fn raw_flow(image: &Image, a: u64) -> RawFlow
     requires { IsTrue (is_code image.now a) }
-    ensures { result ≡ raw_flow_at image.now a }
+    ensures flow { result ≡ raw_flow_at image.now a }
+    ensures image { IsImage image.now }
 {
     match insn_at(image, a).insn {
         None => RawFlow::Stop,

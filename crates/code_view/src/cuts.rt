@@ -1,0 +1,50 @@
+//! Table cuts: of some jump tables fewer entries are kept than are there.
+
+ghost use Rattle.std.specs.Prelude.{◌≡◌, ◌↔◌, IsTrue};
+ghost use Rattle.std.specs.Ordering.{nat_cmp};
+ghost use Rattle.std.specs.FinMap as map;
+ghost use Rattle.std.specs.Coded.{coded_ℕ};
+
+use std::alloc::Global;
+use std::collections::BTreeMap;
+use std::marker::Model;
+
+/// The number of entries that are kept of a jump table, by the address of its jump. A table without a
+/// cut keeps all its entries.
+#[derive(Drop)]
+pub struct Cuts {
+    counts: BTreeMap<u64, u32>,
+}
+
+impl Model for Cuts {
+    ghost Value = { map.FinMap nat_cmp ℕ };
+
+    ghost coded = { map.code coded_ℕ coded_ℕ };
+
+    ghost view = { λ a. map.from_entries a.counts.entries };
+}
+
+impl Cuts {
+    /// No cuts.
+    pub fn none(alloc: Global) -> Self
+        ensures { result ≡ map.empty }
+    {
+        Cuts {
+            counts: BTreeMap::new(alloc),
+        }
+    }
+
+    /// Whether no table is cut.
+    pub fn is_empty(&self) -> bool
+        ensures { IsTrue result ↔ (self.now ≡ map.empty) }
+    {
+        self.counts.is_empty()
+    }
+
+    /// The cut of the jump at `j`; `None` exactly where it has no cut.
+    pub fn count(&self, j: u64) -> Option<u32>
+        ensures { result ≡ map.get self.now j }
+    {
+        self.counts.get(&j).copied()
+    }
+}
