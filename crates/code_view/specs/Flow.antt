@@ -1,12 +1,10 @@
 -- The control flow of an instruction of a file under table cuts (Meng et al., PPoPP 2021; what counts
 -- as outside the code, and what is dropped, is this project's profile).
-use Rattle.std.specs.Prelude.{ℕ, ◌+◌, ◌==◌, Bool, List, [], Option, Some, None, take, unwrap_or, if◌then◌else◌}
-use Rattle.std.specs.Option.{option_map, option_map_or}
+use Rattle.std.specs.Prelude.{ℕ, ◌==◌, List, [], Option, Some, None, take, unwrap_or, if◌then◌else◌}
+use Rattle.std.specs.Option.{option_map_or}
 use Rattle.elf_image.specs.Code.{is_code}
 use Rattle.rv_flow.specs.declared.raw.RawFlow.{RawFlow}
 use Rattle.rv_flow.specs.declared.raw.RawFlow.TheVariants as raw
-use Rattle.rv_flow.specs.Placed.{placed_at}
-use Rattle.rv_flow.specs.Raw.{raw_flow_at}
 use Rattle.jump_table.specs.declared.table.Table.{Table}
 use Rattle.jump_table.specs.Table.{table_targets}
 use Rattle.cfg_model.specs.declared.flow.Flow.{Flow}

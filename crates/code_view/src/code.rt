@@ -1,9 +1,10 @@
 //! An image's instructions as a program.
 
 use crate::cuts::Cuts;
+use crate::flow::flow_by;
 use cfg_model::{Chains, Flow};
 use elf_image::Image;
-use rv_flow::{RawFlow, insn_at, raw_flow};
+use rv_flow::{insn_at, raw_flow};
 
 /// The code of an image under table cuts, as a program: an instruction at each code address.
 ///
@@ -18,19 +19,13 @@ pub struct Code<'a> {
 
 impl<'a> Code<'a> {
     ghost use Rattle.std.specs.Prelude.{◌≡◌};
+    ghost use Rattle.code_view.specs.Program.{program_without_tables};
 
     /// The code of `image` under `cuts`.
     pub fn new(image: &'a Image, cuts: &'a Cuts) -> Code<'a>
         ensures program { ⟦<Code<'a> as Chains>⟧.map result ≡ program_without_tables image.now }
     {
         Code { image, cuts }
-    }
-
-    // `a`, where it is a code address.
-    fn in_code(&self, a: Option<u64>) -> Option<u64>
-        ensures { result ≡ option_and_then (in_code self.now.image.now) a }
-    {
-        a.filter(|a| self.image.is_code(*a))
     }
 }
 
@@ -52,7 +47,7 @@ impl<'a> Chains for Code<'a> {
         insn_at(self.image, a).length
     }
 
-    fn target(&self, a: u64, _i: u32) -> u64 {
+    fn target(&self, _a: u64, _i: u32) -> u64 {
         unreachable!()
     }
 }

@@ -1,9 +1,7 @@
 //! Table cuts: of some jump tables fewer entries are kept than are there.
 
-ghost use Rattle.std.specs.Prelude.{◌≡◌, ◌↔◌, IsTrue};
-ghost use Rattle.std.specs.Ordering.{nat_cmp};
-ghost use Rattle.std.specs.FinMap as map;
-ghost use Rattle.std.specs.Coded.{coded_ℕ};
+ghost use Rattle.std.specs.Prelude.{◌≡◌, ◌↔◌, [], IsTrue};
+ghost use Rattle.code_view.specs.Cuts.{cut_of};
 
 use std::alloc::Global;
 use std::collections::BTreeMap;
@@ -17,17 +15,17 @@ pub struct Cuts {
 }
 
 impl Model for Cuts {
-    ghost Value = { map.FinMap nat_cmp ℕ };
+    ghost use Rattle.std.specs.Prelude.{ℕ, List};
 
-    ghost coded = { map.code coded_ℕ coded_ℕ };
+    ghost Value = { List (ℕ × ℕ) };
 
-    ghost view = { λ a. map.from_entries a.counts.entries };
+    ghost view = { λ a. a.counts.entries };
 }
 
 impl Cuts {
     /// No cuts.
     pub fn none(alloc: Global) -> Self
-        ensures { result ≡ map.empty }
+        ensures { result ≡ [] }
     {
         Cuts {
             counts: BTreeMap::new(alloc),
@@ -36,14 +34,14 @@ impl Cuts {
 
     /// Whether no table is cut.
     pub fn is_empty(&self) -> bool
-        ensures { IsTrue result ↔ (self.now ≡ map.empty) }
+        ensures { IsTrue result ↔ (self.now ≡ []) }
     {
         self.counts.is_empty()
     }
 
     /// The cut of the jump at `j`; `None` exactly where it has no cut.
     pub fn count(&self, j: u64) -> Option<u32>
-        ensures { result ≡ map.get self.now j }
+        ensures { result ≡ cut_of self.now j }
     {
         self.counts.get(&j).copied()
     }

@@ -5,6 +5,7 @@
 
 mod code;
 mod cuts;
+mod flow;
 
 pub use code::Code;
 pub use cuts::Cuts;
