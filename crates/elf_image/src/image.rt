@@ -83,6 +83,7 @@ impl Image {
     pub fn is_code(&self, a: u64) -> bool
         ensures value { result ≡ is_code self.now a }
         ensures in_memory { IsTrue result → a + 2 < 2 ^ 64 }
+        ensures image { IsImage self.now }
     {
         self.code_section(a).is_some()
     }
@@ -103,6 +104,7 @@ impl Image {
     pub fn half_at(&self, a: u64) -> Option<u16>
         ensures value { result ≡ half_at self.now a }
         ensures in_memory { OnSome result (a + 2 < 2 ^ 64) }
+        ensures image { IsImage self.now }
     {
         let s = self.code_section(a)?;
         Some(u16_at(&self.bytes, file_offset(&s, a)))
