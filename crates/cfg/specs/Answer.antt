@@ -12,6 +12,8 @@ use Rattle.cfg_model.specs.Reach.{Reached}
 use Rattle.cfg_model.specs.Graph.{IsEarlyGraph}
 use Rattle.code_view.specs.Program.{program_without_tables}
 use Rattle.graph_report.specs.Report.{early_text}
+use Rattle.cfg.specs.declared.refusal.Refusal.{Refusal}
+use Rattle.cfg.specs.declared.refusal.Refusal.TheVariants as refusals
 use Rattle.cfg.specs.declared.status.Status.{Status}
 use Rattle.cfg.specs.declared.status.Status.TheVariants as statuses
 
@@ -34,3 +36,12 @@ pub data Answers (bytes : List ℕ) : Status → List ℕ → Type 0 where
   malformed : {fault : Fault} → first_fault bytes ≡ Some fault → Answers bytes statuses.Malformed []
   not_yet : first_fault bytes ≡ None → ReachesUnbuilt bytes → Answers bytes statuses.NotYet []
   done : {graph : Graph} → first_fault bytes ≡ None → ¬ ReachesUnbuilt bytes → IsGraphOf bytes graph → Answers bytes statuses.Done (early_text graph)
+
+-- The bytes that a refusal is true of.
+abbrev pub IsRefusedWith : List ℕ → Refusal → Type 0
+IsRefusedWith bytes refusals.Usage = ⊥
+IsRefusedWith bytes (refusals.Malformed fault) = first_fault bytes ≡ Some fault
+IsRefusedWith bytes refusals.ReadFault = ⊥
+IsRefusedWith bytes refusals.WriteFault = ⊥
+IsRefusedWith bytes refusals.Memory = Unit {0}
+IsRefusedWith bytes refusals.NotYet = (first_fault bytes ≡ None) × ReachesUnbuilt bytes
