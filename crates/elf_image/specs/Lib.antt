@@ -1,0 +1,16 @@
+pub mod Number
+pub mod Header
+pub mod Sections
+pub mod Code
+pub mod ReadOnly
+pub mod Symbols
+pub mod Seeds
+pub mod FaultTests
+pub mod Faults
+pub mod Passes
+pub mod Spans
+pub mod Layout
+pub mod Found
+pub mod Image
+pub mod FaultNames
+pub mod Outcome

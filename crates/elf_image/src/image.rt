@@ -1,0 +1,173 @@
+//! An accepted file and what is read of it.
+
+ghost use Rattle.std.specs.Prelude.{◌≡◌, ℕ, ◌+◌, ◌-◌, ◌<◌, ◌≤◌, ◌^◌, List, length, false, IsTrue, IsSome, IfOk, IfErr, OnOk, OnSome, IfSome, None, Some};
+ghost use Rattle.elf_image.specs.Header as header;
+ghost use Rattle.elf_image.specs.Sections.{section, file_offset};
+ghost use Rattle.elf_image.specs.Code.{code_section_of, is_code, section_start, half_at, word_at};
+ghost use Rattle.elf_image.specs.ReadOnly.{is_read_only, data_section_of, data_word, span_bytes};
+ghost use Rattle.elf_image.specs.FaultTests.{is_out_of_file};
+ghost use Rattle.elf_image.specs.Faults.{first_fault, first_image_fault, first_symbol_fault, IsImage};
+ghost use Rattle.elf_image.specs.Outcome.{IfMalformed};
+ghost use Rattle.elf_image.specs.Found.{IsFoundAt};
+
+use crate::fault::ElfError;
+use crate::layout::{Layout, code_section, judge};
+use crate::number::{u16_at, u32_at, u64_at};
+use crate::section::{Section, Span};
+use std::alloc::Global;
+use std::marker::Model;
+
+/// A file without any of the faults up to [`Fault::Entry`](crate::Fault::Entry). To a caller it is the list of the
+/// file's bytes.
+#[derive(Drop)]
+pub struct Image {
+    bytes: Vec<u8>,
+    layout: Layout,
+}
+
+impl Model for Image {
+    ghost use Rattle.std.specs.Prelude.{List, ℕ};
+
+    ghost Value = { List ℕ };
+
+    ghost use Rattle.elf_image.specs.Image.{IsPrepared};
+
+    ghost view = { λ a. a.bytes.items };
+
+    ghost invariant = { IsPrepared };
+}
+
+impl Image {
+    /// Judges the bytes of a file, and keeps them. `Malformed` names the file's first fault, where that is one of
+    /// those up to [`Fault::Entry`](crate::Fault::Entry); faults of the symbols are not judged. After a refusal the
+    /// bytes are gone.
+    pub fn parse(alloc: Global, bytes: Vec<u8>) -> Result<Image, ElfError>
+        ensures ok { IfOk result (λ image. image ≡ bytes.items) }
+        ensures accepted { OnOk result (IsImage bytes.items) }
+        ensures rest { OnOk result (first_fault bytes.items ≡ first_symbol_fault bytes.items) }
+        ensures malformed { IfErr result (λ e. IfMalformed e (λ f. first_image_fault bytes.items ≡ Some f)) }
+        ensures first { IfErr result (λ e. IfMalformed e (λ f. first_fault bytes.items ≡ Some f)) }
+    {
+        let layout = judge(alloc, &bytes)?;
+        Ok(Image { bytes, layout })
+    }
+
+    /// The address where the program starts, a code address (`e_entry`).
+    pub fn entry(&self) -> u64
+        ensures entry { result ≡ header.entry self.now }
+        ensures code { IsTrue (is_code self.now result) }
+        ensures image { IsImage self.now }
+    {
+        u64_at(&self.bytes, 24)
+    }
+
+    /// The code section of a code address.
+    fn code_section(&self, a: u64) -> Option<Section>
+        ensures value { result ≡ code_section_of self.now a }
+        ensures found { IfSome result (IsFoundAt self.now a 2) }
+        ensures image { IsImage self.now }
+    {
+        code_section(&self.layout.code, a)
+    }
+
+    /// The first read-only section, in table order, that has the four bytes at `a`.
+    fn data_section(&self, a: u64) -> Option<Section>
+        ensures value { result ≡ data_section_of self.now a }
+        ensures found { IfSome result (IsFoundAt self.now a 4) }
+    {
+        self.layout.read_only.find(a, 4)
+    }
+
+    /// Whether `a` is a code address: an even address whose two bytes lie inside one code section.
+    pub fn is_code(&self, a: u64) -> bool
+        ensures value { result ≡ is_code self.now a }
+        ensures in_memory { IsTrue result → a + 2 < 2 ^ 64 }
+        ensures image { IsImage self.now }
+    {
+        self.code_section(a).is_some()
+    }
+
+    /// The address of the code section of a code address; `None` where `a` is no code address.
+    pub fn section_start(&self, a: u64) -> Option<u64>
+        ensures value { result ≡ section_start self.now a }
+        ensures below { IfSome result (λ start. start ≤ a) }
+    {
+        let s = self.code_section(a)?;
+        Some(s.address)
+    }
+
+    /// The halfword at a code address; `None` where `a` is no code address.
+    pub fn half_at(&self, a: u64) -> Option<u16>
+        ensures value { result ≡ half_at self.now a }
+        ensures in_memory { OnSome result (a + 2 < 2 ^ 64) }
+        ensures image { IsImage self.now }
+    {
+        let s = self.code_section(a)?;
+        Some(u16_at(&self.bytes, file_offset(&s, a)))
+    }
+
+    /// The word at a code address; `None` where `a` is no code address or its four bytes leave its code section.
+    pub fn word_at(&self, a: u64) -> Option<u32>
+        ensures value { result ≡ word_at self.now a }
+        ensures in_memory { OnSome result (a + 4 < 2 ^ 64) }
+    {
+        let s = self.code_section(a)?;
+        if s.holds_bytes(a, 4) {
+            Some(u32_at(&self.bytes, file_offset(&s, a)))
+        } else {
+            None
+        }
+    }
+
+    /// Whether the byte at `a` lies in a read-only section.
+    pub fn is_read_only(&self, a: u64) -> bool
+        ensures { result ≡ is_read_only self.now a }
+    {
+        self.layout.read_only.find(a, 1).is_some()
+    }
+
+    /// The word at `a` in the first read-only section, in table order, that has all four bytes; `None` where none has.
+    pub fn data_word(&self, a: u64) -> Option<u32>
+        ensures value { result ≡ data_word self.now a }
+        ensures in_memory { OnSome result (a + 4 < 2 ^ 64) }
+    {
+        let s = self.data_section(a)?;
+        Some(u32_at(&self.bytes, file_offset(&s, a)))
+    }
+
+    /// The number of sections (`e_shnum`).
+    pub fn section_count(&self) -> u32
+        ensures count { result ≡ header.section_count self.now }
+        ensures some { 0 < result }
+    {
+        u16_at(&self.bytes, 60).into()
+    }
+
+    /// The section at an index, which is below [`section_count`](Self::section_count).
+    pub fn section(&self, i: u32) -> Section
+        requires { i < header.section_count self.now }
+        ensures section { result ≡ section self.now i }
+        ensures in_file { is_out_of_file (length self.now) result ≡ false }
+        ensures small { length self.now ≤ 67108864 }
+    {
+        self.layout.sections[i as usize]
+    }
+
+    /// The bytes of a span, which lies in the file.
+    pub fn bytes(&self, span: Span) -> &[u8]
+        requires { span.at + span.len ≤ length self.now }
+        ensures { result.now ≡ span_bytes self.now span }
+    {
+        let at = span.at as usize;
+        &self.bytes[at..at + span.len as usize]
+    }
+}
+
+/// Where the byte at address `a` of a section stands in the file.
+fn file_offset(s: &Section, a: u64) -> usize
+    requires start { s.now.address ≤ a }
+    requires fits { s.now.offset + (a - s.now.address) < 2 ^ 64 }
+    ensures { result ≡ file_offset s.now a }
+{
+    (s.offset + (a - s.address)) as usize
+}

@@ -1,0 +1,115 @@
+//! The sections of a file, judged and prepared to be searched.
+
+ghost use Rattle.std.specs.Prelude.{◌≡◌, ◌≤◌, ◌&&◌, nat_lt, not, length, IfOk, IfErr, Some, None, if◌then◌else◌};
+ghost use Rattle.std.specs.List.{find, filter};
+ghost use Rattle.elf_image.specs.Sections.{sections, is_code_section, is_read_only_section, holds_bytes};
+ghost use Rattle.elf_image.specs.Code.{is_even};
+ghost use Rattle.elf_image.specs.FaultTests.{any_pair, shares_address};
+ghost use Rattle.elf_image.specs.Faults.{first_among, first_fault, first_image_fault, IsImage};
+ghost use Rattle.elf_image.specs.Passes.{code_faults};
+ghost use Rattle.elf_image.specs.Outcome.{IfMalformed};
+ghost use Rattle.elf_image.specs.Layout.{FindsAmong, IsLayoutOf};
+
+use crate::fault::{ElfError, Fault};
+use crate::header::file_fault;
+use crate::number::u64_at;
+use crate::section::Section;
+use crate::spans::Spans;
+use crate::table::{read_sections, section_fault};
+use std::alloc::{AllocError, Global};
+
+/// All sections of a file in table order, and those of code and of read-only data to be searched by address.
+#[derive(Drop)]
+pub(crate) struct Layout {
+    pub(crate) sections: Vec<Section>,
+    pub(crate) code: Spans,
+    pub(crate) read_only: Spans,
+}
+
+/// The code sections that are not empty.
+fn code_spans(alloc: Global, sections: &[Section]) -> Result<Spans, AllocError>
+    ensures finds { IfOk result (λ spans. FindsAmong is_code_section spans.sections.items sections.now) }
+    ensures overlap { IfOk result
+        (λ spans. not spans.is_laid_out ≡ any_pair shares_address (filter is_code_section sections.now)) }
+{
+    Spans::new(alloc, filled_code(alloc, sections)?)
+}
+
+/// The code sections that are not empty, in table order.
+fn filled_code(alloc: Global, sections: &[Section]) -> Result<Vec<Section>, AllocError>
+    ensures { IfOk result (λ v. v.items ≡ filter (λ s. is_code_section s && nat_lt 0 s.size) sections.now) }
+{
+    sections
+        .iter()
+        .copied()
+        .filter(|s| s.is_code() && s.size > 0)
+        .collect(alloc)
+}
+
+/// The read-only sections that are not empty.
+fn read_only_spans(alloc: Global, sections: &[Section]) -> Result<Spans, AllocError>
+    ensures { IfOk result (λ spans. FindsAmong is_read_only_section spans.sections.items sections.now) }
+{
+    Spans::new(alloc, filled_read_only(alloc, sections)?)
+}
+
+/// The read-only sections that are not empty, in table order.
+fn filled_read_only(alloc: Global, sections: &[Section]) -> Result<Vec<Section>, AllocError>
+    ensures { IfOk result (λ v. v.items ≡ filter (λ s. is_read_only_section s && nat_lt 0 s.size) sections.now) }
+{
+    sections
+        .iter()
+        .copied()
+        .filter(|s| s.is_read_only() && s.size > 0)
+        .collect(alloc)
+}
+
+/// The section that has both bytes of the halfword at `a`, where `a` is even.
+pub(crate) fn code_section(code: &Spans, a: u64) -> Option<Section>
+    ensures { result ≡ (if is_even a then find (holds_bytes a 2) code.now.sections.items else None) }
+{
+    if a % 2 == 0 { code.find(a, 2) } else { None }
+}
+
+/// The first fault of all code sections. `code` are those of the file.
+#[tactic(auto, unfolding(crate::specs::Faults::first_among, crate::specs::Faults::has_fault, crate::specs::FaultTests::has_code_overlap, crate::specs::FaultTests::has_entry_outside_code, crate::specs::Code::code_section_of))]
+fn code_fault(bytes: &[u8], code: &Spans) -> Option<Fault>
+    requires header { 64 ≤ length bytes.now }
+    requires finds { FindsAmong is_code_section code.now.sections.items (sections bytes.now) }
+    requires overlap { not code.now.is_laid_out ≡ any_pair shares_address (filter is_code_section (sections bytes.now)) }
+    ensures { result ≡ first_among code_faults bytes.now }
+{
+    if code.overlap() {
+        return Some(Fault::CodeOverlap);
+    }
+    if code_section(code, u64_at(bytes, 24)).is_none() {
+        return Some(Fault::Entry);
+    }
+    None
+}
+
+/// Judges a file by the faults of an image, and prepares what is searched.
+pub(crate) fn judge(alloc: Global, bytes: &[u8]) -> Result<Layout, ElfError>
+    ensures image { IfOk result (λ _. IsImage bytes.now) }
+    ensures layout { IfOk result (λ layout. IsLayoutOf bytes.now layout) }
+    ensures malformed { IfErr result (λ e. IfMalformed e (λ f. first_image_fault bytes.now ≡ Some f)) }
+    ensures first { IfErr result (λ e. IfMalformed e (λ f. first_fault bytes.now ≡ Some f)) }
+{
+    if let Some(fault) = file_fault(bytes) {
+        return Err(ElfError::Malformed(fault));
+    }
+    let sections = read_sections(alloc, bytes)?;
+    if let Some(fault) = section_fault(bytes, &sections) {
+        return Err(ElfError::Malformed(fault));
+    }
+    let code = code_spans(alloc, &sections)?;
+    if let Some(fault) = code_fault(bytes, &code) {
+        return Err(ElfError::Malformed(fault));
+    }
+    let read_only = read_only_spans(alloc, &sections)?;
+    Ok(Layout {
+        sections,
+        code,
+        read_only,
+    })
+}

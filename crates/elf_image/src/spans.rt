@@ -1,0 +1,110 @@
+//! Sections kept to be searched by address in logarithmic time.
+
+ghost use Rattle.std.specs.Prelude.{◌≡◌, ℕ, ◌+◌, ◌<◌, ◌≤◌, nat_le, not, length, IsTrue, IfOk};
+ghost use Rattle.std.specs.Bool.{MatchBool};
+ghost use Rattle.std.specs.List.{find, All};
+ghost use Rattle.std.specs.List.Sorted.{IsPermutation, IsNonDecreasingBy};
+ghost use Rattle.elf_image.specs.Sections.{holds_bytes};
+ghost use Rattle.elf_image.specs.FaultTests.{any_pair, shares_address};
+ghost use Rattle.elf_image.specs.Spans.{IsLaidOut, HasOverhang, FindsSame};
+
+use crate::section::Section;
+use std::alloc::{AllocError, Global};
+
+/// Sections that are not empty: in the order of their addresses where none shares an address with another, which
+/// is how a linker makes them, and else in the order in which they were given.
+#[derive(Drop)]
+pub(crate) struct Spans {
+    sections: Vec<Section>,
+    is_laid_out: bool,
+    ghost laid_out: { IsTrue is_laid_out → IsLaidOut sections.items },
+}
+
+impl Spans {
+    /// Prepares the sections.
+    pub(crate) fn new(alloc: Global, sections: Vec<Section>) -> Result<Spans, AllocError>
+        requires { All (λ s. 0 < s.size) sections.items }
+        ensures same { IfOk result (λ spans. FindsSame spans.sections.items sections.items) }
+        ensures overlap { IfOk result (λ spans. not spans.is_laid_out ≡ any_pair shares_address sections.items) }
+    {
+        let sorted = sorted_by_address(alloc, &sections)?;
+        if is_laid_out(&sorted) {
+            return Ok(Spans {
+                sections: sorted,
+                is_laid_out: true,
+            });
+        }
+        Ok(Spans {
+            sections,
+            is_laid_out: false,
+        })
+    }
+
+    /// Whether two of the sections share an address.
+    pub(crate) fn overlap(&self) -> bool
+        ensures { result ≡ not self.now.is_laid_out }
+    {
+        !self.is_laid_out
+    }
+
+    /// The first section that has the `n` bytes from address `a` on.
+    pub(crate) fn find(&self, a: u64, n: u64) -> Option<Section>
+        requires { 0 < n }
+        ensures { result ≡ find (holds_bytes a n) self.now.sections.items }
+    {
+        if self.is_laid_out {
+            find_laid_out(&self.sections, a, n)
+        } else {
+            find_first(&self.sections, a, n)
+        }
+    }
+}
+
+/// The sections in the order of their addresses.
+fn sorted_by_address(alloc: Global, sections: &[Section]) -> Result<Vec<Section>, AllocError>
+    ensures permutation { IfOk result (λ v. IsPermutation sections.now v.items) }
+    ensures sorted { IfOk result (λ v. IsNonDecreasingBy (λ s. s.address) v.items) }
+{
+    let mut sorted = Vec::from_slice(alloc, sections)?;
+    sorted.sort_unstable_by_key(|s| s.address);
+    Ok(sorted)
+}
+
+/// Whether one section ends where another begins, or before.
+fn ends_before(s: &Section, t: &Section) -> bool
+    ensures { result ≡ nat_le (s.now.address + s.now.size) t.now.address }
+{
+    s.address <= t.address && s.size <= t.address - s.address
+}
+
+/// Whether each section ends where the next begins, or before.
+fn is_laid_out(sections: &[Section]) -> bool
+    ensures { MatchBool result (IsLaidOut sections.now) (HasOverhang sections.now) }
+{
+    sections.is_sorted_by(|s, t| ends_before(s, t))
+}
+
+/// Looks through all sections.
+fn find_first(sections: &[Section], a: u64, n: u64) -> Option<Section>
+    ensures { result ≡ find (holds_bytes a n) sections.now }
+{
+    sections.iter().copied().find(|s| s.holds_bytes(a, n))
+}
+
+/// Looks at one section alone: the last that begins at `a` or before.
+fn find_laid_out(sections: &[Section], a: u64, n: u64) -> Option<Section>
+    requires some { 0 < n }
+    requires laid_out { IsLaidOut sections.now }
+    ensures { result ≡ find (holds_bytes a n) sections.now }
+{
+    let after = sections.partition_point(|s| s.address <= a);
+    if after == 0 {
+        return None;
+    }
+    let last = sections[after - 1];
+    if last.holds_bytes(a, n) {
+        Some(last)
+    } else {
+        None
+    }
+}

@@ -1,0 +1,263 @@
+//! The fault table and the reads on small files.
+
+use super::*;
+use std::alloc::{AllocError, Global};
+use std::test::Fail;
+
+/// One instruction, `ret` (00008067 in hexadecimal), at the address 10000: a header, the code, and the headers of a
+/// null section, the code (header at 136) and an empty read-only section at 20000 (header at 200).
+const RET_FILE: [u8; 264] = [
+    0x7F, 0x45, 0x4C, 0x46, 2, 1, 1, 0, 0, 0, 0, 0, 0, 0, 0, 0, 2, 0, 0xF3, 0, 1, 0, 0, 0, 0, 0, 1,
+    0, 0, 0, 0, 0, 0, 0, 0, 0, 0, 0, 0, 0, 0x48, 0, 0, 0, 0, 0, 0, 0, 0, 0, 0, 0, 0x40, 0, 0, 0, 0,
+    0, 0x40, 0, 3, 0, 0, 0, 0x67, 0x80, 0, 0, 0, 0, 0, 0, 0, 0, 0, 0, 0, 0, 0, 0, 0, 0, 0, 0, 0, 0,
+    0, 0, 0, 0, 0, 0, 0, 0, 0, 0, 0, 0, 0, 0, 0, 0, 0, 0, 0, 0, 0, 0, 0, 0, 0, 0, 0, 0, 0, 0, 0, 0,
+    0, 0, 0, 0, 0, 0, 0, 0, 0, 0, 0, 0, 0, 0, 0, 0, 0, 0, 0, 0, 0, 0, 1, 0, 0, 0, 6, 0, 0, 0, 0, 0,
+    0, 0, 0, 0, 1, 0, 0, 0, 0, 0, 0x40, 0, 0, 0, 0, 0, 0, 0, 4, 0, 0, 0, 0, 0, 0, 0, 0, 0, 0, 0, 0,
+    0, 0, 0, 2, 0, 0, 0, 0, 0, 0, 0, 0, 0, 0, 0, 0, 0, 0, 0, 0, 0, 0, 0, 1, 0, 0, 0, 2, 0, 0, 0, 0,
+    0, 0, 0, 0, 0, 2, 0, 0, 0, 0, 0, 0x48, 0, 0, 0, 0, 0, 0, 0, 0, 0, 0, 0, 0, 0, 0, 0, 0, 0, 0, 0,
+    0, 0, 0, 0, 4, 0, 0, 0, 0, 0, 0, 0, 0, 0, 0, 0, 0, 0, 0, 0,
+];
+
+/// The file with other bytes at some offsets.
+fn edited(alloc: Global, edits: &[(usize, u8)]) -> Result<Vec<u8>, AllocError> {
+    let mut bytes = Vec::from_slice(alloc, &RET_FILE)?;
+    for (at, byte) in edits {
+        if let Some(place) = bytes.get_mut(*at) {
+            *place = *byte;
+        }
+    }
+    Ok(bytes)
+}
+
+/// The name of the fault that the parse answers, or `-` where it accepts the file.
+fn verdict(alloc: Global, bytes: Vec<u8>) -> &'static str {
+    match Image::parse(alloc, bytes) {
+        Ok(_) => "-",
+        Err(ElfError::Malformed(fault)) => fault.name(),
+        Err(ElfError::Memory) => "memory",
+    }
+}
+
+/// The last eight-byte address, as edits of an `sh_addr` from an offset on.
+const fn last_address(at: usize) -> [(usize, u8); 8] {
+    [
+        (at, 0xFF),
+        (at + 1, 0xFF),
+        (at + 2, 0xFF),
+        (at + 3, 0xFF),
+        (at + 4, 0xFF),
+        (at + 5, 0xFF),
+        (at + 6, 0xFF),
+        (at + 7, 0xFF),
+    ]
+}
+
+/// A file of `blocks` blocks of 4,096 zero bytes and `more` bytes besides.
+fn zeros(alloc: Global, blocks: usize, more: &[u8]) -> Result<Vec<u8>, AllocError> {
+    let block = [0u8; 4096];
+    let mut bytes = Vec::new(alloc);
+    for _ in 0..blocks {
+        bytes.extend_from_slice(&block)?;
+    }
+    bytes.extend_from_slice(more)?;
+    Ok(bytes)
+}
+
+#[test]
+fn sizes(rt: HostRuntime) -> Result<(), Fail> {
+    let alloc = rt.alloc();
+    assert_eq!(rt; verdict(alloc, Vec::new(alloc)), "Short");
+    assert_eq!(rt; verdict(alloc, zeros(alloc, 0, &[0; 63])?), "Short");
+    assert_eq!(rt; verdict(alloc, zeros(alloc, 0, &[0; 64])?), "Magic");
+    assert_eq!(rt; verdict(alloc, zeros(alloc, 16_384, &[])?), "Magic");
+    assert_eq!(rt; verdict(alloc, zeros(alloc, 16_384, &[0])?), "TooLarge");
+    assert_eq!(rt; verdict(alloc, Vec::from_slice(alloc, &RET_FILE)?), "-");
+    assert_eq!(rt;
+        verdict(alloc, Vec::from_slice(alloc, &RET_FILE[..263])?),
+        "SectionTable"
+    );
+    Ok(())
+}
+
+/// Each fault alone.
+#[test]
+fn single_faults(rt: HostRuntime) -> Result<(), Fail> {
+    let cases: [(&[(usize, u8)], &str); 20] = [
+        (&[(3, 0x47)], "Magic"),
+        (&[(4, 1)], "Class"),
+        (&[(5, 2)], "Data"),
+        (&[(6, 0)], "Version"),
+        (&[(20, 2)], "Version"),
+        (&[(18, 0x3E)], "Machine"),
+        (&[(16, 3)], "Type"),
+        (&[(52, 0x3F)], "HeaderSize"),
+        (&[(56, 1)], "ProgramTable"),
+        (&[(32, 0x48), (54, 0x38), (56, 1)], "-"),
+        (&[(32, 0xD1), (54, 0x38), (56, 1)], "ProgramTable"),
+        (&[(32, 0x48), (54, 0x38), (56, 1), (72, 3)], "Interp"),
+        (&[(60, 0)], "NoSections"),
+        (&[(58, 0x3F)], "SectionTable"),
+        (&[(168, 0xFF)], "SectionRange"),
+        (&[(152, 1)], "CodeParity"),
+        (&[(208, 6), (216, 2), (218, 1), (232, 4)], "CodeOverlap"),
+        (&[(24, 4)], "Entry"),
+        (&[(24, 1)], "Entry"),
+        (&[(204, 2)], "-"),
+    ];
+    for (edits, want) in cases {
+        assert_eq!(rt;
+            verdict(rt.alloc(), edited(rt.alloc(), edits)?),
+            want,
+            "at {want}"
+        );
+    }
+    Ok(())
+}
+
+/// Two neighbours of the fault table at once: the first is named.
+#[test]
+fn neighbouring_faults(rt: HostRuntime) -> Result<(), Fail> {
+    let cases: [(&[(usize, u8)], &str); 14] = [
+        (&[(0, 0), (4, 1)], "Magic"),
+        (&[(4, 1), (5, 2)], "Class"),
+        (&[(5, 2), (6, 0)], "Data"),
+        (&[(6, 0), (18, 0x3E)], "Version"),
+        (&[(18, 0x3E), (16, 3)], "Machine"),
+        (&[(16, 3), (52, 0x3F)], "Type"),
+        (&[(52, 0x3F), (56, 1)], "HeaderSize"),
+        (&[(32, 0xD0), (54, 0x37), (56, 1), (208, 3)], "ProgramTable"),
+        (
+            &[(32, 0x48), (54, 0x38), (56, 1), (72, 3), (60, 0)],
+            "Interp",
+        ),
+        (&[(60, 0), (58, 0x3F)], "NoSections"),
+        (&[(58, 0x3F), (168, 0xFF)], "SectionTable"),
+        (&[(208, 6), (216, 1), (218, 1), (232, 4)], "CodeParity"),
+        (
+            &[(208, 6), (216, 2), (218, 1), (232, 4), (24, 8)],
+            "CodeOverlap",
+        ),
+        (&[(24, 4), (204, 2)], "Entry"),
+    ];
+    for (edits, want) in cases {
+        assert_eq!(rt;
+            verdict(rt.alloc(), edited(rt.alloc(), edits)?),
+            want,
+            "at {want}"
+        );
+    }
+    Ok(())
+}
+
+/// Where a field is as large as it may be, and one beyond.
+#[test]
+fn limits(rt: HostRuntime) -> Result<(), Fail> {
+    let alloc = rt.alloc();
+    // A table at the end of the address space.
+    assert_eq!(rt;
+        verdict(alloc, edited(alloc, &last_address(40))?),
+        "SectionTable"
+    );
+    // Code of four bytes at the last address, and an empty section there.
+    assert_eq!(rt;
+        verdict(alloc, edited(alloc, &last_address(152))?),
+        "SectionWrap"
+    );
+    assert_eq!(rt; verdict(alloc, edited(alloc, &last_address(216))?), "-");
+    let cases: [(&[(usize, u8)], &str); 6] = [
+        // SHT_NOBITS has no bytes in the file, and an empty SHT_PROGBITS still has an offset.
+        (&[(204, 8), (233, 0xFF)], "-"),
+        (&[(225, 0xFF)], "SectionRange"),
+        // Empty code: its address is judged, and it overlaps nothing.
+        (&[(208, 6), (216, 1)], "CodeParity"),
+        (&[(208, 6), (216, 2), (218, 1)], "-"),
+        // Code that joins without a gap.
+        (&[(208, 6), (216, 4), (218, 1), (232, 4)], "-"),
+        // A section without SHF_ALLOC may be anywhere.
+        (
+            &[
+                (208, 0),
+                (223, 0xFF),
+                (222, 0xFF),
+                (221, 0xFF),
+                (220, 0xFF),
+                (219, 0xFF),
+                (218, 0xFF),
+                (217, 0xFF),
+                (216, 0xFF),
+                (232, 4),
+            ],
+            "-",
+        ),
+    ];
+    for (edits, want) in cases {
+        assert_eq!(rt; verdict(alloc, edited(alloc, edits)?), want, "at {want}");
+    }
+    Ok(())
+}
+
+#[test]
+fn reads(rt: HostRuntime) -> Result<(), Fail> {
+    let image = Image::parse(rt.alloc(), Vec::from_slice(rt.alloc(), &RET_FILE)?)?;
+    assert_eq!(rt; image.entry(), 0x10000);
+    for (a, start, half, word) in [
+        (0xFFFE, None, None, None),
+        (0x10000, Some(0x10000), Some(0x8067), Some(0x8067)),
+        (0x10001, None, None, None),
+        (0x10002, Some(0x10000), Some(0), None),
+        (0x10003, None, None, None),
+        (0x10004, None, None, None),
+        (u64::MAX - 1, None, None, None),
+        (u64::MAX, None, None, None),
+    ] {
+        assert_eq!(rt; image.is_code(a), start.is_some(), "{a:x}");
+        assert_eq!(rt; image.section_start(a), start, "{a:x}");
+        assert_eq!(rt; image.half_at(a), half, "{a:x}");
+        assert_eq!(rt; image.word_at(a), word, "{a:x}");
+    }
+    assert!(rt; image.is_read_only(0x10003));
+    assert!(rt; !image.is_read_only(0x10004));
+    assert!(rt; !image.is_read_only(0x20000));
+    assert_eq!(rt; image.data_word(0x10000), Some(0x8067));
+    assert_eq!(rt; image.data_word(0x10001), None);
+    Ok(())
+}
+
+#[test]
+fn tables(rt: HostRuntime) -> Result<(), Fail> {
+    let image = Image::parse(rt.alloc(), Vec::from_slice(rt.alloc(), &RET_FILE)?)?;
+    assert_eq!(rt; image.section_count(), 3);
+    let code = Section {
+        kind: 1,
+        flags: 6,
+        address: 0x10000,
+        offset: 64,
+        size: 4,
+        link: 0,
+        entry_size: 0,
+    };
+    for i in 0..image.section_count() {
+        let section = image.section(i);
+        assert_eq!(rt; section.is_code(), i == 1);
+        assert_eq!(rt; section == code, i == 1);
+    }
+    assert_eq!(rt;
+        image.bytes(Span { at: 64, len: 4 }),
+        [0x67, 0x80, 0, 0].as_slice()
+    );
+    Ok(())
+}
+
+/// Read-only sections that share addresses: the first in table order that has all four bytes counts.
+#[test]
+fn overlapping_data(rt: HostRuntime) -> Result<(), Fail> {
+    let alloc = rt.alloc();
+    let image = Image::parse(alloc, edited(alloc, &[(218, 1), (224, 0), (232, 8)])?)?;
+    assert_eq!(rt; image.data_word(0x10000), Some(0x0000_8067));
+    assert_eq!(rt; image.data_word(0x10002), Some(0x0102_464C));
+    assert_eq!(rt; image.data_word(0x10004), Some(0x0001_0102));
+    assert_eq!(rt; image.data_word(0x10005), None);
+    assert!(rt; image.is_read_only(0x10007));
+    assert!(rt; !image.is_read_only(0x10008));
+    Ok(())
+}

@@ -1,0 +1,5 @@
+pub mod Number
+pub mod Name
+pub mod Words
+pub mod Line
+pub mod Report

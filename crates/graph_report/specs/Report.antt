@@ -1,0 +1,44 @@
+-- The whole text of a report.
+use Rattle.std.specs.Prelude.{ℕ, List, ◌++◌, length}
+use Rattle.std.specs.List.{flat_map}
+use Rattle.cfg_model.specs.declared.graph.Block.{Block}
+use Rattle.cfg_model.specs.declared.graph.Edge.{Edge}
+use Rattle.cfg_model.specs.declared.graph.Function.{Function}
+use Rattle.cfg_model.specs.declared.graph.Graph.{Graph}
+use Rattle.graph_report.specs.declared.kind.ReportKind.{ReportKind}
+use Rattle.graph_report.specs.declared.kind.ReportKind.TheVariants as reports
+use Rattle.graph_report.specs.Name.{Names}
+use Rattle.graph_report.specs.Line.{first_line, entry_line, functions_line, function_line, in_line, blocks_line, block_line, edges_line, edge_line, end_line}
+
+-- The two lines that every report begins with.
+abbrev pub heading : ℕ → List ℕ
+heading entry = first_line ++ entry_line entry
+
+-- A function with the blocks of its body.
+abbrev pub function_lines : Names → Function → List ℕ
+function_lines names f = function_line names f ++ flat_map in_line f.body
+
+-- The three sections: how many items there are, and the items in their order.
+abbrev pub functions_section : Names → List Function → List ℕ
+functions_section names functions = functions_line (length functions) ++ flat_map (function_lines names) functions
+
+abbrev pub blocks_section : List Block → List ℕ
+blocks_section blocks = blocks_line (length blocks) ++ flat_map block_line blocks
+
+abbrev pub edges_section : List Edge → List ℕ
+edges_section edges = edges_line (length edges) ++ flat_map edge_line edges
+
+-- The sections that a report of each kind has: all of them, or the one of its name.
+abbrev pub sections : ReportKind → Names → Graph → List ℕ
+sections reports.Graph names graph = functions_section names graph.functions ++ blocks_section graph.blocks ++ edges_section graph.edges
+sections reports.Functions names graph = functions_section names graph.functions
+sections reports.Blocks names graph = blocks_section graph.blocks
+sections reports.Edges names graph = edges_section graph.edges
+
+-- The report of a graph: the heading, the sections of its kind, and the last line.
+abbrev pub report_text : ReportKind → Names → Graph → List ℕ
+report_text kind names graph = heading graph.entry ++ sections kind names graph ++ end_line
+
+-- The report of a graph whose functions are not known: the whole report without its functions.
+abbrev pub early_text : Graph → List ℕ
+early_text graph = heading graph.entry ++ blocks_section graph.blocks ++ edges_section graph.edges ++ end_line

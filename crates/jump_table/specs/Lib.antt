@@ -1,0 +1,4 @@
+pub mod Section
+pub mod Bound
+pub mod Values
+pub mod Table

@@ -1,0 +1,123 @@
+-- The values that registers hold between the bound test and the jump (this project's profile).
+use Rattle.std.specs.Prelude.{ℕ, ◌+◌, ◌%◌, ◌^◌, ◌==◌, List, [], ◌∷◌, zero, suc, ℤ, pos, negsuc, if◌then◌else◌, Option, Some, None}
+use Rattle.std.specs.Int.{cast_unsigned, w64}
+use Rattle.rv_decode.specs.declared.instructions.Insn.{Insn}
+use Rattle.rv_decode.specs.declared.instructions.Insn.TheVariants as insns
+use Rattle.rv_decode.specs.declared.instructions.ImmKind.{ImmKind}
+use Rattle.rv_decode.specs.declared.instructions.ImmKind.TheVariants as imms
+use Rattle.rv_decode.specs.declared.instructions.RegKind.{RegKind}
+use Rattle.rv_decode.specs.declared.instructions.RegKind.TheVariants as regs
+use Rattle.rv_decode.specs.declared.instructions.LoadKind.{LoadKind}
+use Rattle.rv_decode.specs.declared.instructions.LoadKind.TheVariants as loads
+use Rattle.rv_flow.specs.Placed.{placed_at}
+use Rattle.rv_flow.specs.Raw.{address_plus}
+
+-- What is known of a register's value: nothing; a constant; the index; the index times 2 to the power
+-- 32; the index times 4; a constant plus that; the sign-extended word at that address; that word plus
+-- a constant. Sums are modulo 2 to the power 64.
+pub data Value : Type 0 where
+  Unknown : Value
+  Const : ℕ → Value
+  Index : Value
+  High : Value
+  Scaled : Value
+  Addr : ℕ → Value
+  Entry : ℕ → Value
+  EntryPlus : ℕ → ℕ → Value
+
+-- What the registers hold.
+abbrev pub Registers : Type 0
+Registers = ℕ → Value
+
+-- Behind the bound test the index register holds the index, and x0 always holds 0.
+abbrev pub at_test : ℕ → Registers
+at_test index r = if r == 0 then Const 0 else (if r == index then Index else Unknown)
+
+-- A write of a register; one of x0 has no effect.
+abbrev pub written : Registers → ℕ → Value → Registers
+written before rd value r = if r == 0 then Const 0 else (if r == rd then value else before r)
+
+-- Nothing is known but of x0.
+abbrev pub forgotten : Registers
+forgotten r = if r == 0 then Const 0 else Unknown
+
+-- A constant, moved by an immediate.
+abbrev pub moved_by : ℤ → Value → Value
+moved_by imm (Const v) = Const (address_plus v imm)
+moved_by imm _ = Unknown
+
+-- `addi`: a copy where the immediate is 0.
+abbrev pub addi_value : ℤ → Value → Value
+addi_value (pos zero) value = value
+addi_value imm value = moved_by imm value
+
+-- `slli` of the index, by 2 and by 32.
+abbrev pub slli_value : ℤ → Value → Value
+slli_value (pos n) Index = if n == 2 then Scaled else (if n == 32 then High else Unknown)
+slli_value _ _ = Unknown
+
+-- `srli` by 30, of the index moved up by 32.
+abbrev pub srli_value : ℤ → Value → Value
+srli_value (pos n) High = if n == 30 then Scaled else Unknown
+srli_value _ _ = Unknown
+
+-- `add`: an address in the table, or an entry of it plus a constant.
+abbrev pub sum_of : Value → Value → Value
+sum_of (Const v) Scaled = Addr v
+sum_of Scaled (Const v) = Addr v
+sum_of (Entry v) (Const k) = EntryPlus v k
+sum_of (Const k) (Entry v) = EntryPlus v k
+sum_of _ _ = Unknown
+
+-- `add` with x0 is a copy.
+abbrev pub add_value : Registers → ℕ → ℕ → Value
+add_value before rs1 rs2 =
+    if rs2 == 0 then before rs1 else (if rs1 == 0 then before rs2 else sum_of (before rs1) (before rs2))
+
+-- `lw` of an address in the table.
+abbrev pub lw_value : ℤ → Value → Value
+lw_value offset (Addr v) = Entry (address_plus v offset)
+lw_value offset _ = Unknown
+
+abbrev pub imm_value : ImmKind → ℤ → Value → Value
+imm_value imms.Addi imm value = addi_value imm value
+imm_value imms.Slli imm value = slli_value imm value
+imm_value imms.Srli imm value = srli_value imm value
+imm_value _ imm value = Unknown
+
+abbrev pub reg_value : RegKind → Registers → ℕ → ℕ → Value
+reg_value regs.Add before rs1 rs2 = add_value before rs1 rs2
+reg_value _ before rs1 rs2 = Unknown
+
+abbrev pub load_value : LoadKind → ℤ → Value → Value
+load_value loads.Lw offset value = lw_value offset value
+load_value _ offset value = Unknown
+
+-- What the registers hold behind an instruction at address a.
+abbrev pub after : ℕ → Insn → Registers → Registers
+after a (insns.Lui rd imm) before = written before rd (Const (cast_unsigned w64 imm))
+after a (insns.Auipc rd imm) before = written before rd (Const (address_plus a imm))
+after a (insns.Jal rd offset) before = written before rd Unknown
+after a (insns.Jalr rd rs1 imm) before = written before rd Unknown
+after a (insns.Branch kind rs1 rs2 offset) before = before
+after a (insns.Load kind rd rs1 imm) before = written before rd (load_value kind imm (before rs1))
+after a (insns.Store kind rs1 rs2 imm) before = before
+after a (insns.Imm kind rd rs1 imm) before = written before rd (imm_value kind imm (before rs1))
+after a (insns.ImmW kind rd rs1 imm) before = written before rd Unknown
+after a (insns.Reg kind rd rs1 rs2) before = written before rd (reg_value kind before rs1 rs2)
+after a (insns.RegW kind rd rs1 rs2) before = written before rd Unknown
+after a (insns.Atomic kind wide acquire release rd rs1 rs2) before = written before rd Unknown
+after a insns.Fence before = before
+after a insns.FenceI before = before
+after a insns.Ecall before = forgotten
+after a insns.Ebreak before = before
+after a (insns.Csr kind rd source csr) before = written before rd Unknown
+
+abbrev pub after_placed : ℕ → Option Insn → Registers → Registers
+after_placed a None before = before
+after_placed a (Some insn) before = after a insn before
+
+-- What the registers hold behind a run of instructions at these addresses.
+abbrev pub after_run : List ℕ → List ℕ → Registers → Registers
+after_run bytes [] before = before
+after_run bytes (a ∷ run) before = after_run bytes run (after_placed a (placed_at bytes a).insn before)

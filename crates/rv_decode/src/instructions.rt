@@ -1,0 +1,228 @@
+//! The instructions of RV64IMA with Zicsr and Zifencei, with their operands.
+//!
+//! Registers are numbers below 32. Immediates and offsets are sign extended as the RISC-V
+//! Unprivileged ISA (20240411), section 2.3, says for their format.
+
+/// One instruction.
+#[derive(Clone, Copy, Debug, PartialEq, Eq)]
+pub enum Insn {
+    /// LUI: `imm` is bits 31 to 12 of the word in place, sign extended (section 2.4).
+    Lui {
+        rd: u8,
+        imm: i64,
+    },
+    /// AUIPC: `imm` is bits 31 to 12 of the word in place, sign extended (section 2.4).
+    Auipc {
+        rd: u8,
+        imm: i64,
+    },
+    /// JAL: `offset` in bytes from the instruction's address, even (section 2.5.1).
+    Jal {
+        rd: u8,
+        offset: i64,
+    },
+    /// JALR: the target is `rs1` plus `imm` with bit 0 cleared (section 2.5.1).
+    Jalr {
+        rd: u8,
+        rs1: u8,
+        imm: i64,
+    },
+    /// A conditional branch: `offset` in bytes from the instruction's address, even (section 2.5.2).
+    Branch {
+        kind: BranchKind,
+        rs1: u8,
+        rs2: u8,
+        offset: i64,
+    },
+    /// A load into `rd` from `rs1` plus `imm` (sections 2.6 and 4.3).
+    Load {
+        kind: LoadKind,
+        rd: u8,
+        rs1: u8,
+        imm: i64,
+    },
+    /// A store of `rs2` at `rs1` plus `imm` (sections 2.6 and 4.3).
+    Store {
+        kind: StoreKind,
+        rs1: u8,
+        rs2: u8,
+        imm: i64,
+    },
+    /// An operation on a register and an immediate; for a shift `imm` is the amount, 0 to 63
+    /// (sections 2.4.1 and 4.2.1).
+    Imm {
+        kind: ImmKind,
+        rd: u8,
+        rs1: u8,
+        imm: i64,
+    },
+    /// An operation on the low 32 bits of a register and an immediate; for a shift `imm` is the
+    /// amount, 0 to 31 (section 4.2.1).
+    ImmW {
+        kind: ImmWKind,
+        rd: u8,
+        rs1: u8,
+        imm: i64,
+    },
+    /// An operation on two registers (sections 2.4.2, 4.2.2 and chapter 13, "M").
+    Reg {
+        kind: RegKind,
+        rd: u8,
+        rs1: u8,
+        rs2: u8,
+    },
+    /// An operation on the low 32 bits of two registers (section 4.2.2 and chapter 13, "M").
+    RegW {
+        kind: RegWKind,
+        rd: u8,
+        rs1: u8,
+        rs2: u8,
+    },
+    /// An atomic operation at the address in `rs1`, on 8 bytes where `wide`, else on 4, with the
+    /// ordering bits `aq` and `rl` of the word (chapter 14, "A").
+    Atomic {
+        kind: AtomicKind,
+        wide: bool,
+        acquire: bool,
+        release: bool,
+        rd: u8,
+        rs1: u8,
+        rs2: u8,
+    },
+    /// FENCE, with any sets and any mode (section 2.7).
+    Fence,
+    /// FENCE.I (chapter 6, "Zifencei").
+    FenceI,
+    /// ECALL (section 2.8).
+    Ecall,
+    /// EBREAK (section 2.8).
+    Ebreak,
+    /// An operation on the control and status register `csr`, 0 to 4095; `source` is `rs1`, or the
+    /// unsigned immediate in its place (chapter 7, "Zicsr").
+    Csr {
+        kind: CsrKind,
+        rd: u8,
+        source: u8,
+        csr: u16,
+    },
+}
+
+/// The conditional branches (section 2.5.2).
+#[derive(Clone, Copy, Debug, PartialEq, Eq)]
+pub enum BranchKind {
+    Beq,
+    Bne,
+    Blt,
+    Bge,
+    Bltu,
+    Bgeu,
+}
+
+/// The loads (sections 2.6 and 4.3).
+#[derive(Clone, Copy, Debug, PartialEq, Eq)]
+pub enum LoadKind {
+    Lb,
+    Lh,
+    Lw,
+    Ld,
+    Lbu,
+    Lhu,
+    Lwu,
+}
+
+/// The stores (sections 2.6 and 4.3).
+#[derive(Clone, Copy, Debug, PartialEq, Eq)]
+pub enum StoreKind {
+    Sb,
+    Sh,
+    Sw,
+    Sd,
+}
+
+/// The operations on a register and an immediate (sections 2.4.1 and 4.2.1).
+#[derive(Clone, Copy, Debug, PartialEq, Eq)]
+pub enum ImmKind {
+    Addi,
+    Slti,
+    Sltiu,
+    Xori,
+    Ori,
+    Andi,
+    Slli,
+    Srli,
+    Srai,
+}
+
+/// The operations on the low 32 bits of a register and an immediate (section 4.2.1).
+#[derive(Clone, Copy, Debug, PartialEq, Eq)]
+pub enum ImmWKind {
+    Addiw,
+    Slliw,
+    Srliw,
+    Sraiw,
+}
+
+/// The operations on two registers (sections 2.4.2, 4.2.2 and chapter 13, "M").
+#[derive(Clone, Copy, Debug, PartialEq, Eq)]
+pub enum RegKind {
+    Add,
+    Sll,
+    Slt,
+    Sltu,
+    Xor,
+    Srl,
+    Or,
+    And,
+    Sub,
+    Sra,
+    Mul,
+    Mulh,
+    Mulhsu,
+    Mulhu,
+    Div,
+    Divu,
+    Rem,
+    Remu,
+}
+
+/// The operations on the low 32 bits of two registers (section 4.2.2 and chapter 13, "M").
+#[derive(Clone, Copy, Debug, PartialEq, Eq)]
+pub enum RegWKind {
+    Addw,
+    Sllw,
+    Srlw,
+    Subw,
+    Sraw,
+    Mulw,
+    Divw,
+    Divuw,
+    Remw,
+    Remuw,
+}
+
+/// The atomic operations: LR, SC, and the AMOs by the operation that they do (chapter 14, "A").
+#[derive(Clone, Copy, Debug, PartialEq, Eq)]
+pub enum AtomicKind {
+    Lr,
+    Sc,
+    Swap,
+    Add,
+    Xor,
+    And,
+    Or,
+    Min,
+    Max,
+    Minu,
+    Maxu,
+}
+
+/// The operations on control and status registers (chapter 7, "Zicsr").
+#[derive(Clone, Copy, Debug, PartialEq, Eq)]
+pub enum CsrKind {
+    Csrrw,
+    Csrrs,
+    Csrrc,
+    Csrrwi,
+    Csrrsi,
+    Csrrci,
+}

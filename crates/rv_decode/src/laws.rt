@@ -1,0 +1,23 @@
+//! Laws of the instruction table, each proved as the contract of a function that does nothing.
+
+ghost use Rattle.rv_decode.specs.Laws.{AtMostOneRowHolds, ARowDecides, EachComesFromARow, NoneWhereNoRowHolds};
+
+/// At most one row of the instruction table holds of a word.
+pub fn at_most_one_row_holds()
+    ensures { AtMostOneRowHolds }
+{}
+
+/// A word of which a row holds is the instruction that this row means.
+pub fn a_row_decides()
+    ensures { ARowDecides }
+{}
+
+/// Each instruction comes from a row that holds of its word.
+pub fn each_comes_from_a_row()
+    ensures { EachComesFromARow }
+{}
+
+/// A word is no instruction exactly where no row holds of it.
+pub fn none_where_no_row_holds()
+    ensures { NoneWhereNoRowHolds }
+{}

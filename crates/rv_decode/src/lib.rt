@@ -1,0 +1,19 @@
+//! The decoder of 32-bit RISC-V instructions: RV64IMA with Zicsr and Zifencei.
+#![tactic(auto)]
+
+mod decoder;
+mod fields;
+mod instructions;
+mod laws;
+mod opcodes;
+#[cfg(test)]
+mod tests;
+
+pub use decoder::decode;
+pub use instructions::{
+    AtomicKind, BranchKind, CsrKind, ImmKind, ImmWKind, Insn, LoadKind, RegKind, RegWKind,
+    StoreKind,
+};
+pub use laws::{
+    a_row_decides, at_most_one_row_holds, each_comes_from_a_row, none_where_no_row_holds,
+};

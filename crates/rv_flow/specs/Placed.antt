@@ -1,0 +1,37 @@
+-- The instruction at a code address (RISC-V Unprivileged ISA 20240411, section 1.5, "Base
+-- Instruction-Length Encoding", and chapter 26, "C").
+use Rattle.std.specs.Prelude.{ℕ, ◌/◌, ◌%◌, ◌==◌, List, Option, Some, None, if◌then◌else◌}
+use Rattle.std.specs.Option.{option_map_or, option_and_then}
+use Rattle.elf_image.specs.Code.{half_at, word_at}
+use Rattle.rv_decode.specs.declared.instructions.Insn.{Insn}
+use Rattle.rv_decode.specs.Table.{instruction}
+use Rattle.rvc_expand.specs.Table.{expansion}
+use Rattle.rv_flow.specs.declared.placed.Placed.{Placed}
+
+-- What is no instruction has the length 2.
+abbrev pub bad : Placed
+bad = record { length = 2; insn = None }
+
+-- A 16-bit form stands for the 32-bit instruction that it expands to.
+abbrev pub compressed_insn : ℕ → Option Insn
+compressed_insn half = option_and_then instruction (expansion half)
+
+-- A 32-bit form is an instruction where all its four bytes are there and a row of the table holds.
+abbrev pub whole_insn : Option ℕ → Option Insn
+whole_insn word = option_and_then instruction word
+
+abbrev pub whole : Option Insn → Placed
+whole None = bad
+whole (Some insn) = record { length = 4; insn = Some insn }
+
+-- The lowest two bits of the first halfword tell a 16-bit form, where they are not 11; bits 4 to 2
+-- tell a form longer than 32 bits, where they are 111.
+abbrev pub placed_by : List ℕ → ℕ → ℕ → Placed
+placed_by bytes a half =
+    if half % 4 == 3
+    then (if half / 4 % 8 == 7 then bad else whole (whole_insn (word_at bytes a)))
+    else record { length = 2; insn = compressed_insn half }
+
+-- The instruction at a code address.
+abbrev pub placed_at : List ℕ → ℕ → Placed
+placed_at bytes a = option_map_or (placed_by bytes a) (half_at bytes a) bad

@@ -1,0 +1,10 @@
+//! One instruction of an image: its length, its meaning, and where it alone sends control.
+//!
+//! What lies outside the code, and what a jump table holds, is judged by the crates above.
+#![tactic(auto)]
+
+mod placed;
+mod raw;
+
+pub use placed::{Placed, insn_at};
+pub use raw::{RawFlow, raw_flow};

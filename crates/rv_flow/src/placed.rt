@@ -1,0 +1,66 @@
+//! The instruction at a code address (RISC-V Unprivileged ISA 20240411, section 1.5, "Base
+//! Instruction-Length Encoding", and chapter 26, "C").
+
+ghost use Rattle.std.specs.Prelude.{◌≡◌, IsTrue};
+ghost use Rattle.elf_image.specs.Code.{is_code};
+ghost use Rattle.elf_image.specs.Faults.{IsImage};
+ghost use Rattle.rv_flow.specs.Placed.{placed_at, compressed_insn, whole_insn};
+
+use elf_image::Image;
+use rv_decode::{Insn, decode};
+use rvc_expand::expand;
+
+/// An instruction in its place.
+#[derive(Clone, Copy, Debug, PartialEq, Eq)]
+pub struct Placed {
+    /// Its length in bytes: 2 or 4.
+    pub length: u8,
+    /// Its meaning; `None` where the bytes are no instruction of RV64IMAC with Zicsr and Zifencei,
+    /// and then the length is 2.
+    pub insn: Option<Insn>,
+}
+
+/// The instruction at the code address `a`.
+///
+/// A 16-bit instruction is expanded and then decoded. A 32-bit one needs its four bytes in one code
+/// section. Longer forms are none.
+pub fn insn_at(image: &Image, a: u64) -> Placed
+    requires { IsTrue (is_code image.now a) }
+    ensures placed { result ≡ placed_at image.now a }
+    ensures image { IsImage image.now }
+{
+    let bad = Placed {
+        length: 2,
+        insn: None,
+    };
+    let Some(half) = image.half_at(a) else {
+        return bad;
+    };
+    if half & 0b11 != 0b11 {
+        Placed {
+            length: 2,
+            insn: compressed_insn(half),
+        }
+    } else if half >> 2 & 0b111 == 0b111 {
+        bad
+    } else {
+        match whole_insn(image.word_at(a)) {
+            None => bad,
+            insn => Placed { length: 4, insn },
+        }
+    }
+}
+
+// The instruction that a 16-bit form stands for.
+fn compressed_insn(half: u16) -> Option<Insn>
+    ensures { result ≡ compressed_insn half }
+{
+    decode(expand(half)?)
+}
+
+// The instruction that a whole word is, where the word is there.
+fn whole_insn(word: Option<u32>) -> Option<Insn>
+    ensures { result ≡ whole_insn word }
+{
+    decode(word?)
+}

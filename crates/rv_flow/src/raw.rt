@@ -1,0 +1,125 @@
+//! Where one instruction alone sends control (RISC-V Unprivileged ISA 20240411, sections 2.5 and
+//! 2.8).
+
+ghost use Rattle.std.specs.Prelude.{◌≡◌, ◌≤◌, IsTrue, Some};
+ghost use Rattle.elf_image.specs.Code.{is_code};
+ghost use Rattle.elf_image.specs.Faults.{IsImage};
+ghost use Rattle.rv_flow.specs.Raw.{raw_flow_at, insn_flow, jalr_flow, pair_target, upper_before, upper_of, word_before, address_plus, is_unimp};
+
+use crate::placed::insn_at;
+use elf_image::Image;
+use rv_decode::{CsrKind, Insn, decode};
+
+/// The control flow of one instruction, judged from the instruction alone. Targets may lie outside
+/// the code.
+#[derive(Clone, Copy, Debug, PartialEq, Eq)]
+pub enum RawFlow {
+    /// Control goes on behind the instruction.
+    Straight,
+    /// A conditional branch to `target`.
+    Branch { target: u64 },
+    /// A jump to `target`: JAL or a paired JALR that links to x0.
+    Jump { target: u64 },
+    /// A call of `target`: JAL or a paired JALR that links to another register.
+    Call { target: u64 },
+    /// An unpaired JALR that links to a register other than x0.
+    IndirectCall,
+    /// An unpaired JALR through x1 or x5 that links to x0.
+    Return,
+    /// Any other unpaired JALR that links to x0: a jump to `register` plus `offset`.
+    RegisterJump { register: u8, offset: i64 },
+    /// Control does not go on: EBREAK, `unimp`, or no instruction.
+    Stop,
+}
+
+/// The flow of the instruction at the code address `a`.
+pub fn raw_flow(image: &Image, a: u64) -> RawFlow
+    requires { IsTrue (is_code image.now a) }
+    ensures flow { result ≡ raw_flow_at image.now a }
+    ensures image { IsImage image.now }
+{
+    match insn_at(image, a).insn {
+        None => RawFlow::Stop,
+        Some(insn) => insn_flow(image, a, insn),
+    }
+}
+
+fn insn_flow(image: &Image, a: u64, insn: Insn) -> RawFlow
+    ensures { result ≡ insn_flow image.now a insn }
+{
+    match insn {
+        Insn::Jal { rd: 0, offset } => RawFlow::Jump {
+            target: a.wrapping_add_signed(offset),
+        },
+        Insn::Jal { offset, .. } => RawFlow::Call {
+            target: a.wrapping_add_signed(offset),
+        },
+        Insn::Jalr { rd, rs1, imm } => jalr_flow(rd, rs1, imm, pair_target(image, a, rs1, imm)),
+        Insn::Branch { offset, .. } => RawFlow::Branch {
+            target: a.wrapping_add_signed(offset),
+        },
+        Insn::Ebreak => RawFlow::Stop,
+        Insn::Csr {
+            kind,
+            rd,
+            source,
+            csr,
+        } => {
+            if is_unimp(kind, rd, source, csr) {
+                RawFlow::Stop
+            } else {
+                RawFlow::Straight
+            }
+        }
+        _ => RawFlow::Straight,
+    }
+}
+
+fn is_unimp(kind: CsrKind, rd: u8, source: u8, csr: u16) -> bool
+    ensures { result ≡ is_unimp kind rd source csr }
+{
+    matches!(kind, CsrKind::Csrrw) && rd == 0 && source == 0 && csr == 0xC00
+}
+
+// The flow of a JALR whose target is known where it is paired.
+fn jalr_flow(rd: u8, rs1: u8, imm: i64, paired: Option<u64>) -> RawFlow
+    ensures { result ≡ jalr_flow rd rs1 imm paired }
+{
+    match paired {
+        Some(target) if rd == 0 => RawFlow::Jump { target },
+        Some(target) => RawFlow::Call { target },
+        None if rd != 0 => RawFlow::IndirectCall,
+        None if rs1 == 1 || rs1 == 5 => RawFlow::Return,
+        None => RawFlow::RegisterJump {
+            register: rs1,
+            offset: imm,
+        },
+    }
+}
+
+// The target of a JALR at `a` through `rs1`, where the word before it sets that register.
+fn pair_target(image: &Image, a: u64, rs1: u8, imm: i64) -> Option<u64>
+    ensures { result ≡ pair_target image.now a rs1 imm }
+{
+    if rs1 == 0 {
+        return None;
+    }
+    let base = upper_before(image, a, rs1)?;
+    Some(base.wrapping_add_signed(imm) / 2 * 2)
+}
+
+// What the word right before `a` leaves in `register`, where it is an AUIPC or LUI of it.
+fn upper_before(image: &Image, a: u64, register: u8) -> Option<u64>
+    ensures { result ≡ upper_before image.now a register }
+{
+    let start = image.section_start(a)?;
+    if a < start || a - start < 4 {
+        return None;
+    }
+    let before = a - 4;
+    match decode(image.word_at(before)?)? {
+        Insn::Lui { rd, imm } if rd == register => Some(imm.cast_unsigned()),
+        Insn::Auipc { rd, imm } if rd == register => Some(before.wrapping_add_signed(imm)),
+        _ => None,
+    }
+}

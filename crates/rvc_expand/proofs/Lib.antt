@@ -1,0 +1,4 @@
+pub mod Quadrants
+pub mod OneHolds
+mod Worked
+pub mod FieldsRead
