@@ -4,6 +4,7 @@ pub mod Successors
 pub mod Status
 pub mod Reach
 pub mod Closure
+pub mod Rounds
 pub mod Leader
 pub mod Block
 pub mod Edge
@@ -11,3 +12,8 @@ pub mod Listing
 pub mod Function
 pub mod Graph
 pub mod Cuts
+pub mod Unique
+pub mod Gains
+pub mod Marks
+pub mod Runs
+pub mod Ways

@@ -4,23 +4,38 @@ ghost use Rattle.std.specs.Prelude.{IfOk, Contains};
 ghost use Rattle.cfg_model.specs.Reach.{AreSeeds};
 ghost use Rattle.cfg_model.specs.Graph.{IsEarlyGraph};
 
+mod blocks;
+mod closure;
+mod edges;
+mod leaders;
+mod outline;
+
 use crate::flow::Chains;
-use crate::graph::Graph;
+use crate::graph::{Blocks, Edges, Functions, Graph};
 use crate::memory::Memory;
+use crate::plain::closure::closure_of;
+use crate::plain::outline::outline_of;
 use std::alloc::Global;
 
 /// The graph of the program `code` from the addresses `seeds`, without functions, or want of memory.
 ///
 /// No pass takes more than quadratic time in the number of reached addresses.
 pub fn plain_graph<C: Chains>(
-    _alloc: Global,
-    _code: &C,
-    _seeds: &[u64],
-    _entry: u64,
+    alloc: Global,
+    code: &C,
+    seeds: &[u64],
+    entry: u64,
 ) -> Result<Graph, Memory>
-    requires seeds { AreSeeds (C.map _code.now) _seeds.now }
-    requires entry { Contains _seeds.now _entry }
-    ensures graph { IfOk result (IsEarlyGraph (C.map _code.now) _seeds.now _entry) }
+    requires seeds { AreSeeds (C.map code.now) seeds.now }
+    requires entry { Contains seeds.now entry }
+    ensures graph { IfOk result (IsEarlyGraph (C.map code.now) seeds.now entry) }
 {
-    Err(Memory)
+    let closure = closure_of(alloc, code, seeds)?;
+    let (blocks, edges) = outline_of(alloc, code, &closure, seeds)?;
+    Ok(Graph {
+        entry,
+        functions: Functions::from_vec(Vec::new(alloc)),
+        blocks: Blocks::from_vec(blocks),
+        edges: Edges::from_vec(edges),
+    })
 }

@@ -1,0 +1,6 @@
+pub mod Outline
+pub mod Complete
+pub mod Growth
+pub mod Members
+pub mod Passes
+pub mod Steps

@@ -1,0 +1,8 @@
+-- A list that grows.
+use Rattle.std.specs.Prelude.{◌⊎◌, List, Contains}
+
+-- new has what old has, all that holds besides, and nothing else.
+pub record Gains {X : Type 0} (old new : List X) (Holds : X → Type 0) : Type 0 where
+  pub kept : (x : X) → Contains old x → Contains new x
+  pub added : (x : X) → Holds x → Contains new x
+  pub nothing_else : (x : X) → Contains new x → Contains old x ⊎ Holds x

@@ -1,0 +1,10 @@
+//! Laws of the definitions, as contracts of functions that do nothing.
+
+ghost use Rattle.cfg_model.specs.Unique.{GraphIsUnique, EarlyGraphIsUnique, OutlineIsUnique};
+
+/// A program has one graph: what the definitions say of a graph determines it, with its order.
+pub fn one_graph()
+    ensures whole { GraphIsUnique }
+    ensures early { EarlyGraphIsUnique }
+    ensures outline { OutlineIsUnique }
+{}
