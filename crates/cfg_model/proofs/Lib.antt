@@ -4,3 +4,5 @@ pub mod Growth
 pub mod Members
 pub mod Passes
 pub mod Steps
+pub mod ChainSteps
+pub mod Cover

@@ -17,3 +17,4 @@ pub mod Gains
 pub mod Marks
 pub mod Runs
 pub mod Ways
+pub mod Cover

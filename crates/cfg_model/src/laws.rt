@@ -1,5 +1,6 @@
 //! Laws of the definitions, as contracts of functions that do nothing.
 
+ghost use Rattle.cfg_model.specs.Cover.{NoEndIsMissed};
 ghost use Rattle.cfg_model.specs.Unique.{GraphIsUnique, EarlyGraphIsUnique, OutlineIsUnique};
 
 /// A program has one graph: what the definitions say of a graph determines it, with its order.
@@ -7,4 +8,9 @@ pub fn one_graph()
     ensures whole { GraphIsUnique }
     ensures early { EarlyGraphIsUnique }
     ensures outline { OutlineIsUnique }
+{}
+
+/// Every reached instruction that ends a chain is the last one of a block.
+pub fn no_end_is_missed()
+    ensures { NoEndIsMissed }
 {}
