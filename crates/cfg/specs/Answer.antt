@@ -1,7 +1,8 @@
 -- The answer to a file: what its bytes alone decide.
-use Rattle.std.specs.Prelude.{◌≡◌, ℕ, List, [], Option, Some, None, ℤ}
+use Rattle.std.specs.Prelude.{◌≡◌, ℕ, List, [], Option, Some, None, Bool, true, false, ◌&&◌, IsTrue}
 use Rattle.elf_image.specs.declared.fault.Fault.{Fault}
 use Rattle.elf_image.specs.Faults.{first_fault}
+use Rattle.elf_image.specs.Code.{is_code}
 use Rattle.elf_image.specs.Header.{entry}
 use Rattle.elf_image.specs.Seeds.{seeds}
 use Rattle.rv_flow.specs.declared.raw.RawFlow.{RawFlow}
@@ -17,10 +18,14 @@ use Rattle.cfg.specs.declared.refusal.Refusal.TheVariants as refusals
 use Rattle.cfg.specs.declared.status.Status.{Status}
 use Rattle.cfg.specs.declared.status.Status.TheVariants as statuses
 
+abbrev pub is_register_jump : RawFlow → Bool
+is_register_jump (raw.RegisterJump register offset) = true
+is_register_jump _ = false
+
 -- The instruction at a is a jump through a register that is neither paired nor a return. What it
 -- means is not built yet: it may be a jump through a table.
 abbrev pub IsUnbuilt : List ℕ → ℕ → Type 0
-IsUnbuilt bytes a = (register : ℕ) × (offset : ℤ) × (raw_flow_at bytes a ≡ raw.RegisterJump register offset)
+IsUnbuilt bytes a = IsTrue (is_code bytes a && is_register_jump (raw_flow_at bytes a))
 
 -- Such a jump is reached from the file's seeds.
 abbrev pub ReachesUnbuilt : List ℕ → Type 0

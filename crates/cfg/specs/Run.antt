@@ -37,7 +37,7 @@ HasBegunToAnswer bytes old new = (text : List ℕ) × Answers bytes statuses.Don
 pub data ErrorText (bytes : Option (List ℕ)) : Status → List ℕ → Type 0 where
   done : ErrorText bytes statuses.Done []
   usage : ErrorText bytes statuses.Usage (refusal_line refusals.Usage)
-  malformed : {fault : Fault} → IfSome bytes (λ b. first_fault b ≡ Some fault) → ErrorText bytes statuses.Malformed (refusal_line (refusals.Malformed fault))
+  malformed : (fault : Fault) → IfSome bytes (λ b. first_fault b ≡ Some fault) → ErrorText bytes statuses.Malformed (refusal_line (refusals.Malformed fault))
   read_fault : ErrorText bytes statuses.ReadFault (refusal_line refusals.ReadFault)
   write_fault : ErrorText bytes statuses.WriteFault (refusal_line refusals.WriteFault)
   memory : ErrorText bytes statuses.Memory (refusal_line refusals.Memory)

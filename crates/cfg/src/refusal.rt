@@ -3,13 +3,14 @@
 ghost use Rattle.std.specs.Prelude.{◌≡◌, IfOk, OnOk, OnErr};
 ghost use Rattle.cfg_io.specs.Fault.{Rose};
 ghost use Rattle.cfg_io.specs.Told.{Appends, AppendsPrefix};
-ghost use Rattle.cfg.specs.Refusal.{status_of};
+ghost use Rattle.cfg.specs.Refusal.{status_of, refusal_of};
+ghost use Rattle.cfg.specs.declared.refusal.Refusal.TheVariants as refusals;
 ghost use Rattle.cfg.specs.Lines.{refusal_line, text_of, detail_of};
 ghost use Rattle.cfg.specs.Run.{Tells};
 
 use crate::status::Status;
 use cfg_io::{Failed, Sink, write_whole};
-use elf_image::Fault;
+use elf_image::{ElfError, Fault};
 
 /// Why a run wrote no whole report.
 #[derive(Clone, Copy, Debug, PartialEq, Eq)]
@@ -20,6 +21,33 @@ pub enum Refusal {
     WriteFault,
     Memory,
     NotYet,
+}
+
+impl From<ElfError> for Refusal {
+    ghost from_gives = { λ e r. r ≡ refusal_of e };
+
+    fn from(e: ElfError) -> Self {
+        match e {
+            ElfError::Malformed(fault) => Refusal::Malformed(fault),
+            ElfError::Memory => Refusal::Memory,
+        }
+    }
+}
+
+impl From<cfg_model::Memory> for Refusal {
+    ghost from_gives = { λ _ r. r ≡ refusals.Memory };
+
+    fn from(_: cfg_model::Memory) -> Self {
+        Refusal::Memory
+    }
+}
+
+impl From<graph_report::Memory> for Refusal {
+    ghost from_gives = { λ _ r. r ≡ refusals.Memory };
+
+    fn from(_: graph_report::Memory) -> Self {
+        Refusal::Memory
+    }
 }
 
 impl Refusal {

@@ -1,10 +1,12 @@
 //! One whole run of the program, over any input and any two sinks.
 
-ghost use Rattle.std.specs.Prelude.{◌≡◌, ◌≢◌, ◌↔◌, ◌+◌, ◌≤◌, ◌<◌, List, [], Some, None, map, string_bytes, length, IfSome, IfOk, IfErr, IsErrOf, OnErr, OnOk};
+ghost use Rattle.std.specs.Prelude.{◌≡◌, ◌≢◌, ◌↔◌, ℕ, ◌+◌, ◌≤◌, ◌<◌, List, [], Some, None, map, string_bytes, length, IfSome, IfOk, IfErr, IsErrOf, OnErr, OnOk};
 ghost use Rattle.cfg_io.specs.Fault.{Rose};
 ghost use Rattle.cfg_io.specs.Opened.{Nothing};
-ghost use Rattle.cfg_io.specs.Told.{Appends, AppendsPrefix, TakesCount};
+ghost use Rattle.cfg_io.specs.Told.{Takes, TakesCount};
 ghost use Rattle.cfg.specs.Words.{file_asked};
+ghost use Rattle.cfg.specs.Answer.{Answers};
+ghost use Rattle.cfg.specs.Outcome.{IsTrueOf, IsAnswered, IsReadingRefusal};
 ghost use Rattle.cfg.specs.Run.{Tells, IsAnswer, HasAnswered, HasBegunToAnswer, ErrorText, OpenedBy};
 
 use crate::answer::report_of;
@@ -80,7 +82,18 @@ pub fn run<I: Input, O: Sink, E: Sink, G: Gate>(
 }
 
 // The report of the file that the words ask for.
-fn report<I: Input>(alloc: Global, words: &[String], input: &mut I) -> Result<Vec<u8>, Refusal> {
+fn report<I: Input>(alloc: Global, words: &[String], input: &mut I) -> Result<Vec<u8>, Refusal>
+    requires { I.opened input.old ≡ Nothing }
+
+    ensures done { IfOk result (λ text. IfSome (I.rest input.old) (λ bytes. Answers bytes Status.Done text.items)) }
+    ensures refused { IfErr result (IsTrueOf (I.rest input.old) (Rose (I.faults input.old) (I.faults input.new))) }
+    ensures usage { IsErrOf result Refusal.Usage ↔ (file_asked (map (λ w. string_bytes w) words.now) ≡ None) }
+
+    ensures opened { IfSome (file_asked (map (λ w. string_bytes w) words.now)) (λ path. OpenedBy (I.tells_path input.old) path (I.opened input.new)) }
+    ensures untouched { IsErrOf result Refusal.Usage → (I.opened input.new ≡ Nothing) × (I.rest input.new ≡ I.rest input.old) × (I.faults input.new ≡ I.faults input.old) }
+    ensures read_to_end { IfSome (I.rest input.old) (λ bytes. length bytes ≤ FILE_LIMIT → IsAnswered result → I.rest input.new ≡ Some []) }
+    ensures too_large { IfSome (I.rest input.old) (λ bytes. FILE_LIMIT < length bytes → IsAnswered result → TakesCount (I.rest input.old) (FILE_LIMIT + 1) (I.rest input.new)) }
+{
     let Some(path) = file_asked(words) else {
         return Err(Refusal::Usage);
     };
@@ -89,7 +102,18 @@ fn report<I: Input>(alloc: Global, words: &[String], input: &mut I) -> Result<Ve
 }
 
 // All bytes of the file at a path.
-fn read_file<I: Input>(alloc: Global, path: &str, input: &mut I) -> Result<Vec<u8>, Refusal> {
+fn read_file<I: Input>(alloc: Global, path: &str, input: &mut I) -> Result<Vec<u8>, Refusal>
+    requires { I.opened input.old ≡ Nothing }
+
+    ensures whole { IfOk result (λ bytes. Takes (I.rest input.old) bytes.items (I.rest input.new)) }
+    ensures at_end { OnOk result (IfSome (I.rest input.new) (λ left. left ≡ [])) }
+    ensures fits { IfOk result (λ bytes. length bytes.items ≤ FILE_LIMIT) }
+
+    ensures refused { IfErr result (IsReadingRefusal (Rose (I.faults input.old) (I.faults input.new))) }
+    ensures over_limit { IsErrOf result (Refusal.Malformed Fault.TooLarge) → TakesCount (I.rest input.old) (FILE_LIMIT + 1) (I.rest input.new) }
+
+    ensures opened { OpenedBy (I.tells_path input.old) path.now (I.opened input.new) }
+{
     match input.open(path) {
         Ok(()) => (),
         Err(Failed) => return Err(Refusal::ReadFault),

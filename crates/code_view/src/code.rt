@@ -12,6 +12,7 @@ use rv_flow::{insn_at, raw_flow};
 /// is not known, and a branch that loses one of its ways is cut off. A straight instruction with no
 /// code behind it stops. Jump tables are not read yet, so each jump through a register that is no
 /// return goes nobody knows where, and no cut says anything.
+#[derive(Drop)]
 pub struct Code<'a> {
     image: &'a Image,
     cuts: &'a Cuts,

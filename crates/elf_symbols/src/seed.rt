@@ -2,7 +2,7 @@
 
 ghost use Rattle.std.specs.Prelude.{◌≡◌};
 ghost use Rattle.std.specs.List.Sorted.{IsStrictlyIncreasing};
-ghost use Rattle.elf_symbols.specs.Seeds.{addresses_of, name_in};
+ghost use Rattle.elf_symbols.specs.Seeds.{addresses_of};
 
 use elf_image::Span;
 use std::marker::Model;
@@ -44,15 +44,5 @@ impl Seeds {
         ensures rising { IsStrictlyIncreasing result.now }
     {
         &self.addresses
-    }
-
-    /// The place of the name of the seed at `a` in the file; `None` exactly where `a` is no seed or has no name.
-    pub fn name_of(&self, a: u64) -> Option<Span>
-        ensures { result ≡ name_in self.now a }
-    {
-        match self.addresses.binary_search(&a) {
-            Ok(i) => self.seeds[i].name,
-            Err(_) => None,
-        }
     }
 }
