@@ -29,3 +29,5 @@ pub mod StateRows
 pub mod SelfCallRow
 pub mod SelfCallClosed
 pub mod WaitRow
+pub mod ChainSteps
+pub mod Cover

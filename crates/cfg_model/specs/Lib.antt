@@ -34,3 +34,4 @@ pub mod Run
 pub mod Brought
 pub mod StateLaws
 pub mod StateCode
+pub mod Cover

@@ -1,5 +1,6 @@
 //! Laws of the definitions, as contracts of functions that do nothing.
 
+ghost use Rattle.cfg_model.specs.Cover.{NoEndIsMissed};
 ghost use Rattle.cfg_model.specs.Unique.{GraphIsUnique, EarlyGraphIsUnique, OutlineIsUnique, BlockIsUnique, FunctionIsUnique};
 
 /// A program has one graph: what the definitions say of a graph determines it, with its order.
@@ -9,4 +10,9 @@ pub fn one_graph()
     ensures outline { OutlineIsUnique }
     ensures block { BlockIsUnique }
     ensures function { FunctionIsUnique }
+{}
+
+/// Every reached instruction that ends a chain is the last one of a block.
+pub fn no_end_is_missed()
+    ensures { NoEndIsMissed }
 {}

@@ -2,6 +2,7 @@
 //!
 //! - [`flow`]: the control flow of one instruction, and [`Chains`], a program seen as a finite map
 //!   from addresses to instructions.
+//! - [`chain`]: places on chains.
 //! - [`graph`]: functions, basic blocks and edges as plain data, and their lists.
 //! - [`laws`]: laws of these definitions, above all that a program has one graph.
 //! - [`state`]: what a builder notes of a start and of a terminator that waits.
@@ -9,6 +10,7 @@
 //!   the graph of a program, as definitions on the map alone.
 #![tactic(auto)]
 
+pub mod chain;
 pub mod flow;
 pub mod graph;
 pub mod laws;
@@ -16,11 +18,12 @@ pub mod memory;
 pub mod plain;
 pub mod state;
 
+pub use chain::term;
 pub use flow::{Chains, Flow};
 pub use graph::{
     Addresses, Block, Blocks, Edge, EdgeKind, Edges, EndKind, Function, Functions, Graph,
 };
-pub use laws::one_graph;
+pub use laws::{no_end_is_missed, one_graph};
 pub use memory::Memory;
 pub use plain::plain_graph;
 pub use state::{Mark, WaitKind, Waiter};

@@ -167,7 +167,10 @@ program-lawful bytes accepted a i is =
     let parts = cond_some (is_code bytes a) (instruction_at bytes (λ j. None) (λ j. None) a) i is in
     subst (λ j. IsLawfulAt (program_without_tables bytes) a j) parts.1 (at_code bytes accepted a parts.0)
 
--- An instruction stands only at a code address.
+-- An instruction stands at each code address, and nowhere else.
+pub code-program : (bytes : List ℕ) (a : ℕ) → is_code bytes a ≡ true → IsSome (program_without_tables bytes a)
+code-program bytes a code = ap (λ o. is_some o) (cond-true (is_code bytes a) (Some (instruction_at bytes (λ j. None) (λ j. None) a)) None code)
+
 pub code_of : (bytes : List ℕ) (a : ℕ) → IsSome (program_without_tables bytes a) → is_code bytes a ≡ true
 code_of bytes a there = go (is_code bytes a) there
   where

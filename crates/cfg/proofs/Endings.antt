@@ -1,0 +1,104 @@
+-- How a run ends: what each refusal leaves, by its kind.
+use Rattle.std.proofs.Common.{◌≡◌, ◌≢◌, ℕ, ◌+◌, ◌<◌, ◌≤◌, Bool, true, List, [], ◌++◌, length, Option, Some, None, refl, sym, ap, ◌∙◌, subst, inl, inr, arith, length-append, append-nil}
+use Rattle.std.specs.Prelude.{IfSome, Result, Ok, Err, IfErr, nat_lt}
+use Rattle.std.specs.List.{find}
+use Rattle.std.specs.Option.{option_map}
+use Rattle.std.proofs.lemmas.Bool.{cond-true, lt-ltb}
+use Rattle.elf_image.specs.declared.fault.Fault.{Fault}
+use Rattle.elf_image.specs.declared.fault.Fault.TheVariants.{TooLarge}
+use Rattle.elf_image.specs.FaultTests.{is_too_large}
+use Rattle.elf_image.specs.Faults.{first_fault, first_among, has_fault, image_faults, symbol_faults}
+use Rattle.cfg_io.specs.Told.{Appends, TakesCount}
+use Rattle.cfg.specs.declared.refusal.Refusal.{Refusal}
+use Rattle.cfg.specs.declared.refusal.Refusal.TheVariants as refusals
+use Rattle.cfg.specs.declared.status.Status.{Status}
+use Rattle.cfg.specs.declared.status.Status.TheVariants as statuses
+use Rattle.cfg.specs.Answer.{Answers}
+use Rattle.cfg.specs.Refusal.{status_of}
+use Rattle.cfg.specs.Lines.{refusal_line}
+use Rattle.cfg.specs.Outcome.{IsTrueOf, IsOfBytes, IsReadingRefusal}
+use Rattle.cfg.specs.Run.{IsAnswer, HasAnswered, ErrorText}
+
+-- nothing was appended
+pub appends-nothing : (old : Option (List ℕ)) → Appends old [] old
+appends-nothing None = refl
+appends-nothing (Some had) = ap (λ xs. Some xs) (sym (append-nil had))
+
+-- ---- reading
+
+-- a file of more bytes than the limit is too large
+too-large : (bytes : List ℕ) → 67108864 < length bytes → first_fault bytes ≡ Some TooLarge
+unfolding first_fault first_among has_fault is_too_large
+too-large bytes more = cond-true (nat_lt 67108864 (length bytes)) _ _ (lt-ltb 67108864 (length bytes) more)
+
+taken-more : (bytes : List ℕ) (new : Option (List ℕ)) → TakesCount (Some bytes) 67108865 new → 67108864 < length bytes
+taken-more bytes None (taken, takes, count) = absurd (cc)
+taken-more bytes (Some left) (taken, takes, count) =
+    let same : bytes ≡ taken ++ left = cc in
+    omega (arith, ap length same, length-append taken left, count)
+
+told-too-large : (told new : Option (List ℕ)) → TakesCount told 67108865 new → IfSome told (λ bytes. first_fault bytes ≡ Some TooLarge)
+told-too-large None new takes = tt
+told-too-large (Some bytes) new takes = too-large bytes (taken-more bytes new takes)
+
+-- what reading refuses is true of the bytes
+pub reading-true : (told new : Option (List ℕ)) (rose : Type 0) (r : Refusal) → IsReadingRefusal rose r
+    → (r ≡ refusals.Malformed TooLarge → TakesCount told 67108865 new) → IsTrueOf told rose r
+reading-true told new rose refusals.Usage is takes = tt
+reading-true told new rose (refusals.Malformed fault) is takes =
+    let all = told-too-large told new (takes (ap (λ f. refusals.Malformed f) is)) in
+    subst (λ (f : Fault). IfSome told (λ bytes. first_fault bytes ≡ Some f)) (sym is) all
+reading-true told new rose refusals.ReadFault is takes = is
+reading-true told new rose refusals.WriteFault is takes = is
+reading-true told new rose refusals.Memory is takes = tt
+reading-true told new rose refusals.NotYet is takes = absurd is
+
+-- ---- refusing
+
+module _ (rose : Type 0) (old : Option (List ℕ)) where
+  refused-answer : (bytes : List ℕ) (r : Refusal) → IsTrueOf (Some bytes) rose r → IsAnswer (status_of r) → HasAnswered bytes (status_of r) old old
+  refused-answer bytes refusals.Usage is answers = absurd answers
+  refused-answer bytes (refusals.Malformed fault) is answers = ([], Answers.malformed is, appends-nothing old)
+  refused-answer bytes refusals.ReadFault is answers = absurd answers
+  refused-answer bytes refusals.WriteFault is answers = absurd answers
+  refused-answer bytes refusals.Memory is answers = absurd answers
+  refused-answer bytes refusals.NotYet is answers = ([], Answers.not_yet is.0 is.1, appends-nothing old)
+
+  pub answer-of : (told : Option (List ℕ)) (r : Refusal) → IsTrueOf told rose r → IfSome told (λ bytes. IsAnswer (status_of r) → HasAnswered bytes (status_of r) old old)
+  answer-of None r is = tt
+  answer-of (Some bytes) r is = refused-answer bytes r is
+
+  refused-report : (bytes : List ℕ) (asked : Option (List ℕ)) (fails : Type 0) (r : Refusal) → IsTrueOf (Some bytes) rose r → (r ≡ refusals.Usage → asked ≡ None)
+      → asked ≢ None → ¬ rose → ¬ fails → status_of r ≢ statuses.Memory → HasAnswered bytes (status_of r) old old
+  refused-report bytes asked fails refusals.Usage is usage words none less memory = absurd (words (usage refl))
+  refused-report bytes asked fails (refusals.Malformed fault) is usage words none less memory = refused-answer bytes (refusals.Malformed fault) is tt
+  refused-report bytes asked fails refusals.ReadFault is usage words none less memory = absurd (none is)
+  refused-report bytes asked fails refusals.WriteFault is usage words none less memory = absurd is
+  refused-report bytes asked fails refusals.Memory is usage words none less memory = absurd (memory refl)
+  refused-report bytes asked fails refusals.NotYet is usage words none less memory = refused-answer bytes refusals.NotYet is tt
+
+  pub report-of : (told asked : Option (List ℕ)) (fails : Type 0) (r : Refusal) → IsTrueOf told rose r → (r ≡ refusals.Usage → asked ≡ None)
+      → IfSome told (λ bytes. asked ≢ None → ¬ rose → ¬ fails → status_of r ≢ statuses.Memory → HasAnswered bytes (status_of r) old old)
+  report-of None asked fails r is usage = tt
+  report-of (Some bytes) asked fails r is usage = refused-report bytes asked fails r is usage
+
+-- the line of a refusal
+pub text-of : (told : Option (List ℕ)) (rose : Type 0) (r : Refusal) → IsTrueOf told rose r → ErrorText told (status_of r) (refusal_line r)
+text-of told rose refusals.Usage is = ErrorText.usage
+text-of told rose (refusals.Malformed fault) is = ErrorText.malformed fault is
+text-of told rose refusals.ReadFault is = ErrorText.read_fault
+text-of told rose refusals.WriteFault is = ErrorText.write_fault
+text-of told rose refusals.Memory is = ErrorText.memory
+text-of told rose refusals.NotYet is = ErrorText.not_yet
+
+pub of-bytes : (r : Refusal) → IsAnswer (status_of r) → IsOfBytes r
+of-bytes refusals.Usage answers = answers
+of-bytes (refusals.Malformed fault) answers = tt
+of-bytes refusals.ReadFault answers = answers
+of-bytes refusals.WriteFault answers = answers
+of-bytes refusals.Memory answers = answers
+of-bytes refusals.NotYet answers = tt
+
+pub if_some_map : {A : Type 0} {P Q : A → Type 0} (o : Option A) → ((x : A) → P x → Q x) → IfSome o P → IfSome o Q
+if_some_map None f p = tt
+if_some_map (Some x) f p = f x p

@@ -1,0 +1,34 @@
+-- One piece written after another.
+use Rattle.std.proofs.Common.{◌≡◌, ℕ, ◌+◌, ◌-◌, ◌<◌, ◌≤◌, List, [], ◌∷◌, ◌++◌, length, take, Option, Some, None, refl, sym, ap, ◌∙◌, subst, arith, length-append, append_assoc}
+use Rattle.std.specs.Prelude.{Result, Ok, Err, OnErr}
+use Rattle.std.specs.Option.{option_map}
+use Rattle.std.proofs.lemmas.List.{take-append-le}
+use Rattle.std.proofs.Math.Seq.{take-append-add}
+use Rattle.cfg_io.specs.Told.{Appends, AppendsPrefix}
+
+pub on_err : {A B : Type 0} {P : Type 0} (r : Result A B) → P → OnErr r P
+on_err (Ok x) p = tt
+on_err (Err e) p = p
+
+-- both pieces were appended
+pub both_appended : (old mid new : Option (List ℕ)) (a b : List ℕ) → Appends old a mid → Appends mid b new → Appends old (a ++ b) new
+both_appended None mid new a b first second = second ∙ ap (λ o. option_map (λ had. had ++ b) o) first
+both_appended (Some had) mid new a b first second =
+    second ∙ ap (λ o. option_map (λ have. have ++ b) o) first ∙ ap (λ xs. Some xs) (append_assoc had a b)
+
+-- a part of a is a part of a ++ b
+pub prefix_more : (old new : Option (List ℕ)) (a b : List ℕ) → AppendsPrefix old a new → AppendsPrefix old (a ++ b) new
+prefix_more old new a b (n, below, is) =
+    (n, omega (arith, length-append a b), is ∙ ap (λ part. option_map (λ had. had ++ part) old) (sym (take-append-le n a b (omega arith))))
+
+-- all of a and a part of b
+pub prefix_behind : (old mid new : Option (List ℕ)) (a b : List ℕ) → Appends old a mid → AppendsPrefix mid b new → AppendsPrefix old (a ++ b) new
+prefix_behind old mid new a b first (n, below, is) = (
+  length a + n,
+  omega (arith, length-append a b),
+  both_appended old mid new a (take n b) first is ∙ ap (λ part. option_map (λ had. had ++ part) old) (sym (take-append-add a b n)),
+)
+
+pub on_err_map : {A B : Type 0} {P Q : Type 0} (r : Result A B) → (P → Q) → OnErr r P → OnErr r Q
+on_err_map (Ok x) f p = tt
+on_err_map (Err e) f p = f p

@@ -1,0 +1,20 @@
+-- The status that each refusal ends with.
+use Rattle.cfg.specs.declared.refusal.Refusal.{Refusal}
+use Rattle.cfg.specs.declared.refusal.Refusal.TheVariants as refusals
+use Rattle.elf_image.specs.declared.fault.ElfError.{ElfError}
+use Rattle.elf_image.specs.declared.fault.ElfError.TheVariants as errors
+use Rattle.cfg.specs.declared.status.Status.{Status}
+use Rattle.cfg.specs.declared.status.Status.TheVariants as statuses
+
+abbrev pub status_of : Refusal → Status
+status_of refusals.Usage = statuses.Usage
+status_of (refusals.Malformed fault) = statuses.Malformed
+status_of refusals.ReadFault = statuses.ReadFault
+status_of refusals.WriteFault = statuses.WriteFault
+status_of refusals.Memory = statuses.Memory
+status_of refusals.NotYet = statuses.NotYet
+
+-- The refusal that an error of the file's readers is.
+abbrev pub refusal_of : ElfError → Refusal
+refusal_of (errors.Malformed fault) = refusals.Malformed fault
+refusal_of errors.Memory = refusals.Memory

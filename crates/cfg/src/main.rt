@@ -1,0 +1,56 @@
+//! `cfg FILE`: the control-flow graph of a RISC-V executable.
+//!
+//! - `words`: what the command line asks for. `answer`: from a file's bytes to the text of its report.
+//! - `run`: a whole run over any input and any sinks, and what is proved of it.
+//! - `status`, `refusal`: how a run ends, and the line that tells it.
+//! - `gate`: where a test may hold workers, once there are any.
+#![tactic(auto)]
+
+mod answer;
+mod gate;
+mod refusal;
+mod run;
+mod status;
+mod words;
+
+use crate::gate::OpenGate;
+use crate::refusal::Refusal;
+use crate::run::run;
+use crate::status::Status;
+use cfg_io::{FileInput, StdSink};
+use std::env;
+use std::io::{self, ErrorKind};
+use std::process::ExitCode;
+
+/// Runs the program on the command line, the files of the system and the standard streams.
+fn main(rt: HostRuntime) -> ExitCode {
+    let mut out = StdSink::new(rt.stdout());
+    let mut err = StdSink::new(rt.stderr());
+    let status = match word_list(&rt) {
+        Ok(words) => {
+            let mut input = FileInput::new(rt);
+            run(
+                rt.alloc(),
+                &words,
+                &mut input,
+                &mut out,
+                &mut err,
+                &OpenGate,
+            )
+        }
+        Err(e) => {
+            let refusal = match e.kind() {
+                ErrorKind::OutOfMemory => Refusal::Memory,
+                _ => Refusal::Usage,
+            };
+            refusal.tell(&mut err);
+            refusal.status()
+        }
+    };
+    ExitCode::from(status.number())
+}
+
+// The words of the command line, the program's name first. A word that is not UTF-8 is an error.
+fn word_list(rt: &HostRuntime) -> io::Result<Vec<String>> {
+    Ok(env::args(rt)?.collect(rt.alloc())?)
+}

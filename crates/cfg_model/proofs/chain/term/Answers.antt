@@ -1,0 +1,16 @@
+use Rattle.cfg_model.specs.Chain.{OnChain}
+use Rattle.cfg_model.proofs.ChainSteps.{chain_step}
+use Rattle.cfg_model.proofs.Outline.Runs.{goes_up}
+use Rattle.cfg_model.proofs.chain.term.Goals as goal
+
+pub loop-next-init : goal.loop-next-init
+loop-next-init g c = record { reaches = OnChain.here; known = c.requires }
+
+pub loop-next-preserved : goal.loop-next-preserved
+loop-next-preserved g c =
+    let map = g.C.Chains.map c.args.code.now in
+    let onward = c.in-Some.ensures.onward in
+    record {
+      reaches = chain_step map c.args.a c.loop-next.k c.in-Some.next c.loop-next.invariant.reaches onward;
+      known = (goes_up map c.loop-next.k c.in-Some.next c.behind.ensures.lawful onward).2;
+    }

@@ -1,0 +1,13 @@
+use Rattle.std.proofs.Common.{ℕ, ◌-◌, ◌^◌, IsSome}
+use Rattle.cfg_model.specs.Chain.{OnChain}
+use Rattle.cfg_model.proofs.chain.term.Given as goal
+
+-- k is on the chain, and is the address of an instruction
+abbrev pub invariant-loop-next : goal.invariant-loop-next
+invariant-loop-next g l = record {
+  reaches : OnChain (g.C.Chains.map l.code) l.a l.k;
+  known : IsSome (g.C.Chains.map l.code l.k);
+}
+
+abbrev pub decreases-loop-next : goal.decreases-loop-next
+decreases-loop-next g l = 2 ^ 64 - l.k
