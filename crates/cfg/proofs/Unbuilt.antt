@@ -136,12 +136,12 @@ module _ (bytes : List ℕ) (graph : Graph) (is : IsGraphOf bytes graph) where
       let unknown = unbuilt-unknown bytes a unbuilt in
       let ends : IsTerminator (program_without_tables bytes) a = subst EndsChain (sym unknown) tt in
       no_end_is_missed (program_without_tables bytes) (seeds bytes) graph.blocks is.outline.all_blocks a reached ends
-          (λ block among to. none block among (record {
-              kind = block-of-unknown (program_without_tables bytes) (seeds bytes) block a unknown to;
-              last = a;
-              terminator = record { reaches = run-on-chain to.last.runs; ends = ends };
-              unbuilt = unbuilt;
-          }))
+      (λ block among to. none block among (record {
+        kind = block-of-unknown (program_without_tables bytes) (seeds bytes) block a unknown to;
+        last = a;
+        terminator = record { reaches = run-on-chain to.last.runs; ends = ends };
+        unbuilt = unbuilt;
+      }))
 
 -- ---- the search of the blocks, in order
 
@@ -159,9 +159,9 @@ module _ (bytes : List ℕ) (graph : Graph) (is : IsGraphOf bytes graph) (items 
       → (k : ℕ) (d : Block) → k < i + 1 → EndsUnbuilt bytes (get_or graph.blocks k d) → ⊥
   none-more i e within here below k d less ends =
       ⊎_elim (λ (lt : k < i). below k d lt ends)
-          (λ (eq : k ≡ i). here (subst (λ (b : Block). EndsUnbuilt bytes b)
-              (ap (λ j. get_or graph.blocks j d) eq ∙ ap (λ (xs : List Block). get_or xs i d) (sym same) ∙ get_or_default items i d e within) ends))
-          (below_or_at k i less)
+      (λ (eq : k ≡ i). here (subst (λ (b : Block). EndsUnbuilt bytes b)
+      (ap (λ j. get_or graph.blocks j d) eq ∙ ap (λ (xs : List Block). get_or xs i d) (sym same) ∙ get_or_default items i d e within) ends))
+      (below_or_at k i less)
 
   -- none at all
   pub none-all : (i : ℕ) → length items ≤ i → ((k : ℕ) (d : Block) → k < i → EndsUnbuilt bytes (get_or graph.blocks k d) → ⊥) → ReachesUnbuilt bytes → ⊥

@@ -11,6 +11,8 @@ mod gate;
 mod refusal;
 mod run;
 mod status;
+#[cfg(test)]
+mod tests;
 mod words;
 
 use crate::gate::OpenGate;

@@ -36,8 +36,12 @@ module _ (map : InstructionMap) (seeds : List ℕ) where
   behind : (a b : ℕ) → ¬ ¬ IsCovered map seeds a → Reached map seeds b → GoesOnTo map a b → ¬ ¬ IsCovered map seeds b
   behind a b covered reached goes missing =
       covered (λ (c : IsCovered map seeds a).
-          missing (record { start = c.start; leader = c.leader; runs =
-              runs_more b c.runs goes (λ (l : IsLeader map seeds b). missing (at_leader b reached l.starts)) RunsTo.here }))
+      missing (record {
+        start = c.start;
+        leader = c.leader;
+        runs =
+            runs_more b c.runs goes (λ (l : IsLeader map seeds b). missing (at_leader b reached l.starts)) RunsTo.here;
+      }))
 
   -- what a reached instruction sends control to is covered, by itself
   targeted : (a b : ℕ) (flow : Flow) → flow_at map a ≡ Some flow → Reached map seeds a → Reached map seeds b → Contains (targets_by (targets_at map a) flow) b → ¬ ¬ IsCovered map seeds b
@@ -57,13 +61,13 @@ module _ (map : InstructionMap) (seeds : List ℕ) where
   onward a b None is from covered reached among = absurd (Contains-none b among)
   onward a b (Some (flows.Straight next)) is from covered reached among =
       ⊎_elim (λ e. behind a b covered reached (is ∙ ap (λ n. Some (flows.Straight n)) e)) (λ more. absurd (Contains-none b more))
-          (Contains-cons_cases next [] b among)
+      (Contains-cons_cases next [] b among)
   onward a b (Some (flows.Branch None fall)) is from covered reached among =
       fallen a b (flows.Branch None fall) is from reached (among_fall fall b among)
   onward a b (Some (flows.Branch (Some taken) fall)) is from covered reached among =
       ⊎_elim (λ e. targeted a b (flows.Branch (Some taken) fall) is from reached (subst (λ x. Contains (taken ∷ []) x) e (Contains-here taken [])))
-          (λ more. fallen a b (flows.Branch (Some taken) fall) is from reached (among_fall fall b more))
-          (Contains-cons_cases taken (option_to_list fall) b among)
+      (λ more. fallen a b (flows.Branch (Some taken) fall) is from reached (among_fall fall b more))
+      (Contains-cons_cases taken (option_to_list fall) b among)
   onward a b (Some (flows.Jump target)) is from covered reached among = targeted a b (flows.Jump target) is from reached among
   onward a b (Some (flows.Call target fall)) is from covered reached among = absurd (Contains-none b among)
   onward a b (Some (flows.IndirectCall fall)) is from covered reached among =
@@ -87,17 +91,18 @@ covered {map} {seeds} {a = b} (Reached.past_call from calls returns) missing =
 module _ (map : InstructionMap) (seeds : List ℕ) (k : ℕ) (ends : IsTerminator map k) where
   block_to : (c : IsCovered map seeds k) → (i : Option Instruction) → map k ≡ i → (block : Block) × IsBlockTo map seeds block k
   block_to c None is = absurd (subst (λ o. EndsChain o) (ap (λ o. option_map (λ (j : Instruction). j.flow) o) is) ends)
-  block_to c (Some i) is =
-      (record { start = c.start; end = k + i.bytes; kind = end_kind i.flow },
-       record {
-         leader = c.leader;
-         last = record { runs = c.runs; stops = inl ends };
-         ends = (i.bytes, ap (λ o. option_map (λ (j : Instruction). j.bytes) o) is, refl);
-         kind = (i.flow, ap (λ o. option_map (λ (j : Instruction). j.flow) o) is, refl);
-       })
+  block_to c (Some i) is = (
+    record { start = c.start; end = k + i.bytes; kind = end_kind i.flow },
+    record {
+      leader = c.leader;
+      last = record { runs = c.runs; stops = inl ends };
+      ends = (i.bytes, ap (λ o. option_map (λ (j : Instruction). j.bytes) o) is, refl);
+      kind = (i.flow, ap (λ o. option_map (λ (j : Instruction). j.flow) o) is, refl);
+    },
+  )
 
 pub no_end_is_missed : NoEndIsMissed
 no_end_is_missed map seeds blocks lists k reached ends missed =
     covered reached (λ (c : IsCovered map seeds k).
-        let b = block_to map seeds k ends c (map k) refl in
-        missed b.0 (lists.complete b.0 (k, b.1)) b.1)
+    let b = block_to map seeds k ends c (map k) refl in
+    missed b.0 (lists.complete b.0 (k, b.1)) b.1)

@@ -59,8 +59,8 @@ first_of_two (Some n) second = Some n
 abbrev pub constant_before : List ℕ → ℕ → ℕ → ℕ → Option ℤ
 constant_before bytes start b r =
     first_of_two
-        (if nat_le (start + 2) b then short_constant bytes start (b - 2) r else None)
-        (if nat_le (start + 4) b then option_and_then (constant_of r) (whole_insn_at bytes start (b - 4)) else None)
+    (if nat_le (start + 2) b then short_constant bytes start (b - 2) r else None)
+    (if nat_le (start + 4) b then option_and_then (constant_of r) (whole_insn_at bytes start (b - 4)) else None)
 
 -- A bound test: where it stands, the register of the index, and how many values of the index pass.
 pub record BoundTest : Type 0 where
@@ -96,8 +96,8 @@ abbrev pub first_test : List ℕ → ℕ → ℕ → List ℕ → Option BoundTe
 first_test bytes start j [] = None
 first_test bytes start j (back ∷ backs) =
     elim (if nat_le (start + back) j then test_at bytes start j (j - back) else None) [
-      Some test ↦ Some test
-    | None ↦ first_test bytes start j backs
+      | Some test ↦ Some test
+      | None ↦ first_test bytes start j backs
     ]
 
 -- How far before the jump the test may stand: 4 to 68 bytes.

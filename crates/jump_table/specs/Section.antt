@@ -33,5 +33,5 @@ straight_run bytes start j (suc n) a =
     if a == j
     then Some []
     else (if goes_on bytes start a
-          then option_map (λ run. a ∷ run) (straight_run bytes start j n (a + (placed_at bytes a).length))
-          else None)
+    then option_map (λ run. a ∷ run) (straight_run bytes start j n (a + (placed_at bytes a).length))
+    else None)

@@ -36,8 +36,8 @@ abbrev pub targets_from : List ℕ → ℕ → ℕ → ℕ → ℕ → List ℕ
 targets_from bytes base add i zero = []
 targets_from bytes base add i (suc n) =
     elim (entry_target bytes base add i) [
-      None ↦ []
-    | Some target ↦ target ∷ targets_from bytes base add (i + 1) n
+      | None ↦ []
+      | Some target ↦ target ∷ targets_from bytes base add (i + 1) n
     ]
 
 -- ---- the table

@@ -13,4 +13,4 @@ returns-in_err-bytes-clause-refused g c =
     let rose = Rose (g.I.Input.faults c.args.input.now) (g.I.Input.faults c.read_file.new.input) in
     let p = err_from_is_err_and c.from_residual.result c.from_residual.ensures.1 in
     rw (p.1, p.2) (reading-true told new rose c.in_err-bytes.field-0.0 c.in_err-bytes.ensures.refused
-        (λ e. c.in_err-bytes.ensures.over_limit (ap (λ (r : Refusal). Err r) e)))
+    (λ e. c.in_err-bytes.ensures.over_limit (ap (λ (r : Refusal). Err r) e)))

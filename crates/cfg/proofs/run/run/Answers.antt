@@ -19,28 +19,29 @@ returns-in-Err-clause-report g c =
     let out = g.O.Sink.written c.args.out.now in
     let asked = file_asked (map (λ w. string_bytes w) c.args.words.now) in
     subst (λ (s : Status). IfSome told (λ bytes. asked ≢ None → ¬ rose → ¬ fails → s ≢ statuses.Memory → HasAnswered bytes s out out)) (sym c.status.ensures)
-        (report-of rose out told asked fails c.in-Err.refusal c.in-Err.ensures.refused
-            (λ e. c.in-Err.ensures.usage.0 (ap (λ (r : Refusal). Err r) e)))
+    (report-of rose out told asked fails c.in-Err.refusal c.in-Err.ensures.refused
+    (λ e. c.in-Err.ensures.usage.0 (ap (λ (r : Refusal). Err r) e)))
 
 pub returns-in-Err-clause-answer : goal.returns-in-Err-clause-answer
 returns-in-Err-clause-answer g c =
     let told = g.I.Input.rest c.args.input.now in
     let out = g.O.Sink.written c.args.out.now in
     subst (λ (s : Status). IfSome told (λ bytes. IsAnswer s → HasAnswered bytes s out out)) (sym c.status.ensures)
-        (answer-of _ out told c.in-Err.refusal c.in-Err.ensures.refused)
+    (answer-of _ out told c.in-Err.refusal c.in-Err.ensures.refused)
 
 pub returns-in-Err-clause-error_line : goal.returns-in-Err-clause-error_line
 returns-in-Err-clause-error_line g c =
-    let told = g.I.Input.rest c.args.input.now in
-    (refusal_line c.in-Err.refusal,
-     subst (λ (s : Status). ErrorText told s (refusal_line c.in-Err.refusal)) (sym c.status.ensures) (text-of told _ c.in-Err.refusal c.in-Err.ensures.refused),
-     c.tell.ensures)
+    let told = g.I.Input.rest c.args.input.now in (
+      refusal_line c.in-Err.refusal,
+      subst (λ (s : Status). ErrorText told s (refusal_line c.in-Err.refusal)) (sym c.status.ensures) (text-of told _ c.in-Err.refusal c.in-Err.ensures.refused),
+      c.tell.ensures,
+    )
 
 pub returns-in-Err-clause-too_large : goal.returns-in-Err-clause-too_large
 returns-in-Err-clause-too_large g c =
     if_some_map (g.I.Input.rest c.args.input.now)
-        (λ bytes (taken : _) more answers. taken more (of-bytes c.in-Err.refusal (subst IsAnswer c.status.ensures answers)))
-        c.in-Err.ensures.too_large
+    (λ bytes (taken : _) more answers. taken more (of-bytes c.in-Err.refusal (subst IsAnswer c.status.ensures answers)))
+    c.in-Err.ensures.too_large
 
 pub returns-in-Ok-write_whole-clause-error_line : goal.returns-in-Ok-write_whole-clause-error_line
 returns-in-Ok-write_whole-clause-error_line g c = ([], ErrorText.done, inl (appends-nothing (g.E.Sink.written c.args.err.now)))
@@ -48,8 +49,8 @@ returns-in-Ok-write_whole-clause-error_line g c = ([], ErrorText.done, inl (appe
 pub returns-clause-report : goal.returns-clause-report
 returns-clause-report g c =
     if_some_map (g.I.Input.rest c.args.input.now)
-        (λ bytes answers asked rose fails memory. absurd (fails c.in-Err-write_whole.ensures.failed))
-        c.in-Ok.ensures.done
+    (λ bytes answers asked rose fails memory. absurd (fails c.in-Err-write_whole.ensures.failed))
+    c.in-Ok.ensures.done
 
 pub returns-clause-error_line : goal.returns-clause-error_line
 returns-clause-error_line g c = (refusal_line refusals.WriteFault, ErrorText.write_fault, c.tell-in-Err-write_whole.ensures)
