@@ -6,6 +6,7 @@ ghost use Rattle.elf_maker.specs.Fields.{halves, words, xwords, padding, padded}
 use crate::memory::Memory;
 
 /// Appends fields of two bytes each (`Elf64_Half`).
+#[tactic(auto, unfolding(crate::specs::Fields::halves))]
 pub(crate) fn put_halves(file: &mut Vec<u8>, fields: &[u16]) -> Result<(), Memory>
     ensures { OnOk result (file.new.items ≡ file.old.items ++ halves fields.now) }
 {
@@ -16,6 +17,7 @@ pub(crate) fn put_halves(file: &mut Vec<u8>, fields: &[u16]) -> Result<(), Memor
 }
 
 /// Appends fields of four bytes each (`Elf64_Word`).
+#[tactic(auto, unfolding(crate::specs::Fields::words))]
 pub(crate) fn put_words(file: &mut Vec<u8>, fields: &[u32]) -> Result<(), Memory>
     ensures { OnOk result (file.new.items ≡ file.old.items ++ words fields.now) }
 {
@@ -26,6 +28,7 @@ pub(crate) fn put_words(file: &mut Vec<u8>, fields: &[u32]) -> Result<(), Memory
 }
 
 /// Appends fields of eight bytes each (`Elf64_Xword`, `Elf64_Addr` and `Elf64_Off`).
+#[tactic(auto, unfolding(crate::specs::Fields::xwords))]
 pub(crate) fn put_xwords(file: &mut Vec<u8>, fields: &[u64]) -> Result<(), Memory>
     ensures { OnOk result (file.new.items ≡ file.old.items ++ xwords fields.now) }
 {
@@ -43,6 +46,7 @@ fn padding(len: usize) -> usize
 }
 
 /// The number of bytes with the zero bytes that are missing to a multiple of eight.
+#[tactic(auto, unfolding(crate::specs::Fields::padded))]
 pub(crate) fn padded_len(bytes: &[u8]) -> u64
     ensures { result ≡ length (padded bytes.now) }
 {
@@ -50,6 +54,7 @@ pub(crate) fn padded_len(bytes: &[u8]) -> u64
 }
 
 /// Appends bytes, and zero bytes up to a multiple of eight of them.
+#[tactic(auto, unfolding(crate::specs::Fields::padded))]
 pub(crate) fn put_padded(file: &mut Vec<u8>, bytes: &[u8]) -> Result<(), Memory>
     ensures { OnOk result (file.new.items ≡ file.old.items ++ padded bytes.now) }
 {

@@ -64,6 +64,7 @@ pub(crate) struct Layout {
 }
 
 /// Where the parts stand whose symbol table and string table are these.
+#[tactic(auto, unfolding(crate::specs::Sections::rodata_place, crate::specs::Sections::symbols_place, crate::specs::Sections::strings_place, crate::specs::Sections::headers_place))]
 pub(crate) fn layout_of(parts: &Parts, symbols: &[u8], strings: &[u8]) -> Layout
     requires symbols { symbols.now ≡ symbol_table parts.now.symbols }
     requires strings { strings.now ≡ string_table parts.now.symbols }
@@ -147,6 +148,7 @@ fn strings_header(parts: &Parts, layout: &Layout) -> SectionHeader
 }
 
 /// The number of sections.
+#[tactic(auto, unfolding(crate::specs::Sections::section_headers, crate::specs::Sections::symbol_headers))]
 pub(crate) fn section_count(parts: &Parts) -> u16
     ensures { result ≡ length (section_headers parts.now) }
 {
@@ -158,6 +160,7 @@ pub(crate) fn section_count(parts: &Parts) -> u16
 }
 
 /// Appends a section header.
+#[tactic(auto, using(std::proofs::lemmas::List::append_assoc), unfolding(crate::specs::Sections::section_bytes))]
 fn put_section(file: &mut Vec<u8>, section: &SectionHeader) -> Result<(), Memory>
     ensures { OnOk result (file.new.items ≡ file.old.items ++ section_bytes section.now) }
 {
@@ -171,6 +174,7 @@ fn put_section(file: &mut Vec<u8>, section: &SectionHeader) -> Result<(), Memory
 }
 
 /// Appends the headers of the symbol table and the string table, where there is a symbol.
+#[tactic(auto, using(std::proofs::lemmas::List::append_assoc), unfolding(crate::specs::Sections::symbol_headers))]
 fn put_symbol_sections(file: &mut Vec<u8>, parts: &Parts, layout: &Layout) -> Result<(), Memory>
     requires { layout.now ≡ layout_of parts.now }
     ensures { OnOk result (file.new.items ≡ file.old.items ++ flat_map section_bytes (symbol_headers parts.now)) }
@@ -183,6 +187,7 @@ fn put_symbol_sections(file: &mut Vec<u8>, parts: &Parts, layout: &Layout) -> Re
 }
 
 /// Appends the section header table.
+#[tactic(auto, using(std::proofs::lemmas::List::append_assoc), unfolding(crate::specs::Sections::section_table, crate::specs::Sections::section_headers))]
 pub(crate) fn put_section_table(
     file: &mut Vec<u8>,
     parts: &Parts,

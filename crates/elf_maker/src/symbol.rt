@@ -16,6 +16,7 @@ const GLOBAL_FUNCTION: u8 = 0x12;
 const CODE_SECTION: u16 = 1;
 
 /// Appends the symbol of a function at an address, whose name begins at the offset `name` of the string table.
+#[tactic(auto, using(std::proofs::lemmas::List::append_assoc), unfolding(crate::specs::Symbols::symbol_entry))]
 fn put_symbol(table: &mut Vec<u8>, name: u32, address: u64) -> Result<(), Memory>
     ensures { OnOk result (table.new.items ≡ table.old.items ++ symbol_entry name address) }
 {
@@ -26,6 +27,7 @@ fn put_symbol(table: &mut Vec<u8>, name: u32, address: u64) -> Result<(), Memory
 }
 
 /// Appends symbols, whose names stand in the string table from offset 1 on.
+#[tactic(auto, unfolding(crate::specs::Symbols::symbol_entries))]
 fn put_symbols(table: &mut Vec<u8>, symbols: &[MadeSymbol]) -> Result<(), Memory>
     requires { length (flat_map terminated_name symbols.now) + 1 < 2 ^ 32 }
     ensures { OnOk result (table.new.items ≡ table.old.items ++ symbol_entries 1 symbols.now) }
@@ -50,6 +52,7 @@ fn put_names(table: &mut Vec<u8>, symbols: &[MadeSymbol]) -> Result<(), Memory>
 }
 
 /// The symbol table, empty where there is no symbol.
+#[tactic(auto, unfolding(crate::specs::Symbols::symbol_table, crate::specs::Symbols::string_table))]
 pub(crate) fn symbol_table(alloc: Global, symbols: &[MadeSymbol]) -> Result<Vec<u8>, Memory>
     requires { length (string_table symbols.now) < 2 ^ 32 }
     ensures { IfOk result (λ table. table.items ≡ symbol_table symbols.now) }
@@ -64,6 +67,7 @@ pub(crate) fn symbol_table(alloc: Global, symbols: &[MadeSymbol]) -> Result<Vec<
 }
 
 /// The string table, empty where there is no symbol.
+#[tactic(auto, unfolding(crate::specs::Symbols::string_table))]
 pub(crate) fn string_table(alloc: Global, symbols: &[MadeSymbol]) -> Result<Vec<u8>, Memory>
     ensures { IfOk result (λ table. table.items ≡ string_table symbols.now) }
 {
