@@ -1,6 +1,6 @@
 //! Fields of a file at its end: little-endian numbers (System V ABI, "Data Encoding"), and bytes that are padded.
 
-ghost use Rattle.std.specs.Prelude.{◌≡◌, ◌++◌, length, OnOk};
+ghost use Rattle.std.specs.Prelude.{◌≡◌, ◌++◌, ◌≤◌, length, replicate, OnOk};
 ghost use Rattle.elf_maker.specs.Fields.{halves, words, xwords, padding, padded};
 
 use crate::memory::Memory;
@@ -53,13 +53,21 @@ pub(crate) fn padded_len(bytes: &[u8]) -> u64
     (bytes.len() + padding(bytes.len())) as u64
 }
 
+/// Appends up to eight zero bytes.
+fn put_zeros(file: &mut Vec<u8>, count: usize) -> Result<(), Memory>
+    requires { count ≤ 8 }
+    ensures { OnOk result (file.new.items ≡ file.old.items ++ replicate count 0) }
+{
+    let zeros = [0; 8];
+    file.extend_from_slice(&zeros[..count])?;
+    Ok(())
+}
+
 /// Appends bytes, and zero bytes up to a multiple of eight of them.
-#[tactic(auto, unfolding(crate::specs::Fields::padded))]
+#[tactic(auto, using(std::proofs::lemmas::List::append_assoc), unfolding(crate::specs::Fields::padded))]
 pub(crate) fn put_padded(file: &mut Vec<u8>, bytes: &[u8]) -> Result<(), Memory>
     ensures { OnOk result (file.new.items ≡ file.old.items ++ padded bytes.now) }
 {
     file.extend_from_slice(bytes)?;
-    let zeros = [0; 8];
-    file.extend_from_slice(&zeros[..padding(bytes.len())])?;
-    Ok(())
+    put_zeros(file, padding(bytes.len()))
 }

@@ -18,6 +18,7 @@ use std::alloc::Global;
 /// multiple of eight.
 ///
 /// The only error is that memory ran out.
+#[tactic(auto, unfolding(crate::specs::MadeFile::made_file))]
 pub fn make_elf(alloc: Global, parts: &Parts) -> Result<Vec<u8>, Memory>
     requires some_code { 0 < length parts.now.code }
     requires even_length { length parts.now.code % 2 ≡ 0 }
