@@ -10,6 +10,7 @@ use Rattle.elf_image.specs.Sections.{section_header, section, sections}
 use Rattle.elf_maker.specs.declared.section.SectionHeader.{SectionHeader}
 use Rattle.elf_maker.specs.Fields.{halves, words, xwords}
 use Rattle.elf_maker.specs.Sections.{section_bytes, null_header}
+use Rattle.elf_maker.proofs.Sizes.{length-section_bytes}
 use Rattle.elf_maker.proofs.Places.{half-field, word-field, xword-field, drop-next}
 
 -- the fields of a section header that are read
@@ -27,10 +28,6 @@ pub record IsFitHeader (s : SectionHeader) : Type 0 where
   pub size : s.size < 2 ^ 64
   pub link : s.link < 2 ^ 32
   pub entry_size : s.entry_size < 2 ^ 64
-
-pub length-section_bytes : (s : SectionHeader) → length (section_bytes s) ≡ 64
-unfolding section_bytes words xwords
-length-section_bytes s = refl
 
 abbrev section_of : (k f a o z l e : ℕ) → Section
 section_of k f a o z l e = record { kind = k; flags = f; address = a; offset = o; size = z; link = l; entry_size = e }

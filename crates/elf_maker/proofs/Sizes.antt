@@ -1,17 +1,42 @@
--- The size of a made file, and where its parts stand.
-use Rattle.std.proofs.Common.{◌≡◌, ℕ, ◌+◌, ◌≤◌, List, ◌++◌, length, replicate, refl, arith}
+-- The size of a made file, and that its parts lie in it.
+use Rattle.std.proofs.Common.{◌≡◌, ℕ, zero, suc, ◌+◌, ◌*◌, ◌≤◌, List, [], ◌∷◌, ◌++◌, length, replicate, refl, sym, ap, ◌∙◌, arith, true, false, cond, inl, inr}
+use Rattle.std.specs.List.{flat_map}
+use Rattle.std.proofs.lemmas.Bool.{cases_Bool}
 use Rattle.std.proofs.lemmas.List.{length-append}
 use Rattle.elf_maker.specs.declared.parts.Parts.{Parts}
+use Rattle.elf_maker.specs.declared.parts.MadeSymbol.{MadeSymbol}
+use Rattle.elf_maker.specs.declared.section.SectionHeader.{SectionHeader}
 use Rattle.elf_maker.specs.Fields.{halves, words, xwords, padded}
 use Rattle.elf_maker.specs.Header.{file_header}
-use Rattle.elf_maker.specs.Symbols.{symbol_table, string_table}
-use Rattle.elf_maker.specs.Sections.{rodata_place, symbols_place, strings_place, headers_place, section_headers, section_table}
+use Rattle.elf_maker.specs.Symbols.{symbol_entry, symbol_entries, symbol_table, string_table, terminated_name, has_symbols}
+use Rattle.elf_maker.specs.Sections.{section_bytes, rodata_place, symbols_place, strings_place, headers_place, section_headers, symbol_headers, section_table}
 use Rattle.elf_maker.specs.MadeFile.{made_file}
 
--- the ELF header has 64 bytes
+-- the ELF header has 64 bytes, and so has each section header
 pub length-file_header : (entry table count : ℕ) → length (file_header entry table count) ≡ 64
 unfolding file_header halves words xwords
 length-file_header entry table count = refl
+
+pub length-section_bytes : (s : SectionHeader) → length (section_bytes s) ≡ 64
+unfolding section_bytes words xwords
+length-section_bytes s = refl
+
+length-headers : (hs : List SectionHeader) → length (flat_map section_bytes hs) ≡ 64 * length hs
+length-headers [] = refl
+length-headers (s ∷ ss) =
+    length-append (section_bytes s) (flat_map section_bytes ss) ∙ omega (arith, length-section_bytes s, length-headers ss)
+
+-- a symbol has 24 bytes
+pub length-symbol_entry : (name address : ℕ) → length (symbol_entry name address) ≡ 24
+unfolding symbol_entry halves words xwords
+length-symbol_entry name address = refl
+
+pub length-symbol_entries : (name : ℕ) (symbols : List MadeSymbol) → length (symbol_entries name symbols) ≡ 24 * length symbols
+unfolding symbol_entries
+length-symbol_entries name [] = refl
+length-symbol_entries name (s ∷ ss) =
+    length-append (symbol_entry name s.address) (symbol_entries (name + length (terminated_name s)) ss)
+    ∙ omega (arith, length-symbol_entry name s.address, length-symbol_entries (name + length (terminated_name s)) ss)
 
 -- padding takes no byte away
 pub length-padded : (bytes : List ℕ) → length bytes ≤ length (padded bytes)
@@ -25,9 +50,45 @@ module _ (parts : Parts) where
   length-made_file =
       simp (length-append, length-file_header) refl
 
+  pub length-section_table : length (section_table parts) ≡ 64 * length (section_headers parts)
+  unfolding section_table
+  length-section_table = length-headers (section_headers parts)
+
   pub headers_within : headers_place parts ≤ length (made_file parts)
   headers_within = omega (arith, length-made_file)
 
   pub strings_within : length (string_table parts.symbols) ≤ length (made_file parts)
   unfolding headers_place
   strings_within = omega (arith, length-made_file, length-padded (string_table parts.symbols))
+
+  -- each part ends in the file
+  pub code_ends : 64 + length parts.code ≤ length (made_file parts)
+  unfolding headers_place strings_place symbols_place rodata_place
+  code_ends = omega (arith, length-made_file, length-padded parts.code)
+
+  pub rodata_ends : rodata_place parts + length parts.rodata ≤ length (made_file parts)
+  unfolding headers_place strings_place symbols_place
+  rodata_ends = omega (arith, length-made_file, length-padded parts.rodata)
+
+  pub symbols_end : symbols_place parts + length (symbol_table parts.symbols) ≤ length (made_file parts)
+  unfolding headers_place strings_place
+  symbols_end = omega (arith, length-made_file)
+
+  pub strings_end : strings_place parts + length (string_table parts.symbols) ≤ length (made_file parts)
+  unfolding headers_place
+  strings_end = omega (arith, length-made_file, length-padded (string_table parts.symbols))
+
+  -- there are three sections, or five
+  pub three_sections : has_symbols parts.symbols ≡ false → length (section_headers parts) ≡ 3
+  unfolding section_headers symbol_headers
+  three_sections none = rw none refl
+
+  pub five_sections : has_symbols parts.symbols ≡ true → length (section_headers parts) ≡ 5
+  unfolding section_headers symbol_headers
+  five_sections some = rw some refl
+
+  pub few_sections : (3 ≤ length (section_headers parts)) × (length (section_headers parts) ≤ 5)
+  few_sections = elim (cases_Bool (has_symbols parts.symbols)) [
+    | inl some ↦ let e = five_sections some in (omega arith, omega arith)
+    | inr none ↦ let e = three_sections none in (omega arith, omega arith)
+  ]

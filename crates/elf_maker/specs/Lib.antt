@@ -5,3 +5,5 @@ pub mod Sections
 pub mod Layout
 pub mod MadeFile
 pub mod Fit
+pub mod Given
+pub mod MadeOf
