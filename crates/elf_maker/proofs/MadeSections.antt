@@ -1,10 +1,10 @@
 -- The sections of a made file.
-use Rattle.std.proofs.Common.{◌≡◌, ℕ, zero, suc, ◌+◌, ◌-◌, ◌<◌, ◌≤◌, ◌^◌, ◌%◌, Bool, true, false, cond, ◌||◌, List, [], ◌∷◌, ◌++◌, map, length, Option, Some, None, refl, ap, sym, ◌∙◌, arith, inl, inr}
+use Rattle.std.proofs.Common.{◌≡◌, ℕ, zero, suc, ◌+◌, ◌-◌, ◌*◌, ◌<◌, ◌≤◌, ◌^◌, ◌%◌, Bool, true, false, cond, ◌||◌, List, [], ◌∷◌, ◌++◌, map, length, get_or, Option, Some, None, refl, ap, sym, ◌∙◌, arith, inl, inr}
 use Rattle.std.specs.List.{find, filter, list_any, All}
 use Rattle.std.proofs.lemmas.Bool.{cases_Bool}
 use Rattle.elf_image.specs.declared.section.Section.{Section}
 use Rattle.elf_image.specs.Header as header
-use Rattle.elf_image.specs.Sections.{sections}
+use Rattle.elf_image.specs.Sections.{section_header, section, sections}
 use Rattle.elf_maker.specs.declared.parts.Parts.{Parts}
 use Rattle.elf_maker.specs.declared.section.SectionHeader.{SectionHeader}
 use Rattle.elf_maker.specs.Symbols.{has_symbols, symbol_table, string_table}
@@ -14,7 +14,7 @@ use Rattle.elf_maker.proofs.Sizes.{few_sections, length-made_file, headers_withi
 use Rattle.elf_maker.proofs.Places.{header_of, behind_header, made_file-is, at_headers}
 use Rattle.elf_maker.proofs.Fitting.{AreFit}
 use Rattle.elf_maker.proofs.ReadHeader as read
-use Rattle.elf_maker.proofs.ReadSections.{as_read, IsFitHeader, sections-are}
+use Rattle.elf_maker.proofs.ReadSections.{as_read, IsFitHeader, sections-are, table-at}
 
 all-none : {X : Type 0} (P : X → Type 0) → All P []
 all-none P k d within = absurd (omega arith)
@@ -24,9 +24,6 @@ all-more P x xs here later zero d within = here
 all-more P x xs here later (suc k) d within = later k d (omega arith)
 
 module _ (parts : Parts) (fit : AreFit parts) where
-  file : List ℕ
-  file = made_file parts
-
   -- the numbers of the section headers fit
   symbol_headers-fit : All IsFitHeader (symbol_headers parts)
   unfolding symbol_headers
@@ -98,6 +95,12 @@ module _ (parts : Parts) (fit : AreFit parts) where
   unfolding section_headers section_table
   sections_made =
       sections-are (made_file parts) (headers_place parts) (section_headers parts) headers-fit (at_headers parts) table_made count_made
+
+  pub section_made : (i : ℕ) → i < length (section_headers parts) → section (made_file parts) i ≡ as_read (get_or (section_headers parts) i null_header)
+  unfolding section section_table
+  section_made i within =
+      ap (λ at. section_header (made_file parts) (at + 64 * i)) table_made
+      ∙ table-at (made_file parts) (headers_place parts) (section_headers parts) headers-fit (at_headers parts) i within
 
 -- a test that fails on the symbol table and the string table
 module _ (parts : Parts) (p : Section → Bool) (symbols : p (as_read (symbols_header parts)) ≡ false) (strings : p (as_read (strings_header parts)) ≡ false) where

@@ -51,7 +51,7 @@ section_header-is bytes rest at s fits stands =
     (xword-field 56 at s.entry_size bytes (section_bytes s ++ rest) stands (little_number-reads_back 8 s.entry_size [] (omega (arith, fits.entry_size))))
 
 -- so are the headers of a table
-table-at : (bytes : List ℕ) (at : ℕ) (hs : List SectionHeader) → All IsFitHeader hs → drop at bytes ≡ flat_map section_bytes hs → (i : ℕ) → i < length hs → section_header bytes (at + 64 * i) ≡ as_read (get_or hs i null_header)
+pub table-at : (bytes : List ℕ) (at : ℕ) (hs : List SectionHeader) → All IsFitHeader hs → drop at bytes ≡ flat_map section_bytes hs → (i : ℕ) → i < length hs → section_header bytes (at + 64 * i) ≡ as_read (get_or hs i null_header)
 table-at bytes at [] fits stands i within = absurd (omega arith)
 table-at bytes at (s ∷ ss) fits stands zero within =
     let e : at + 64 * 0 ≡ at = omega arith in
