@@ -3,6 +3,7 @@
 ghost use Rattle.std.specs.Prelude.{◌≡◌, ◌+◌, ◌-◌, ◌^◌, ◌%◌, ◌<◌, ◌≤◌, length, IsTrue, IfOk};
 ghost use Rattle.elf_maker.specs.Fit.{AreDisjoint, have_whole_names};
 ghost use Rattle.elf_maker.specs.MadeFile.{made_file};
+ghost use Rattle.elf_maker.specs.MadeOf.{IsMadeOf};
 
 use crate::fields::put_padded;
 use crate::header::put_file_header;
@@ -31,7 +32,8 @@ pub fn make_elf(alloc: Global, parts: &Parts) -> Result<Vec<u8>, Memory>
     requires rodata_end { parts.now.rodata_at + length parts.now.rodata ≤ 2 ^ 64 - 1 }
     requires names { IsTrue (have_whole_names parts.now.symbols) }
     requires small { length (made_file parts.now) ≤ 67108864 }
-    ensures { IfOk result (λ file. file.items ≡ made_file parts.now) }
+    ensures bytes { IfOk result (λ file. file.items ≡ made_file parts.now) }
+    ensures made { IfOk result (λ file. IsMadeOf parts.now file.items) }
 {
     let symbols = symbol_table(alloc, parts.symbols.as_slice())?;
     let strings = string_table(alloc, parts.symbols.as_slice())?;

@@ -1,7 +1,7 @@
 //! The symbol table and the string table.
 
 ghost use Rattle.std.specs.Prelude.{◌≡◌, ◌+◌, ◌^◌, ◌<◌, ◌++◌, length, OnOk, IfOk};
-ghost use Rattle.std.specs.List.{flat_map};
+ghost use Rattle.std.specs.List.{flat_map, All};
 ghost use Rattle.elf_maker.specs.Symbols.{symbol_entry, symbol_entries, terminated_name, symbol_table, string_table};
 
 use crate::fields::{put_halves, put_words, put_xwords};
@@ -30,7 +30,8 @@ fn put_symbol(table: &mut Vec<u8>, name: u32, address: u64) -> Result<(), Memory
 #[tactic(auto, unfolding(crate::specs::Symbols::symbol_entries))]
 fn put_symbols(table: &mut Vec<u8>, symbols: &[MadeSymbol]) -> Result<(), Memory>
     requires { length (flat_map terminated_name symbols.now) + 1 < 2 ^ 32 }
-    ensures { OnOk result (table.new.items ≡ table.old.items ++ symbol_entries 1 symbols.now) }
+    ensures entries { OnOk result (table.new.items ≡ table.old.items ++ symbol_entries 1 symbols.now) }
+    ensures addresses { OnOk result (All (λ s. s.address < 2 ^ 64) symbols.now) }
 {
     let mut name = 1;
     for symbol in symbols {
@@ -55,7 +56,8 @@ fn put_names(table: &mut Vec<u8>, symbols: &[MadeSymbol]) -> Result<(), Memory>
 #[tactic(auto, unfolding(crate::specs::Symbols::symbol_table, crate::specs::Symbols::string_table))]
 pub(crate) fn symbol_table(alloc: Global, symbols: &[MadeSymbol]) -> Result<Vec<u8>, Memory>
     requires { length (string_table symbols.now) < 2 ^ 32 }
-    ensures { IfOk result (λ table. table.items ≡ symbol_table symbols.now) }
+    ensures entries { IfOk result (λ table. table.items ≡ symbol_table symbols.now) }
+    ensures addresses { OnOk result (All (λ s. s.address < 2 ^ 64) symbols.now) }
 {
     let mut table = Vec::new(alloc);
     if symbols.is_empty() {
