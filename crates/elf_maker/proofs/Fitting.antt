@@ -1,5 +1,5 @@
 -- The conditions of `make_elf`, and the bounds that follow.
-use Rattle.std.proofs.Common.{◌≡◌, ℕ, ◌+◌, ◌-◌, ◌<◌, ◌≤◌, ◌^◌, ◌%◌, true, length, arith, lit<}
+use Rattle.std.proofs.Common.{◌≡◌, ◌+◌, ◌-◌, ◌<◌, ◌≤◌, ◌^◌, ◌%◌, true, length}
 use Rattle.std.specs.List.{All}
 use Rattle.elf_maker.specs.declared.parts.Parts.{Parts}
 use Rattle.elf_maker.specs.Fit.{AreDisjoint, have_whole_names}

@@ -1,5 +1,5 @@
 -- The made file is what its readers are promised.
-use Rattle.std.proofs.Common.{◌≡◌, ℕ, List, None, false, refl}
+use Rattle.std.proofs.Common.{◌≡◌, None, refl}
 use Rattle.elf_image.specs.Faults.{has_fault, first_among, first_fault}
 use Rattle.elf_maker.specs.declared.parts.Parts.{Parts}
 use Rattle.elf_maker.specs.MadeFile.{made_file}
@@ -15,12 +15,26 @@ module _ (parts : Parts) (fit : AreFit parts) where
   unfolding has_fault first_among first_fault
   no_fault =
       rw (
-        fault.not_too_large parts fit, fault.not_short parts fit, fault.right_magic parts fit, fault.right_class parts fit,
-        fault.right_data parts fit, fault.right_version parts fit, fault.right_machine parts fit, fault.right_type parts fit,
-        fault.right_header_size parts fit, fault.no_bad_program_table parts fit, fault.no_interpreter parts fit,
-        fault.some_sections parts fit, fault.right_section_table parts fit, fault.sections_in_file parts fit,
-        fault.no_section_wraps parts fit, fault.no_odd_code parts fit, fault.no_code_overlap parts fit,
-        fault.entry_is_code parts fit, right_symbol_table parts fit, right_symbol_names parts fit
+        fault.not_too_large parts fit,
+        fault.not_short parts fit,
+        fault.right_magic parts fit,
+        fault.right_class parts fit,
+        fault.right_data parts fit,
+        fault.right_version parts fit,
+        fault.right_machine parts fit,
+        fault.right_type parts fit,
+        fault.right_header_size parts fit,
+        fault.no_bad_program_table parts fit,
+        fault.no_interpreter parts fit,
+        fault.some_sections parts fit,
+        fault.right_section_table parts fit,
+        fault.sections_in_file parts fit,
+        fault.no_section_wraps parts fit,
+        fault.no_odd_code parts fit,
+        fault.no_code_overlap parts fit,
+        fault.entry_is_code parts fit,
+        right_symbol_table parts fit,
+        right_symbol_names parts fit,
       ) refl
 
   pub made-is_made_of : IsMadeOf parts (made_file parts)

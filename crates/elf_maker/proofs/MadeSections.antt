@@ -1,17 +1,16 @@
 -- The sections of a made file.
-use Rattle.std.proofs.Common.{◌≡◌, ℕ, zero, suc, ◌+◌, ◌-◌, ◌*◌, ◌<◌, ◌≤◌, ◌^◌, ◌%◌, Bool, true, false, cond, ◌||◌, List, [], ◌∷◌, ◌++◌, map, length, get_or, Option, Some, None, refl, ap, sym, ◌∙◌, arith, inl, inr}
+use Rattle.std.proofs.Common.{◌≡◌, ℕ, zero, suc, ◌+◌, ◌*◌, ◌<◌, Bool, false, List, [], ◌∷◌, map, length, get_or, None, refl, ap, ◌∙◌, arith, inl, inr}
 use Rattle.std.specs.List.{find, filter, list_any, All}
 use Rattle.std.proofs.lemmas.Bool.{cases_Bool}
 use Rattle.elf_image.specs.declared.section.Section.{Section}
 use Rattle.elf_image.specs.Header as header
 use Rattle.elf_image.specs.Sections.{section_header, section, sections}
 use Rattle.elf_maker.specs.declared.parts.Parts.{Parts}
-use Rattle.elf_maker.specs.declared.section.SectionHeader.{SectionHeader}
-use Rattle.elf_maker.specs.Symbols.{has_symbols, symbol_table, string_table}
+use Rattle.elf_maker.specs.Symbols.{has_symbols}
 use Rattle.elf_maker.specs.Sections.{null_header, code_header, rodata_header, symbols_header, strings_header, symbol_headers, section_headers, section_table, headers_place}
 use Rattle.elf_maker.specs.MadeFile.{made_file}
-use Rattle.elf_maker.proofs.Sizes.{few_sections, length-made_file, headers_within, code_ends, rodata_ends, symbols_end, strings_end}
-use Rattle.elf_maker.proofs.Places.{header_of, behind_header, made_file-is, at_headers}
+use Rattle.elf_maker.proofs.Sizes.{few_sections, headers_within, code_ends, rodata_ends, symbols_end, strings_end}
+use Rattle.elf_maker.proofs.Places.{behind_header, made_file-is, at_headers}
 use Rattle.elf_maker.proofs.Fitting.{AreFit}
 use Rattle.elf_maker.proofs.ReadHeader as read
 use Rattle.elf_maker.proofs.ReadSections.{as_read, IsFitHeader, sections-are, table-at}
@@ -29,22 +28,31 @@ module _ (parts : Parts) (fit : AreFit parts) where
   unfolding symbol_headers
   symbol_headers-fit = elim (cases_Bool (has_symbols parts.symbols)) [
     | inl some ↦ rw some
-      (all-more IsFitHeader (symbols_header parts) (strings_header parts ∷ []) symbols
-      (all-more IsFitHeader (strings_header parts) [] strings (all-none IsFitHeader)))
+        (all-more IsFitHeader (symbols_header parts) (strings_header parts ∷ []) symbols
+        (all-more IsFitHeader (strings_header parts) [] strings (all-none IsFitHeader)))
     | inr none ↦ rw none (all-none IsFitHeader)
   ]
     where
       symbols : IsFitHeader (symbols_header parts)
       symbols = record {
-        kind = omega arith; flags = omega arith; address = omega arith;
-        offset = omega (arith, symbols_end parts, fit.small); size = omega (arith, symbols_end parts, fit.small);
-        link = omega arith; entry_size = omega arith
+        kind = omega arith;
+        flags = omega arith;
+        address = omega arith;
+        offset = omega (arith, symbols_end parts, fit.small);
+        size = omega (arith, symbols_end parts, fit.small);
+        link = omega arith;
+        entry_size = omega arith;
       }
+
       strings : IsFitHeader (strings_header parts)
       strings = record {
-        kind = omega arith; flags = omega arith; address = omega arith;
-        offset = omega (arith, strings_end parts, fit.small); size = omega (arith, strings_end parts, fit.small);
-        link = omega arith; entry_size = omega arith
+        kind = omega arith;
+        flags = omega arith;
+        address = omega arith;
+        offset = omega (arith, strings_end parts, fit.small);
+        size = omega (arith, strings_end parts, fit.small);
+        link = omega arith;
+        entry_size = omega arith;
       }
 
   headers-fit : All IsFitHeader (section_headers parts)
@@ -56,19 +64,35 @@ module _ (parts : Parts) (fit : AreFit parts) where
     where
       null : IsFitHeader null_header
       null = record {
-        kind = omega arith; flags = omega arith; address = omega arith; offset = omega arith; size = omega arith;
-        link = omega arith; entry_size = omega arith
+        kind = omega arith;
+        flags = omega arith;
+        address = omega arith;
+        offset = omega arith;
+        size = omega arith;
+        link = omega arith;
+        entry_size = omega arith;
       }
+
       code : IsFitHeader (code_header parts)
       code = record {
-        kind = omega arith; flags = omega arith; address = omega (arith, fit.code_end); offset = omega arith;
-        size = omega (arith, code_ends parts, fit.small); link = omega arith; entry_size = omega arith
+        kind = omega arith;
+        flags = omega arith;
+        address = omega (arith, fit.code_end);
+        offset = omega arith;
+        size = omega (arith, code_ends parts, fit.small);
+        link = omega arith;
+        entry_size = omega arith;
       }
+
       rodata : IsFitHeader (rodata_header parts)
       rodata = record {
-        kind = omega arith; flags = omega arith; address = omega (arith, fit.rodata_end);
-        offset = omega (arith, rodata_ends parts, fit.small); size = omega (arith, rodata_ends parts, fit.small);
-        link = omega arith; entry_size = omega arith
+        kind = omega arith;
+        flags = omega arith;
+        address = omega (arith, fit.rodata_end);
+        offset = omega (arith, rodata_ends parts, fit.small);
+        size = omega (arith, rodata_ends parts, fit.small);
+        link = omega arith;
+        entry_size = omega arith;
       }
 
   -- what the header says

@@ -1,18 +1,17 @@
 -- A made file has no fault of its header and sections.
-use Rattle.std.proofs.Common.{◌≡◌, ℕ, zero, suc, ◌+◌, ◌-◌, ◌*◌, ◌<◌, ◌≤◌, ◌^◌, ◌%◌, Bool, true, false, cond, ◌||◌, ◌&&◌, not, List, [], ◌∷◌, ◌++◌, map, length, drop, refl, ap, sym, ◌∙◌, arith, inl, inr, leb, eqb, ltb}
-use Rattle.std.proofs.lemmas.Bool.{cases_Bool, le-ltb, eq-eqb, ne_eqb, and_from}
-use Rattle.elf_image.specs.declared.section.Section.{Section}
+use Rattle.std.proofs.Common.{◌≡◌, ℕ, ◌+◌, ◌-◌, ◌*◌, ◌<◌, ◌≤◌, ◌^◌, ◌%◌, true, false, List, length, refl, arith}
+use Rattle.std.proofs.lemmas.Bool.{le-ltb, eq-eqb, ne_eqb, and_from}
 use Rattle.elf_image.specs.Header as header
 use Rattle.elf_image.specs.Header.{program_header_types}
-use Rattle.elf_image.specs.Sections.{sections, is_code_section}
-use Rattle.elf_image.specs.Code.{is_even, is_code}
+use Rattle.elf_image.specs.Sections.{is_code_section}
+use Rattle.elf_image.specs.Code.{is_even}
 use Rattle.elf_image.specs.FaultTests.{is_too_large, is_short, has_wrong_magic, has_wrong_class, has_wrong_data, has_wrong_version, has_wrong_machine, has_wrong_type, has_wrong_header_size, has_bad_program_table, has_interpreter, has_no_sections, has_bad_section_table, is_out_of_file, has_section_out_of_file, is_wrapping, has_wrapping_section, is_odd_code, has_odd_code, has_code_overlap, has_entry_outside_code}
 use Rattle.elf_maker.specs.declared.parts.Parts.{Parts}
-use Rattle.elf_maker.specs.Symbols.{has_symbols, symbol_table, string_table}
-use Rattle.elf_maker.specs.Sections.{null_header, code_header, rodata_header, symbols_header, strings_header, symbol_headers, section_headers, headers_place, rodata_place, symbols_place, strings_place}
+use Rattle.elf_maker.specs.Symbols.{symbol_table, string_table}
+use Rattle.elf_maker.specs.Sections.{section_headers, headers_place, rodata_place, symbols_place, strings_place}
 use Rattle.elf_maker.specs.MadeFile.{made_file}
 use Rattle.elf_maker.specs.Given.{is_code_given, is_in_code}
-use Rattle.elf_maker.proofs.Sizes.{few_sections, length-made_file, length-section_table, headers_within, code_ends, rodata_ends, symbols_end, strings_end}
+use Rattle.elf_maker.proofs.Sizes.{few_sections, length-made_file, length-section_table, code_ends, rodata_ends, symbols_end, strings_end}
 use Rattle.elf_maker.proofs.Places.{behind_header, made_file-is}
 use Rattle.elf_maker.proofs.Fitting.{AreFit}
 use Rattle.elf_maker.proofs.ReadHeader as read

@@ -1,8 +1,8 @@
 -- Where the parts of a made file stand, and the numbers that are read there.
-use Rattle.std.proofs.Common.{◌≡◌, ℕ, ◌+◌, ◌-◌, ◌<◌, ◌≤◌, ◌^◌, List, ◌++◌, length, take, drop, replicate, refl, sym, ap, ◌∙◌, arith}
-use Rattle.std.proofs.lemmas.List.{append_assoc, drop_at, drop-drop, drop-append-le, length-append, length-drop}
+use Rattle.std.proofs.Common.{◌≡◌, ℕ, ◌+◌, ◌≤◌, List, ◌++◌, length, drop, replicate, refl, sym, ap, ◌∙◌, arith}
+use Rattle.std.proofs.lemmas.List.{append_assoc, drop_at, drop-drop, drop-append-le, length-drop}
 use Rattle.byteorder.specs.Endian.{little_number}
-use Rattle.byteorder.specs.Numbers.{little_from-append, little_number-reads_back}
+use Rattle.byteorder.specs.Numbers.{little_from-append}
 use Rattle.elf_image.specs.Number.{u16_at, u32_at, u64_at}
 use Rattle.elf_maker.specs.declared.parts.Parts.{Parts}
 use Rattle.elf_maker.specs.Fields.{padded, padding}

@@ -1,13 +1,10 @@
 -- What is read of the ELF header of a made file.
-use Rattle.std.proofs.Common.{◌≡◌, ℕ, ◌+◌, ◌-◌, ◌<◌, ◌≤◌, ◌^◌, List, [], ◌++◌, length, drop, get_or, refl, ap, sym, ◌∙◌, arith, lit<, subst}
+use Rattle.std.proofs.Common.{◌≡◌, ℕ, ◌<◌, ◌^◌, List, [], ◌++◌, get_or, refl, arith}
 use Rattle.byteorder.specs.Numbers.{little_number-reads_back}
 use Rattle.elf_image.specs.Header as header
-use Rattle.elf_maker.specs.declared.parts.Parts.{Parts}
 use Rattle.elf_maker.specs.Fields.{halves, words, xwords}
 use Rattle.elf_maker.specs.Header.{file_header}
-use Rattle.elf_maker.specs.Sections.{headers_place, section_headers}
-use Rattle.elf_maker.specs.MadeFile.{made_file}
-use Rattle.elf_maker.proofs.Places.{half-field, word-field, xword-field, header_of, behind_header, made_file-is}
+use Rattle.elf_maker.proofs.Places.{half-field, word-field, xword-field}
 
 module _ (bytes rest : List ℕ) (entry table count : ℕ) (stands : bytes ≡ file_header entry table count ++ rest) where
   here : List ℕ

@@ -1,16 +1,13 @@
 -- The code and the read-only data of a made file, as they are read.
-use Rattle.std.proofs.Common.{◌≡◌, ℕ, zero, suc, ◌+◌, ◌-◌, ◌<◌, ◌≤◌, ◌^◌, ◌%◌, Bool, true, false, cond, ◌||◌, ◌&&◌, List, [], ◌∷◌, ◌++◌, map, length, drop, Option, Some, None, is_some, refl, ap, sym, ◌∙◌, arith, inl, inr, leb, eqb, replicate}
-use Rattle.std.specs.List.{find, list_any}
-use Rattle.std.specs.Option.{option_map, option_and_then}
+use Rattle.std.proofs.Common.{◌≡◌, ℕ, ◌+◌, ◌-◌, ◌≤◌, Bool, true, false, cond, ◌||◌, ◌&&◌, ◌++◌, length, Some, None, refl, ap, sym, ◌∙◌, arith, inl, inr, leb, replicate}
 use Rattle.std.proofs.lemmas.Bool.{cases_Bool, and_parts, leb-true, le-leb, and_from, both_ways}
 use Rattle.elf_image.specs.declared.section.Section.{Section}
 use Rattle.elf_image.specs.Number.{u16_at, u32_at}
-use Rattle.elf_image.specs.Sections.{sections, is_code_section, is_read_only_section, holds_bytes, file_offset}
-use Rattle.elf_image.specs.Code.{is_even, is_code_section_of, code_section_of, is_code, half_at, word_at, word_in}
+use Rattle.elf_image.specs.Code.{is_even, is_code_section_of, code_section_of, is_code, half_at, word_at}
 use Rattle.elf_image.specs.ReadOnly.{is_read_only_section_of, is_read_only, data_section_of, data_word}
 use Rattle.elf_maker.specs.declared.parts.Parts.{Parts}
-use Rattle.elf_maker.specs.Fields.{padded, padding}
-use Rattle.elf_maker.specs.Sections.{null_header, code_header, rodata_header, symbols_header, strings_header, symbol_headers, rodata_place}
+use Rattle.elf_maker.specs.Fields.{padding}
+use Rattle.elf_maker.specs.Sections.{code_header, rodata_header, rodata_place}
 use Rattle.elf_maker.specs.MadeFile.{made_file}
 use Rattle.elf_maker.specs.Given.{is_in_code, is_in_rodata, is_code_given, half_given, word_given, is_read_only_given, data_given}
 use Rattle.elf_maker.proofs.Places.{half-within, word-within, padded-append, at_code, at_rodata, behind_code, behind_rodata}
@@ -95,6 +92,7 @@ module _ (parts : Parts) (fit : AreFit parts) where
             absurd (both_ways _ absent (in_range-from a 2 parts.code_at (length parts.code) (omega arith) (omega arith)))
         | inr past ↦ past
       ]
+
       no_word : (a : ℕ) → is_code_given parts a ≡ false → word_given parts a ≡ None
       no_word a absent = elim (cases_Bool (is_even a)) [
         | inl even ↦ rw (even, shorter a (rw even at absent)) refl

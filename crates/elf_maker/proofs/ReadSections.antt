@@ -1,22 +1,28 @@
 -- What is read of the section headers of a made file.
-use Rattle.std.proofs.Common.{◌≡◌, ℕ, zero, suc, ◌+◌, ◌-◌, ◌*◌, ◌<◌, ◌≤◌, ◌^◌, List, [], ◌∷◌, ◌++◌, map, length, drop, get_or, refl, ap, sym, ◌∙◌, arith, lit<, subst}
+use Rattle.std.proofs.Common.{◌≡◌, ℕ, zero, suc, ◌+◌, ◌*◌, ◌<◌, ◌^◌, List, [], ◌∷◌, ◌++◌, map, length, drop, get_or, refl, ap, sym, ◌∙◌, arith}
 use Rattle.std.specs.List.{flat_map, range_with_len, All}
-use Rattle.std.proofs.lemmas.List.{append_assoc, get_or-map, length-map}
+use Rattle.std.proofs.lemmas.List.{get_or-map, length-map}
 use Rattle.std.proofs.lemmas.List.FromFn.{fill_by_all}
 use Rattle.byteorder.specs.Numbers.{little_number-reads_back}
 use Rattle.elf_image.specs.declared.section.Section.{Section}
 use Rattle.elf_image.specs.Header as header
 use Rattle.elf_image.specs.Sections.{section_header, section, sections}
 use Rattle.elf_maker.specs.declared.section.SectionHeader.{SectionHeader}
-use Rattle.elf_maker.specs.Fields.{halves, words, xwords}
+use Rattle.elf_maker.specs.Fields.{words, xwords}
 use Rattle.elf_maker.specs.Sections.{section_bytes, null_header}
 use Rattle.elf_maker.proofs.Sizes.{length-section_bytes}
-use Rattle.elf_maker.proofs.Places.{half-field, word-field, xword-field, drop-next}
+use Rattle.elf_maker.proofs.Places.{word-field, xword-field, drop-next}
 
 -- the fields of a section header that are read
 abbrev pub as_read : SectionHeader → Section
 as_read s = record {
-  kind = s.kind; flags = s.flags; address = s.address; offset = s.offset; size = s.size; link = s.link; entry_size = s.entry_size
+  kind = s.kind;
+  flags = s.flags;
+  address = s.address;
+  offset = s.offset;
+  size = s.size;
+  link = s.link;
+  entry_size = s.entry_size;
 }
 
 -- its numbers fit their fields
@@ -66,8 +72,8 @@ pub sections-are : (bytes : List ℕ) (at : ℕ) (hs : List SectionHeader) → A
 unfolding sections section
 sections-are bytes at hs fits stands place count =
     let is : map as_read hs ≡ map (section bytes) (range_with_len 0 (length hs)) =
-        fill_by_all (section bytes) (map as_read hs) (length hs) (as_read null_header) (length-map hs as_read)
-        (λ k below. get_or-map as_read hs k null_header (as_read null_header) below
-          ∙ sym (table-at bytes at hs fits stands k below)
-          ∙ ap (λ o. section_header bytes (o + 64 * k)) (sym place)) in
+    fill_by_all (section bytes) (map as_read hs) (length hs) (as_read null_header) (length-map hs as_read)
+    (λ k below. get_or-map as_read hs k null_header (as_read null_header) below
+    ∙ sym (table-at bytes at hs fits stands k below)
+    ∙ ap (λ o. section_header bytes (o + 64 * k)) (sym place)) in
     ap (λ n. map (section bytes) (range_with_len 0 n)) count ∙ sym is

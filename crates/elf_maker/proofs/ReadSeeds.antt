@@ -1,25 +1,23 @@
 -- The faults of a made file's symbols, and its seeds.
-use Rattle.std.proofs.Common.{◌≡◌, ℕ, zero, suc, ◌+◌, ◌-◌, ◌<◌, ◌≤◌, Bool, true, false, cond, List, [], ◌∷◌, map, length, get_or, Some, None, refl, ap, sym, ◌∙◌, subst, arith, inl, inr}
+use Rattle.std.proofs.Common.{◌≡◌, ℕ, zero, suc, ◌+◌, Bool, true, false, List, [], ◌∷◌, map, length, None, refl, ap, sym, ◌∙◌, subst, arith, inl, inr}
 use Rattle.std.specs.Prelude.{◌⊎◌, ◌↔◌}
-use Rattle.std.specs.List.{filter, list_any, Contains, Any}
-use Rattle.std.proofs.lemmas.Bool.{cases_Bool, both_ways, ltb-false}
+use Rattle.std.specs.List.{filter, Contains, Any}
+use Rattle.std.proofs.lemmas.Bool.{cases_Bool, ltb-false}
 use Rattle.elf_image.specs.Header as header
-use Rattle.elf_image.specs.Sections.{section, is_symbol_table}
 use Rattle.elf_image.specs.Symbols as symbols
 use Rattle.elf_image.specs.Symbols.{Symbol}
-use Rattle.elf_image.specs.Seeds.{rising, seeds}
+use Rattle.elf_image.specs.Seeds.{seeds}
 use Rattle.elf_image.specs.FaultTests.{has_bad_symbol_table, has_bad_symbol_name}
 use Rattle.elf_maker.specs.declared.parts.Parts.{Parts}
 use Rattle.elf_maker.specs.declared.parts.MadeSymbol.{MadeSymbol}
 use Rattle.elf_maker.specs.Symbols.{terminated_name, has_symbols}
-use Rattle.elf_maker.specs.Sections.{symbol_headers, symbols_header}
+use Rattle.elf_maker.specs.Sections.{symbol_headers}
 use Rattle.elf_maker.specs.MadeFile.{made_file}
 use Rattle.elf_maker.specs.Given.{is_code_given, IsSeedGiven}
 use Rattle.elf_maker.proofs.Fitting.{AreFit}
 use Rattle.elf_maker.proofs.Rising.{no-member, Contains-here, Contains-later, Contains-cons_cases, rising-keeps, rising-adds_none}
-use Rattle.elf_maker.proofs.ReadSections.{as_read}
 use Rattle.elf_maker.proofs.MadeSections.{sections_made, entry_made}
-use Rattle.elf_maker.proofs.ReadSymbols.{made_symbol, made_symbols, seed_symbol-is, table_found, tables_kept, table_is_right, names_are_right, seed_symbols_made, strings_section}
+use Rattle.elf_maker.proofs.ReadSymbols.{made_symbol, made_symbols, seed_symbol-is, table_found, tables_kept, table_is_right, names_are_right, seed_symbols_made}
 
 any-here : {X : Type 0} (P : X → Type 0) (x : X) (xs : List X) → P x → Any P (x ∷ xs)
 any-here P x xs holds = (0, x, omega arith, refl, holds)

@@ -1,26 +1,25 @@
 -- The symbols of a made file, as they are read.
-use Rattle.std.proofs.Common.{◌≡◌, ℕ, zero, suc, ◌+◌, ◌-◌, ◌*◌, ◌/◌, ◌<◌, ◌≤◌, ◌^◌, ◌%◌, Bool, true, false, cond, ◌||◌, ◌&&◌, not, List, [], ◌∷◌, ◌++◌, map, length, take, drop, get_or, Option, Some, None, refl, ap, sym, ◌∙◌, arith, inl, inr, eqb, ltb, replicate}
-use Rattle.std.specs.List.{find, filter, flat_map, list_any, range_with_len, All}
+use Rattle.std.proofs.Common.{◌≡◌, ℕ, zero, suc, ◌+◌, ◌*◌, ◌/◌, ◌<◌, ◌^◌, ◌%◌, Bool, true, false, ◌||◌, List, [], ◌∷◌, ◌++◌, map, length, take, drop, get_or, Some, refl, ap, sym, ◌∙◌, arith, inl, inr, eqb, ltb, replicate}
+use Rattle.std.specs.List.{filter, flat_map, list_any, range_with_len, All}
 use Rattle.std.proofs.lemmas.Bool.{cases_Bool, lt-ltb, eq-eqb, or_parts}
 use Rattle.std.proofs.lemmas.List.{append_assoc, get_or-drop, length-append, length-drop, take_at}
 use Rattle.std.proofs.lemmas.List.Folds.{list_any-append}
 use Rattle.std.proofs.lemmas.List.FromFn.{fill_by_all}
 use Rattle.byteorder.specs.Numbers.{little_number-reads_back}
 use Rattle.elf_image.specs.declared.section.Section.{Section}
-use Rattle.elf_image.specs.Number.{u16_at, u32_at, u64_at}
+use Rattle.elf_image.specs.Number.{u32_at}
 use Rattle.elf_image.specs.Header as header
-use Rattle.elf_image.specs.Sections.{section, sections, is_symbol_table, is_string_table, is_code_section, holds_bytes}
-use Rattle.elf_image.specs.Code.{is_even}
+use Rattle.elf_image.specs.Sections.{section}
 use Rattle.elf_image.specs.Symbols as symbols
 use Rattle.elf_image.specs.Symbols.{Symbol, symbol_at}
 use Rattle.elf_image.specs.FaultTests.{is_bad_name, is_bad_symbol_table}
 use Rattle.elf_maker.specs.declared.parts.Parts.{Parts}
 use Rattle.elf_maker.specs.declared.parts.MadeSymbol.{MadeSymbol}
-use Rattle.elf_maker.specs.Fields.{halves, words, xwords, padded, padding}
+use Rattle.elf_maker.specs.Fields.{halves, words, xwords}
 use Rattle.elf_maker.specs.Symbols.{symbol_entry, symbol_entries, terminated_name, has_symbols, symbol_table, string_table}
-use Rattle.elf_maker.specs.Sections.{null_header, code_header, symbols_header, strings_header, symbol_headers, section_headers, symbols_place, strings_place}
+use Rattle.elf_maker.specs.Sections.{code_header, symbols_header, strings_header, symbol_headers, section_headers, symbols_place}
 use Rattle.elf_maker.specs.MadeFile.{made_file}
-use Rattle.elf_maker.specs.Given.{is_code_given, is_in_code}
+use Rattle.elf_maker.specs.Given.{is_code_given}
 use Rattle.elf_maker.proofs.Sizes.{length-symbol_entry, length-symbol_entries, five_sections, strings_within}
 use Rattle.elf_maker.proofs.Places.{half-field, word-field, xword-field, drop-next, padded-append, at_symbols, at_strings, behind_symbols}
 use Rattle.elf_maker.proofs.Fitting.{AreFit}
@@ -99,8 +98,8 @@ names-end strings name (s ∷ ss) stands =
     let some : length (terminated_name s) ≡ length s.name + 1 = length-append s.name (0 ∷ []) in
     let inside : ltb name (length strings) ≡ true = lt-ltb name (length strings) (omega (arith, size, some, length-drop name strings)) in
     let ends : list_any (λ b. eqb b 0) (drop name strings) ≡ true =
-        ap (list_any (λ b. eqb b 0)) stands ∙ list_any-append (λ b. eqb b 0) (terminated_name s) rest
-        ∙ ap (λ x. x || list_any (λ b. eqb b 0) rest) (list_any-append (λ b. eqb b 0) s.name (0 ∷ []) ∙ last (list_any (λ b. eqb b 0) s.name)) in
+    ap (list_any (λ b. eqb b 0)) stands ∙ list_any-append (λ b. eqb b 0) (terminated_name s) rest
+    ∙ ap (λ x. x || list_any (λ b. eqb b 0) rest) (list_any-append (λ b. eqb b 0) s.name (0 ∷ []) ∙ last (list_any (λ b. eqb b 0) s.name)) in
     let next = drop-next name (length (terminated_name s)) strings (terminated_name s) rest stands refl in
     rw (inside, ends, names-end strings (name + length (terminated_name s)) ss next) refl
   where

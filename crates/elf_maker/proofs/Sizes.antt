@@ -1,8 +1,8 @@
 -- The size of a made file, and that its parts lie in it.
-use Rattle.std.proofs.Common.{◌≡◌, ℕ, zero, suc, ◌+◌, ◌*◌, ◌≤◌, List, [], ◌∷◌, ◌++◌, length, replicate, refl, sym, ap, ◌∙◌, arith, true, false, cond, inl, inr}
+use Rattle.std.proofs.Common.{◌≡◌, ℕ, ◌+◌, ◌*◌, ◌≤◌, List, [], ◌∷◌, length, replicate, refl, ◌∙◌, arith, true, false, inl, inr}
 use Rattle.std.specs.List.{flat_map}
 use Rattle.std.proofs.lemmas.Bool.{cases_Bool}
-use Rattle.std.proofs.lemmas.List.{length-append}
+use Rattle.std.proofs.lemmas.List.{length-append, length-replicate}
 use Rattle.elf_maker.specs.declared.parts.Parts.{Parts}
 use Rattle.elf_maker.specs.declared.parts.MadeSymbol.{MadeSymbol}
 use Rattle.elf_maker.specs.declared.section.SectionHeader.{SectionHeader}
@@ -42,6 +42,11 @@ length-symbol_entries name (s ∷ ss) =
 pub length-padded : (bytes : List ℕ) → length bytes ≤ length (padded bytes)
 unfolding padded
 length-padded bytes = simp length-append (omega arith)
+
+-- and adds fewer than eight
+pub length-padded_le : (bytes : List ℕ) → length (padded bytes) ≤ length bytes + 7
+unfolding padded
+length-padded_le bytes = simp (length-append, length-replicate) (omega arith)
 
 module _ (parts : Parts) where
   -- the section headers stand behind everything else
@@ -92,3 +97,34 @@ module _ (parts : Parts) where
     | inl some ↦ let e = five_sections some in (omega arith, omega arith)
     | inr none ↦ let e = three_sections none in (omega arith, omega arith)
   ]
+
+  -- how large the tables are at most
+  few_symbols : length (symbol_table parts.symbols) ≤ 24 + 24 * length parts.symbols
+  unfolding symbol_table
+  few_symbols = elim (cases_Bool (has_symbols parts.symbols)) [
+    | inl some ↦ rw some (omega (arith, length-append (replicate 24 0) (symbol_entries 1 parts.symbols), length-symbol_entries 1 parts.symbols))
+    | inr none ↦ rw none (omega arith)
+  ]
+
+  few_strings : length (string_table parts.symbols) ≤ 1 + length (flat_map terminated_name parts.symbols)
+  unfolding string_table
+  few_strings = elim (cases_Bool (has_symbols parts.symbols)) [
+    | inl some ↦ rw some (omega arith)
+    | inr none ↦ rw none (omega arith)
+  ]
+
+  -- a made file is at most 430 bytes larger than what it is made of: for callers of `make_elf`
+  pub made_file_size : length (made_file parts) ≤ 430 + length parts.code + length parts.rodata + 24 * length parts.symbols + length (flat_map terminated_name parts.symbols)
+  unfolding headers_place strings_place symbols_place rodata_place
+  made_file_size =
+      let sections = few_sections in
+      omega (
+        arith,
+        length-made_file,
+        length-section_table,
+        length-padded_le parts.code,
+        length-padded_le parts.rodata,
+        length-padded_le (string_table parts.symbols),
+        few_symbols,
+        few_strings,
+      )

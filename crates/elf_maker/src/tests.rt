@@ -42,7 +42,7 @@ static NAMED: [u8; 528] = [
 ];
 
 fn symbol(alloc: Global, name: &[u8], address: u64) -> Result<MadeSymbol, AllocError>
-    ensures { IfOk result (λ s. (s.name ≡ name.now) × (s.address ≡ address)) }
+    ensures { IfOk result (λ s. s ≡ record { name = name.now; address = address }) }
 {
     Ok(MadeSymbol {
         name: Bytes::from_vec(name.to_vec(alloc)?),
@@ -65,6 +65,7 @@ fn code_alone(alloc: Global, code: &[u8], symbols: Vec<MadeSymbol>) -> Result<Pa
 }
 
 #[test]
+#[tactic(auto, using(crate::proofs::Sizes::made_file_size))]
 fn makes_one_instruction(rt: HostRuntime) -> Result<(), Fail> {
     let alloc = rt.alloc();
     let parts = code_alone(alloc, &[0x67, 0x80, 0, 0], Vec::new(alloc))?;
@@ -74,6 +75,7 @@ fn makes_one_instruction(rt: HostRuntime) -> Result<(), Fail> {
 }
 
 #[test]
+#[tactic(auto, using(crate::proofs::Sizes::made_file_size))]
 fn makes_symbols(rt: HostRuntime) -> Result<(), Fail> {
     let alloc = rt.alloc();
     let symbols = vec![in alloc;

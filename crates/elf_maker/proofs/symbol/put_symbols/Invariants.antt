@@ -9,5 +9,5 @@ abbrev pub invariant-loop-symbol : goal.invariant-loop-symbol
 invariant-loop-symbol l = record {
   entries : l.table.items ++ symbol_entries l.name (drop l.symbol-index l.symbols) ≡ l.initial.table.items ++ symbol_entries 1 l.symbols;
   names : l.name + length (flat_map terminated_name (drop l.symbol-index l.symbols)) ≡ 1 + length (flat_map terminated_name l.symbols);
-  addresses : (k : ℕ) (d : MadeSymbol) → k < l.symbol-index → (get_or l.symbols k d).address < 2 ^ 64
+  addresses : (k : ℕ) (d : MadeSymbol) → k < l.symbol-index → (get_or l.symbols k d).address < 2 ^ 64;
 }
