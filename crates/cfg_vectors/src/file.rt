@@ -17,6 +17,21 @@ const CODE_AT: u64 = 0x10000;
 /// The address of the read-only data.
 const RODATA_AT: u64 = 0x20000;
 
+/// The parts of the file of a row.
+fn row_parts(alloc: Global, row: u32, part: u32) -> Result<Parts, Memory>
+    requires { IsRow row part }
+    ensures { IfOk result (λ parts. parts ≡ row_parts row part) }
+{
+    Ok(Parts {
+        entry: CODE_AT,
+        code_at: CODE_AT,
+        code: Bytes::from_vec(row_code(alloc, row, part)?),
+        rodata_at: RODATA_AT,
+        rodata: Bytes::from_vec(row_rodata(alloc, row)?),
+        symbols: MadeSymbols::from_vec(row_symbols(alloc, row, part)?),
+    })
+}
+
 /// The file of a row of `docs/ROWS.md`: row 1 or one of the rows 5 to 17. `part` says which of a row's files is wanted,
 /// from 0 on, in the order in which the row names them: rows 5 and 16 have four, the others one.
 ///
@@ -26,14 +41,7 @@ pub fn row_file(alloc: Global, row: u32, part: u32) -> Result<Vec<u8>, Memory>
     ensures bytes { IfOk result (λ file. file.items ≡ made_file (row_parts row part)) }
     ensures made { IfOk result (λ file. IsMadeOf (row_parts row part) file.items) }
 {
-    let parts = Parts {
-        entry: CODE_AT,
-        code_at: CODE_AT,
-        code: Bytes::from_vec(row_code(alloc, row, part)?),
-        rodata_at: RODATA_AT,
-        rodata: Bytes::from_vec(row_rodata(alloc, row)?),
-        symbols: MadeSymbols::from_vec(row_symbols(alloc, row, part)?),
-    };
+    let parts = row_parts(alloc, row, part)?;
     let file = make_elf(alloc, &parts)?;
     Ok(file)
 }
