@@ -1,20 +1,17 @@
 -- Every reached instruction that ends a chain is the last one of a block. Which addresses are leaders
 -- is not decided here, so the proofs go by what cannot be refuted.
-use Rattle.std.proofs.Common.{◌≡◌, ℕ, ◌+◌, ◌⊎◌, List, [], ◌∷◌, ◌++◌, Option, Some, None, refl, sym, ap, ◌∙◌, subst, inl, inr, ⊎_elim}
+use Rattle.std.proofs.Common.{◌≡◌, ℕ, ◌+◌, List, [], ◌∷◌, Option, Some, None, refl, ap, ◌∙◌, subst, inl, ⊎_elim}
 use Rattle.std.specs.Prelude.{Contains, option_to_list}
 use Rattle.cfg_model.specs.declared.flow.Flow.{Flow}
 use Rattle.cfg_model.specs.declared.flow.Flow.TheVariants as flows
 use Rattle.cfg_model.specs.declared.graph.Block.{Block}
-use Rattle.cfg_model.specs.Instructions.{Instruction, InstructionMap, flow_at, length_at, targets_at}
+use Rattle.cfg_model.specs.Instructions.{Instruction, InstructionMap, flow_at, targets_at}
 use Rattle.std.specs.Option.{option_map}
 use Rattle.cfg_model.specs.Chain.{GoesOnTo, IsTerminator, EndsChain}
-use Rattle.cfg_model.specs.Successors.{IsSuccessor, IsCall, successors_of_flow}
-use Rattle.cfg_model.specs.Status.{Returns}
+use Rattle.cfg_model.specs.Successors.{successors_of_flow}
 use Rattle.cfg_model.specs.Reach.{Reached}
 use Rattle.cfg_model.specs.Leader.{IsLeader, StartsBlock, targets_by, fall_by}
-use Rattle.cfg_model.specs.Block.{RunsTo, IsBlock, IsBlockTo, IsLastOf, end_kind}
-use Rattle.cfg_model.specs.Listing.{Lists}
-use Rattle.cfg_model.specs.Graph.{BlockBefore}
+use Rattle.cfg_model.specs.Block.{RunsTo, IsBlockTo, end_kind}
 use Rattle.cfg_model.specs.Cover.{NoEndIsMissed}
 use Rattle.cfg_model.proofs.Outline.Lists.{Contains-here, Contains-cons_cases, Contains-none}
 

@@ -31,3 +31,4 @@ pub mod SelfCallClosed
 pub mod WaitRow
 pub mod ChainSteps
 pub mod Cover
+pub mod Spreading

@@ -1,7 +1,7 @@
 -- Every reached instruction that ends a chain is the last one of a block.
 use Rattle.std.specs.Prelude.{ℕ, List, Contains}
 use Rattle.cfg_model.specs.declared.graph.Block.{Block}
-use Rattle.cfg_model.specs.Instructions.{InstructionMap, IsLawful}
+use Rattle.cfg_model.specs.Instructions.{InstructionMap}
 use Rattle.cfg_model.specs.Chain.{IsTerminator}
 use Rattle.cfg_model.specs.Reach.{Reached}
 use Rattle.cfg_model.specs.Block.{IsBlock, IsBlockTo}

@@ -70,3 +70,16 @@ pub record AreAllMarked (map : InstructionMap) (xs returning : List ℕ) : Type 
 pub data Marks (map : InstructionMap) (xs old new : List ℕ) : Type 0 where
   grown : length old < length new → Marks map xs old new
   at_rest : new ≡ old → AreAllMarked map xs old → Marks map xs old new
+
+-- What holds of the addresses found so far: each is that of an instruction, the set beside their list
+-- has the same, and those marked return and are among them.
+pub record IsFoundSoFar (map : InstructionMap) (order members returning : List ℕ) : Type 0 where
+  pub same : HaveSame order members
+  pub known : AreKnown map order
+  pub returns : AreReturning map returning
+  pub within : IsWithin returning order
+
+-- Addresses were found, each reached from those before, and none was lost.
+pub record FindsMore (map : InstructionMap) (old new : List ℕ) : Type 0 where
+  pub kept : IsWithin old new
+  pub reached : AreReached map old new

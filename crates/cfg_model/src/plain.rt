@@ -9,6 +9,7 @@ mod closure;
 mod edges;
 mod leaders;
 mod outline;
+mod spread;
 #[cfg(test)]
 mod tests;
 

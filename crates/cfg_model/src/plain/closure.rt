@@ -1,6 +1,7 @@
 //! The closure of a program: which addresses its seeds reach, and which of those return.
 //!
-//! Rounds of two passes. [`follow`] finds what the known addresses lead to, where the returning
+//! [`spread`] finds all of it in one go, by telling those that wait; rounds of two passes make sure
+//! that nothing is missing. [`follow`] finds what the known addresses lead to, where the returning
 //! ones are those known so far; [`mark`] looks for further returning ones among them. A round that
 //! marks nothing is the last.
 
@@ -15,6 +16,7 @@ ghost use Rattle.cfg_model.specs.Rounds.{ReturnsBy, Meet, IsWithin, HaveSame, Ad
 
 use crate::flow::{Chains, Flow};
 use crate::memory::Memory;
+use crate::plain::spread::spread;
 use std::alloc::Global;
 use std::collections::BTreeSet;
 
@@ -54,8 +56,8 @@ impl Closure {
 
 /// The closure of the program `code` from `seeds`, or want of memory.
 ///
-/// Each pass of a round takes linear time but for the look-ups in a set, and each round but the
-/// last finds a returning address; a program needs about as many rounds as its calls are deep.
+/// The time is linear but for the look-ups in sets: what is found first is all, and one round then finds
+/// nothing more. That it would find whatever were missing is what the proof rests on.
 pub(crate) fn closure_of<C: Chains>(
     alloc: Global,
     code: &C,
@@ -67,6 +69,7 @@ pub(crate) fn closure_of<C: Chains>(
 {
     let mut found = Found::of(alloc, seeds)?;
     let mut returning = BTreeSet::new(alloc);
+    spread(alloc, code, &mut found, &mut returning)?;
     loop {
         follow(code, &returning, &mut found)?;
         if !mark(code, found.order.as_slice(), &mut returning)? {
@@ -78,9 +81,9 @@ pub(crate) fn closure_of<C: Chains>(
 
 /// The addresses found so far: in the order found, and as a set.
 #[derive(Drop)]
-struct Found {
-    order: Vec<u64>,
-    members: BTreeSet<u64>,
+pub(crate) struct Found {
+    pub(crate) order: Vec<u64>,
+    pub(crate) members: BTreeSet<u64>,
 }
 
 impl Found {
@@ -155,7 +158,7 @@ fn follow<C: Chains>(code: &C, returning: &BTreeSet<u64>, found: &mut Found) -> 
 }
 
 /// Adds what the instruction at `a` leads to, where the returning addresses are those given.
-fn follow_one<C: Chains>(
+pub(crate) fn follow_one<C: Chains>(
     code: &C,
     a: u64,
     returning: &BTreeSet<u64>,
@@ -221,7 +224,11 @@ fn mark<C: Chains>(code: &C, order: &[u64], returning: &mut BTreeSet<u64>) -> Re
 }
 
 /// Marks `a` where it returns and was not known to.
-fn mark_one<C: Chains>(code: &C, a: u64, returning: &mut BTreeSet<u64>) -> Result<(), Memory>
+pub(crate) fn mark_one<C: Chains>(
+    code: &C,
+    a: u64,
+    returning: &mut BTreeSet<u64>,
+) -> Result<(), Memory>
     requires known { IsSome (C.map code.now a) }
     requires returning { AreReturning (C.map code.now) returning.old.keys }
     ensures returning { OnOk result (AreReturning (C.map code.now) returning.new.keys) }
@@ -269,7 +276,7 @@ fn table_returns<C: Chains>(code: &C, a: u64, entries: u32, returning: &BTreeSet
 }
 
 /// Whether the set has `a`.
-fn has(set: &BTreeSet<u64>, a: u64) -> bool
+pub(crate) fn has(set: &BTreeSet<u64>, a: u64) -> bool
     ensures { IsTrue result ↔ Contains set.now.keys a }
 {
     set.contains(&a)

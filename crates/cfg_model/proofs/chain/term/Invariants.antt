@@ -1,4 +1,4 @@
-use Rattle.std.proofs.Common.{ℕ, ◌-◌, ◌^◌, IsSome}
+use Rattle.std.proofs.Common.{◌-◌, ◌^◌, IsSome}
 use Rattle.cfg_model.specs.Chain.{OnChain}
 use Rattle.cfg_model.proofs.chain.term.Given as goal
 

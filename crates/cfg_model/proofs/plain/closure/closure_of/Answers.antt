@@ -1,12 +1,19 @@
 use Rattle.std.proofs.Common.{◌≡◌}
 use Rattle.std.proofs.lemmas.Result.{IfOk-weaker}
 use Rattle.cfg_model.proofs.Passes.{round_start, round_followed, round_marked, closure_at_end, from_both}
+use Rattle.cfg_model.proofs.Spreading.{so_far_of_round, round_spread}
 use Rattle.cfg_model.proofs.plain.closure.closure_of.Goals as goal
 
 pub loop-returning-init : goal.loop-returning-init
 loop-returning-init g c =
-    round_start _ _ _ _ _ c.requires.seeds c.in_ok-found.ensures.same c.in_ok-found.ensures.seeds
-    c.new-returning.ensures.empty
+    let start = round_start _ _ _ _ _ c.requires.seeds c.in_ok-found.ensures.same c.in_ok-found.ensures.seeds
+    c.new-returning.ensures.empty in
+    round_spread _ _ _ _ _ _ _ _ start c.in_ok-spread.ensures.so_far c.in_ok-spread.ensures.finds
+
+pub spread-requires-after_bounds : goal.spread-requires-after_bounds
+spread-requires-after_bounds g c κs within =
+    so_far_of_round _ _ _ _ _ (round_start _ _ _ _ _ c.requires.seeds c.in_ok-found.ensures.same c.in_ok-found.ensures.seeds
+    c.new-returning.ensures.empty)
 
 pub mark-requires-clause-within : goal.mark-requires-clause-within
 mark-requires-clause-within g c κs within =
