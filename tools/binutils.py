@@ -1,0 +1,77 @@
+"""What GNU binutils say of an ELF file, for the comparisons of this folder: its sections, symbols and entry
+by readelf, and its instructions by objdump."""
+
+import re
+import shutil
+import subprocess
+from collections import namedtuple
+
+GCC = "riscv64-unknown-elf-gcc"
+READELF = ("riscv64-unknown-elf-readelf", "riscv64-linux-gnu-readelf")
+OBJDUMP = ("riscv64-unknown-elf-objdump", "riscv64-linux-gnu-objdump")
+BARE = ["-march=rv64imac", "-mabi=lp64", "-nostdlib", "-static"]
+
+Line = namedtuple("Line", "length mnemonic operands")
+
+
+def missing(*wanted):
+    """The first tool that is not installed, or None; a tuple stands for any one of its tools."""
+    for names in wanted:
+        names = (names,) if isinstance(names, str) else names
+        if not any(map(shutil.which, names)):
+            return " or ".join(names)
+    return None
+
+
+def output(names, *arguments):
+    tool = next(filter(shutil.which, names))
+    return subprocess.run([tool, *arguments], check=True, capture_output=True).stdout.decode("utf-8", "surrogateescape")
+
+
+def compile_c(path, source, *options):
+    """Builds a program of C source text, or says by None that this compiler cannot."""
+    command = [GCC, *options, "-x", "c", "-", "-lgcc", "-o", path]
+    done = subprocess.run(command, input=source, capture_output=True, text=True)
+    return path if done.returncode == 0 else print(done.stderr, end="")
+
+
+def entry(path):
+    return int(re.search(r"Entry point address:\s+0x([0-9a-f]+)", output(READELF, "-h", path))[1], 16)
+
+
+def code_sections(path):
+    """The code sections by index: PROGBITS with the flags ALLOC and EXECINSTR."""
+    found = {}
+    for line in output(READELF, "-SW", path).splitlines():
+        match = re.match(r"\s*\[\s*(\d+)\]\s(.*?)\s+PROGBITS\s+([0-9a-f]{16}) [0-9a-f]+ ([0-9a-f]+) [0-9a-f]+\s+([A-Za-z]*)\s", line)
+        if match and "A" in match[5] and "X" in match[5]:
+            start, size = int(match[3], 16), int(match[4], 16)
+            found[match[1]] = range(start, start + size)
+    return found
+
+
+def seeds(path):
+    """The addresses of the function symbols that stand in the code section which they name, and the entry, each
+    with its least name that is not empty, by the order of bytes, or None."""
+    sections = code_sections(path)
+    names = {entry(path): set()}
+    for line in output(READELF, "-sW", path).splitlines():
+        match = re.match(r"\s*\d+: ([0-9a-f]{16})\s+\S+ (\S+)\s+\S+\s+\S+\s+(?:\[.*\]\s+)?(\S+) ?(.*)$", line)
+        if match is None or match[2] != "FUNC" or match[3] not in sections:
+            continue
+        address = int(match[1], 16)
+        section = sections[match[3]]
+        if address % 2 == 0 and address in section and address + 1 in section:
+            names.setdefault(address, set()).add(match[4].encode("utf-8", "surrogateescape"))
+    return {address: min(found - {b""}, default=None) for address, found in sorted(names.items())}
+
+
+def instructions(path):
+    """objdump's reading of each code section, without aliases, by address."""
+    found = {}
+    for line in output(OBJDUMP, "-d", "-z", "-M", "no-aliases,numeric", path).splitlines():
+        match = re.match(r"\s*([0-9a-f]+):\t([0-9a-f]+)\s+\t(\S+)\s*(.*)$", line)
+        if match:
+            operands = re.sub(r"\s*(<[^>]*>|#.*)", "", match[4])
+            found[int(match[1], 16)] = Line(len(match[2]) // 2, match[3], operands.split(",") if operands else [])
+    return found
