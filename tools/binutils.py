@@ -11,7 +11,7 @@ READELF = ("riscv64-unknown-elf-readelf", "riscv64-linux-gnu-readelf")
 OBJDUMP = ("riscv64-unknown-elf-objdump", "riscv64-linux-gnu-objdump")
 BARE = ["-march=rv64imac", "-mabi=lp64", "-nostdlib", "-static"]
 
-Line = namedtuple("Line", "length mnemonic operands")
+Line = namedtuple("Line", "length word mnemonic operands")
 
 
 def missing(*wanted):
@@ -73,5 +73,6 @@ def instructions(path):
         match = re.match(r"\s*([0-9a-f]+):\t([0-9a-f]+)\s+\t(\S+)\s*(.*)$", line)
         if match:
             operands = re.sub(r"\s*(<[^>]*>|#.*)", "", match[4])
-            found[int(match[1], 16)] = Line(len(match[2]) // 2, match[3], operands.split(",") if operands else [])
+            length, word = len(match[2]) // 2, int(match[2], 16)
+            found[int(match[1], 16)] = Line(length, word, match[3], operands.split(",") if operands else [])
     return found
