@@ -1,5 +1,7 @@
 //! The worked rows and failing inputs and outputs, over inputs and sinks in memory.
 
+ghost use Rattle.std.specs.Prelude.{◌≡◌, false, IfOk};
+
 use crate::gate::OpenGate;
 use crate::run::run;
 use crate::status::Status;
@@ -36,7 +38,9 @@ struct Left {
 }
 
 // Runs the program on words behind its name, with ample memory and sinks that do not fail.
-fn run_on(alloc: Global, words: &[&str], mut input: MemInput) -> Result<Left, Fail> {
+fn run_on(alloc: Global, words: &[&str], mut input: MemInput) -> Result<Left, Fail>
+    requires { input.is_open ≡ false }
+{
     let mut all = vec![in alloc; "cfg".to_string(alloc)?]?;
     for word in words {
         all.push(word.to_string(alloc)?)?;
@@ -47,7 +51,9 @@ fn run_on(alloc: Global, words: &[&str], mut input: MemInput) -> Result<Left, Fa
     Ok(Left { status, out, err })
 }
 
-fn file(alloc: Global, bytes: Vec<u8>) -> Result<MemInput, AllocError> {
+fn file(alloc: Global, bytes: Vec<u8>) -> Result<MemInput, AllocError>
+    ensures { IfOk result (λ input. input.is_open ≡ false) }
+{
     Ok(MemInput::new("F".to_string(alloc)?, bytes, 65_536, Vec::new(alloc)))
 }
 
@@ -73,7 +79,9 @@ fn refuses(
     input: MemInput,
     status: Status,
     line: &str,
-) -> Result<(), Fail> {
+) -> Result<(), Fail>
+    requires { input.is_open ≡ false }
+{
     let left = run_on(rt.alloc(), words, input)?;
     assert_eq!(rt; left.status, status);
     assert_eq!(rt; left.out.bytes(), b"".as_slice());

@@ -1,7 +1,6 @@
 -- The bound test in front of a jump table (this project's profile).
-use Rattle.std.specs.Prelude.{ℕ, ◌+◌, ◌-◌, ◌*◌, ◌==◌, ◌&&◌, not, nat_le, is_some, Bool, true, false, List, [], ◌∷◌, zero, suc, ℤ, pos, negsuc, Option, Some, None, if◌then◌else◌}
-use Rattle.std.specs.Option.{option_map, option_map_or, option_and_then}
-use Rattle.std.specs.List.{range_with_len}
+use Rattle.std.specs.Prelude.{ℕ, ◌+◌, ◌-◌, ◌==◌, ◌&&◌, not, nat_le, is_some, Bool, true, false, List, [], ◌∷◌, zero, suc, ℤ, pos, negsuc, Option, Some, None, if◌then◌else◌}
+use Rattle.std.specs.Option.{option_map, option_and_then}
 use Rattle.elf_image.specs.Code.{half_at}
 use Rattle.rv_decode.specs.declared.instructions.Insn.{Insn}
 use Rattle.rv_decode.specs.declared.instructions.Insn.TheVariants as insns

@@ -1,7 +1,7 @@
 -- The pattern of a jump table is read within the code section of its jump.
 use Rattle.std.specs.Prelude.{ℕ, ◌+◌, ◌==◌, ◌&&◌, Bool, true, false, List, [], ◌∷◌, zero, suc, Option, Some, None, if◌then◌else◌}
 use Rattle.std.specs.Option.{option_map, option_map_or, option_and_then}
-use Rattle.elf_image.specs.Code.{section_start, half_at, word_at}
+use Rattle.elf_image.specs.Code.{section_start, word_at}
 use Rattle.rv_decode.specs.declared.instructions.Insn.{Insn}
 use Rattle.rv_decode.specs.Table.{instruction}
 use Rattle.rv_flow.specs.declared.raw.RawFlow.{RawFlow}

@@ -1,7 +1,6 @@
 -- The jump table of a jump through a register (this project's profile).
-use Rattle.std.specs.Prelude.{ℕ, ◌+◌, ◌*◌, ◌/◌, ◌%◌, ◌^◌, ◌-◌, ◌==◌, nat_lt, is_some, Bool, true, false, List, [], ◌∷◌, zero, suc, ℤ, pos, map, Option, Some, None, if◌then◌else◌}
-use Rattle.std.specs.Option.{option_map, option_map_or, option_and_then}
-use Rattle.std.specs.List.{range_with_len}
+use Rattle.std.specs.Prelude.{ℕ, ◌+◌, ◌*◌, ◌/◌, ◌%◌, ◌^◌, ◌-◌, ◌==◌, nat_lt, List, [], ◌∷◌, zero, suc, pos, Option, Some, None, if◌then◌else◌}
+use Rattle.std.specs.Option.{option_and_then}
 use Rattle.elf_image.specs.Code.{section_start, is_code}
 use Rattle.elf_image.specs.ReadOnly.{data_word}
 use Rattle.rv_flow.specs.declared.raw.RawFlow.{RawFlow}

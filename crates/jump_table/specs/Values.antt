@@ -1,5 +1,5 @@
 -- The values that registers hold between the bound test and the jump (this project's profile).
-use Rattle.std.specs.Prelude.{ℕ, ◌+◌, ◌%◌, ◌^◌, ◌==◌, List, [], ◌∷◌, zero, suc, ℤ, pos, negsuc, if◌then◌else◌, Option, Some, None}
+use Rattle.std.specs.Prelude.{ℕ, ◌==◌, List, [], ◌∷◌, zero, ℤ, pos, if◌then◌else◌, Option, Some, None}
 use Rattle.std.specs.Int.{cast_unsigned, w64}
 use Rattle.rv_decode.specs.declared.instructions.Insn.{Insn}
 use Rattle.rv_decode.specs.declared.instructions.Insn.TheVariants as insns

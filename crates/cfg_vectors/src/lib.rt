@@ -1,0 +1,11 @@
+//! The files of the worked rows of `docs/ROWS.md`, for the tests of the crates above.
+#![tactic(auto)]
+
+mod bytes;
+mod file;
+mod memory;
+mod rows;
+mod symbols;
+
+pub use file::row_file;
+pub use memory::Memory;
