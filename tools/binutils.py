@@ -4,6 +4,7 @@ by readelf, and its instructions by objdump."""
 import re
 import shutil
 import subprocess
+import tempfile
 from collections import namedtuple
 
 GCC = "riscv64-unknown-elf-gcc"
@@ -11,6 +12,7 @@ READELF = ("riscv64-unknown-elf-readelf", "riscv64-linux-gnu-readelf")
 OBJDUMP = ("riscv64-unknown-elf-objdump", "riscv64-linux-gnu-objdump")
 BARE = ["-march=rv64imac", "-mabi=lp64", "-nostdlib", "-static"]
 
+Section = namedtuple("Section", "places offset")
 Line = namedtuple("Line", "length word mnemonic operands")
 
 
@@ -40,13 +42,14 @@ def entry(path):
 
 
 def code_sections(path):
-    """The code sections by index: PROGBITS with the flags ALLOC and EXECINSTR."""
+    """The code sections by index, PROGBITS with the flags ALLOC and EXECINSTR: the addresses, and where the bytes
+    stand in the file."""
     found = {}
     for line in output(READELF, "-SW", path).splitlines():
-        match = re.match(r"\s*\[\s*(\d+)\]\s(.*?)\s+PROGBITS\s+([0-9a-f]{16}) [0-9a-f]+ ([0-9a-f]+) [0-9a-f]+\s+([A-Za-z]*)\s", line)
-        if match and "A" in match[5] and "X" in match[5]:
-            start, size = int(match[3], 16), int(match[4], 16)
-            found[match[1]] = range(start, start + size)
+        match = re.match(r"\s*\[\s*(\d+)\]\s(.*?)\s+PROGBITS\s+([0-9a-f]{16}) ([0-9a-f]+) ([0-9a-f]+) [0-9a-f]+\s+([A-Za-z]*)\s", line)
+        if match and "A" in match[6] and "X" in match[6]:
+            start, offset, size = (int(text, 16) for text in match.group(3, 4, 5))
+            found[match[1]] = Section(range(start, start + size), offset)
     return found
 
 
@@ -60,17 +63,31 @@ def seeds(path):
         if match is None or match[2] != "FUNC" or match[3] not in sections:
             continue
         address = int(match[1], 16)
-        section = sections[match[3]]
-        if address % 2 == 0 and address in section and address + 1 in section:
+        places = sections[match[3]].places
+        if address % 2 == 0 and address in places and address + 1 in places:
             names.setdefault(address, set()).add(match[4].encode("utf-8", "surrogateescape"))
     return {address: min(found - {b""}, default=None) for address, found in sorted(names.items())}
 
 
 def instructions(path):
     """objdump's reading of each code section, without aliases, by address."""
+    return listed(output(OBJDUMP, "-d", "-z", "-M", "no-aliases,numeric", path))
+
+
+def instructions_from(path, address, section):
+    """objdump's reading of the bytes of a section from an address on, of 64 at the most."""
+    with open(path, "rb") as file, tempfile.NamedTemporaryFile() as part:
+        file.seek(section.offset + address - section.places.start)
+        part.write(file.read(min(64, section.places.stop - address)))
+        part.flush()
+        return listed(output(OBJDUMP, "-D", "-z", "-b", "binary", "-m", "riscv:rv64", "-M", "no-aliases,numeric",
+                             f"--adjust-vma={address:#x}", part.name))
+
+
+def listed(text):
     found = {}
-    for line in output(OBJDUMP, "-d", "-z", "-M", "no-aliases,numeric", path).splitlines():
-        match = re.match(r"\s*([0-9a-f]+):\t([0-9a-f]+)\s+\t(\S+)\s*(.*)$", line)
+    for line in text.splitlines():
+        match = re.match(r"\s*([0-9a-f]+):\t([0-9a-f]{4,8})(?: [0-9a-f ]*)?\t(\S+)\s*(.*)$", line)
         if match:
             operands = re.sub(r"\s*(<[^>]*>|#.*)", "", match[4])
             length, word = len(match[2]) // 2, int(match[2], 16)
