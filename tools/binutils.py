@@ -31,10 +31,13 @@ def output(names, *arguments):
 
 
 def compile_c(path, source, *options):
-    """Builds a program of C source text, or says by None that this compiler cannot."""
+    """Builds a program of C source text and answers its path; where this compiler cannot, prints why and answers None."""
     command = [GCC, *options, "-x", "c", "-", "-lgcc", "-o", path]
     done = subprocess.run(command, input=source, capture_output=True, text=True)
-    return path if done.returncode == 0 else print(done.stderr, end="")
+    if done.returncode != 0:
+        print(done.stderr, end="")
+        return None
+    return path
 
 
 def entry(path):
