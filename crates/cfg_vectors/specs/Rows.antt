@@ -61,10 +61,11 @@ row_rodata row = numbered [] rodata_table row
 
 -- the symbols of the first parts of row 5, and of its last
 abbrev pub row_5_table : List (ℕ × List MadeSymbol)
-row_5_table =
-    (0,
-      record { name = codes "b"; address = 0x10000 } ∷ record { name = codes "a"; address = 0x10000 }
-      ∷ record { name = codes "odd"; address = 0x10001 } ∷ record { name = codes "c"; address = 0x10004 } ∷ [])
+row_5_table = (
+  0,
+  record { name = codes "b"; address = 0x10000 } ∷ record { name = codes "a"; address = 0x10000 }
+      ∷ record { name = codes "odd"; address = 0x10001 } ∷ record { name = codes "c"; address = 0x10004 } ∷ [],
+)
     ∷ (1, record { name = codes "-"; address = 0x10000 } ∷ [])
     ∷ (2, record { name = codes "a b"; address = 0x10000 } ∷ [])
     ∷ []
@@ -87,6 +88,10 @@ row_symbols row part = numbered [] (symbols_table part) row
 -- the parts of a row's file: code and entry at 10000, read-only data at 20000
 abbrev pub row_parts : ℕ → ℕ → Parts
 row_parts row part = record {
-  entry = 0x10000; code_at = 0x10000; code = row_code row part; rodata_at = 0x20000; rodata = row_rodata row;
-  symbols = row_symbols row part
+  entry = 0x10000;
+  code_at = 0x10000;
+  code = row_code row part;
+  rodata_at = 0x20000;
+  rodata = row_rodata row;
+  symbols = row_symbols row part;
 }
