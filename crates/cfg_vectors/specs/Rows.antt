@@ -15,14 +15,15 @@ abbrev pub numbered : {X : Type 0} → X → List (ℕ × X) → ℕ → X
 numbered last [] n = last
 numbered last (e ∷ es) n = if e.0 == n then e.1 else numbered last es n
 
--- the code of the first parts of row 16: two forms that are not whole instructions or go nowhere, and one of four bytes
+-- the code of the first parts of row 16: an instruction of 16 bits, the first half of one of 32 bits, and `unimp`
 abbrev pub row_16_table : List (ℕ × List ℕ)
 row_16_table = (0, halves (0x0001 ∷ [])) ∷ (1, halves (0x0013 ∷ [])) ∷ (2, words (0xC0001073 ∷ [])) ∷ []
 
--- the code of its last part, and of the last row
+-- the code of its last part, a word of zero bits
 abbrev pub row_16_last : List ℕ
 row_16_last = words (0x00000000 ∷ [])
 
+-- the code of row 17
 abbrev pub row_17_code : List ℕ
 row_17_code = words (0x00050463 ∷ 0xFFDFF06F ∷ 0x00008067 ∷ 0xFF5FF06F ∷ [])
 
