@@ -1,5 +1,5 @@
 -- The parts of each row meet the conditions of `make_elf`.
-use Rattle.std.proofs.Common.{◌≡◌, ℕ, zero, suc, ◌+◌, ◌<◌, ◌≤◌, ◌%◌, Bool, true, false, ◌&&◌, cond, List, [], ◌∷◌, length, refl, ◌∙◌, arith, inl, inr, eqb, ltb, leb}
+use Rattle.std.proofs.Common.{◌≡◌, ℕ, ◌<◌, ◌≤◌, ◌%◌, Bool, true, ◌&&◌, List, [], ◌∷◌, length, refl, arith, inl, inr, eqb, ltb, leb}
 use Rattle.std.specs.List.{flat_map}
 use Rattle.std.proofs.lemmas.Bool.{cases_Bool, and_parts, ltb-true, leb-true, eqb-true}
 use Rattle.elf_maker.specs.declared.parts.MadeSymbol.{MadeSymbol}

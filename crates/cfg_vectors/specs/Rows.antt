@@ -15,14 +15,15 @@ abbrev pub numbered : {X : Type 0} → X → List (ℕ × X) → ℕ → X
 numbered last [] n = last
 numbered last (e ∷ es) n = if e.0 == n then e.1 else numbered last es n
 
--- the code of the first parts of row 16: two forms that are not whole instructions or go nowhere, and one of four bytes
+-- the code of the first parts of row 16: an instruction of 16 bits, the first half of one of 32 bits, and `unimp`
 abbrev pub row_16_table : List (ℕ × List ℕ)
 row_16_table = (0, halves (0x0001 ∷ [])) ∷ (1, halves (0x0013 ∷ [])) ∷ (2, words (0xC0001073 ∷ [])) ∷ []
 
--- the code of its last part, and of the last row
+-- the code of its last part, a word of zero bits
 abbrev pub row_16_last : List ℕ
 row_16_last = words (0x00000000 ∷ [])
 
+-- the code of row 17
 abbrev pub row_17_code : List ℕ
 row_17_code = words (0x00050463 ∷ 0xFFDFF06F ∷ 0x00008067 ∷ 0xFF5FF06F ∷ [])
 
@@ -61,10 +62,11 @@ row_rodata row = numbered [] rodata_table row
 
 -- the symbols of the first parts of row 5, and of its last
 abbrev pub row_5_table : List (ℕ × List MadeSymbol)
-row_5_table =
-    (0,
-      record { name = codes "b"; address = 0x10000 } ∷ record { name = codes "a"; address = 0x10000 }
-      ∷ record { name = codes "odd"; address = 0x10001 } ∷ record { name = codes "c"; address = 0x10004 } ∷ [])
+row_5_table = (
+  0,
+  record { name = codes "b"; address = 0x10000 } ∷ record { name = codes "a"; address = 0x10000 }
+      ∷ record { name = codes "odd"; address = 0x10001 } ∷ record { name = codes "c"; address = 0x10004 } ∷ [],
+)
     ∷ (1, record { name = codes "-"; address = 0x10000 } ∷ [])
     ∷ (2, record { name = codes "a b"; address = 0x10000 } ∷ [])
     ∷ []
@@ -87,6 +89,10 @@ row_symbols row part = numbered [] (symbols_table part) row
 -- the parts of a row's file: code and entry at 10000, read-only data at 20000
 abbrev pub row_parts : ℕ → ℕ → Parts
 row_parts row part = record {
-  entry = 0x10000; code_at = 0x10000; code = row_code row part; rodata_at = 0x20000; rodata = row_rodata row;
-  symbols = row_symbols row part
+  entry = 0x10000;
+  code_at = 0x10000;
+  code = row_code row part;
+  rodata_at = 0x20000;
+  rodata = row_rodata row;
+  symbols = row_symbols row part;
 }

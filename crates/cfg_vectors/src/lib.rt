@@ -9,3 +9,6 @@ mod symbols;
 
 pub use file::row_file;
 pub use memory::Memory;
+
+#[cfg(test)]
+mod tests;

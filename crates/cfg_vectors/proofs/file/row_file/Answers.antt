@@ -1,6 +1,5 @@
-use Rattle.std.proofs.Common.{◌≡◌, ◌+◌, ◌<◌, ◌≤◌, ◌%◌, length, min, max, arith}
-use Rattle.cfg_vectors.specs.Rows.{row_parts}
-use Rattle.cfg_vectors.proofs.Shapes.{code-shape, rodata-shape, symbols-shape, file-shape}
+use Rattle.std.proofs.Common.{arith}
+use Rattle.cfg_vectors.proofs.Shapes.{code-shape, symbols-shape, file-shape}
 use Rattle.cfg_vectors.proofs.file.row_file.Goals as goal
 
 pub make_elf-requires-clause-some_code : goal.make_elf-requires-clause-some_code

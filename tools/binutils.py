@@ -1,0 +1,98 @@
+"""What GNU binutils say of an ELF file, for the comparisons of this folder: its sections, symbols and entry
+by readelf, and its instructions by objdump."""
+
+import re
+import shutil
+import subprocess
+import tempfile
+from collections import namedtuple
+
+GCC = "riscv64-unknown-elf-gcc"
+READELF = ("riscv64-unknown-elf-readelf", "riscv64-linux-gnu-readelf")
+OBJDUMP = ("riscv64-unknown-elf-objdump", "riscv64-linux-gnu-objdump")
+BARE = ["-march=rv64imac", "-mabi=lp64", "-nostdlib", "-static"]
+
+Section = namedtuple("Section", "places offset")
+Line = namedtuple("Line", "length word mnemonic operands")
+
+
+def missing(*wanted):
+    """The first tool that is not installed, or None; a tuple stands for any one of its tools."""
+    for names in wanted:
+        names = (names,) if isinstance(names, str) else names
+        if not any(map(shutil.which, names)):
+            return " or ".join(names)
+    return None
+
+
+def output(names, *arguments):
+    tool = next(filter(shutil.which, names))
+    return subprocess.run([tool, *arguments], check=True, capture_output=True).stdout.decode("utf-8", "surrogateescape")
+
+
+def compile_c(path, source, *options):
+    """Builds a program of C source text and answers its path; where this compiler cannot, prints why and answers None."""
+    command = [GCC, *options, "-x", "c", "-", "-lgcc", "-o", path]
+    done = subprocess.run(command, input=source, capture_output=True, text=True)
+    if done.returncode != 0:
+        print(done.stderr, end="")
+        return None
+    return path
+
+
+def entry(path):
+    return int(re.search(r"Entry point address:\s+0x([0-9a-f]+)", output(READELF, "-h", path))[1], 16)
+
+
+def code_sections(path):
+    """The code sections by index, PROGBITS with the flags ALLOC and EXECINSTR: the addresses, and where the bytes
+    stand in the file."""
+    found = {}
+    for line in output(READELF, "-SW", path).splitlines():
+        match = re.match(r"\s*\[\s*(\d+)\]\s(.*?)\s+PROGBITS\s+([0-9a-f]{16}) ([0-9a-f]+) ([0-9a-f]+) [0-9a-f]+\s+([A-Za-z]*)\s", line)
+        if match and "A" in match[6] and "X" in match[6]:
+            start, offset, size = (int(text, 16) for text in match.group(3, 4, 5))
+            found[match[1]] = Section(range(start, start + size), offset)
+    return found
+
+
+def seeds(path):
+    """The addresses of the function symbols that stand in the code section which they name, and the entry, each
+    with its least name that is not empty, by the order of bytes, or None."""
+    sections = code_sections(path)
+    names = {entry(path): set()}
+    for line in output(READELF, "-sW", path).splitlines():
+        match = re.match(r"\s*\d+: ([0-9a-f]{16})\s+\S+ (\S+)\s+\S+\s+\S+\s+(?:\[.*\]\s+)?(\S+) ?(.*)$", line)
+        if match is None or match[2] != "FUNC" or match[3] not in sections:
+            continue
+        address = int(match[1], 16)
+        places = sections[match[3]].places
+        if address % 2 == 0 and address in places and address + 1 in places:
+            names.setdefault(address, set()).add(match[4].encode("utf-8", "surrogateescape"))
+    return {address: min(found - {b""}, default=None) for address, found in sorted(names.items())}
+
+
+def instructions(path):
+    """objdump's reading of each code section, without aliases, by address."""
+    return listed(output(OBJDUMP, "-d", "-z", "-M", "no-aliases,numeric", path))
+
+
+def instructions_from(path, address, section):
+    """objdump's reading of the bytes of a section from an address on, of 64 at the most."""
+    with open(path, "rb") as file, tempfile.NamedTemporaryFile() as part:
+        file.seek(section.offset + address - section.places.start)
+        part.write(file.read(min(64, section.places.stop - address)))
+        part.flush()
+        return listed(output(OBJDUMP, "-D", "-z", "-b", "binary", "-m", "riscv:rv64", "-M", "no-aliases,numeric",
+                             f"--adjust-vma={address:#x}", part.name))
+
+
+def listed(text):
+    found = {}
+    for line in text.splitlines():
+        match = re.match(r"\s*([0-9a-f]+):\t([0-9a-f]{4,8})(?: [0-9a-f ]*)?\t(\S+)\s*(.*)$", line)
+        if match:
+            operands = re.sub(r"\s*(<[^>]*>|#.*)", "", match[4])
+            length, word = len(match[2]) // 2, int(match[2], 16)
+            found[int(match[1], 16)] = Line(length, word, match[3], operands.split(",") if operands else [])
+    return found
