@@ -1,17 +1,14 @@
 -- How a run ends: what each refusal leaves, by its kind.
-use Rattle.std.proofs.Common.{◌≡◌, ◌≢◌, ℕ, ◌+◌, ◌<◌, ◌≤◌, Bool, true, List, [], ◌++◌, length, Option, Some, None, refl, sym, ap, ◌∙◌, subst, inl, inr, arith, length-append, append-nil}
-use Rattle.std.specs.Prelude.{IfSome, Result, Ok, Err, IfErr, nat_lt}
-use Rattle.std.specs.List.{find}
-use Rattle.std.specs.Option.{option_map}
+use Rattle.std.proofs.Common.{◌≡◌, ◌≢◌, ℕ, ◌<◌, List, [], ◌++◌, length, Option, Some, None, refl, sym, ap, subst, arith, length-append, append-nil}
+use Rattle.std.specs.Prelude.{IfSome, nat_lt}
 use Rattle.std.proofs.lemmas.Bool.{cond-true, lt-ltb}
 use Rattle.elf_image.specs.declared.fault.Fault.{Fault}
 use Rattle.elf_image.specs.declared.fault.Fault.TheVariants.{TooLarge}
 use Rattle.elf_image.specs.FaultTests.{is_too_large}
-use Rattle.elf_image.specs.Faults.{first_fault, first_among, has_fault, image_faults, symbol_faults}
+use Rattle.elf_image.specs.Faults.{first_fault, first_among, has_fault}
 use Rattle.cfg_io.specs.Told.{Appends, TakesCount}
 use Rattle.cfg.specs.declared.refusal.Refusal.{Refusal}
 use Rattle.cfg.specs.declared.refusal.Refusal.TheVariants as refusals
-use Rattle.cfg.specs.declared.status.Status.{Status}
 use Rattle.cfg.specs.declared.status.Status.TheVariants as statuses
 use Rattle.cfg.specs.Answer.{Answers}
 use Rattle.cfg.specs.Refusal.{status_of}

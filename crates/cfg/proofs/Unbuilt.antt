@@ -1,6 +1,6 @@
 -- Where a jump that is not built yet is reached, a block of the graph ends in it.
-use Rattle.std.proofs.Common.{◌≡◌, ℕ, ◌+◌, ◌<◌, Bool, true, false, ◌&&◌, List, [], ◌∷◌, length, get_or, Option, Some, None, is_some, IsTrue, IsSome, refl, sym, ap, ◌∙◌, subst, ◌≤◌, ◌⊎◌, ⊎_elim, inl, inr, arith}
-use Rattle.std.specs.List.{All, Contains}
+use Rattle.std.proofs.Common.{◌≡◌, ℕ, ◌+◌, ◌<◌, Bool, true, false, ◌&&◌, List, length, get_or, Option, Some, None, is_some, IsSome, refl, sym, ap, ◌∙◌, subst, ◌≤◌, ◌⊎◌, ⊎_elim, arith}
+use Rattle.std.specs.List.{Contains}
 use Rattle.std.specs.Option.{option_map}
 use Rattle.std.proofs.lemmas.Bool.{and_parts, cases_lt}
 use Rattle.std.proofs.lemmas.List.{get_or_default}
@@ -18,14 +18,13 @@ use Rattle.cfg_model.specs.declared.graph.EndKind.TheVariants as ends
 use Rattle.cfg_model.specs.declared.graph.Graph.{Graph}
 use Rattle.cfg_model.specs.Instructions.{Instruction, InstructionMap, flow_at, length_at, targets_at}
 use Rattle.cfg_model.specs.Chain.{GoesOnTo, OnChain, IsTerminator, IsTerminatorOf, EndsChain}
-use Rattle.cfg_model.specs.Successors.{IsSuccessor, successors_of_flow}
+use Rattle.cfg_model.specs.Successors.{successors_of_flow}
 use Rattle.cfg_model.specs.Reach.{Reached}
 use Rattle.cfg_model.specs.Block.{RunsTo, IsBlock, IsBlockTo, end_kind}
-use Rattle.cfg_model.specs.Graph.{IsEarlyGraph}
 use Rattle.cfg_model.proofs.Cover.{no_end_is_missed}
 use Rattle.code_view.specs.Flow.{flow_by}
-use Rattle.code_view.specs.Program.{program_without_tables, instruction_at}
-use Rattle.code_view.proofs.Lawful.{code_of, code-program, flow-program}
+use Rattle.code_view.specs.Program.{program_without_tables}
+use Rattle.code_view.proofs.Lawful.{code-program, flow-program}
 use Rattle.cfg.specs.Answer.{IsUnbuilt, ReachesUnbuilt, IsGraphOf, is_register_jump}
 use Rattle.cfg.specs.Unbuilt.{EndsUnbuilt}
 

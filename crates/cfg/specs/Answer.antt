@@ -1,5 +1,5 @@
 -- The answer to a file: what its bytes alone decide.
-use Rattle.std.specs.Prelude.{◌≡◌, ℕ, List, [], Option, Some, None, Bool, true, false, ◌&&◌, IsTrue}
+use Rattle.std.specs.Prelude.{◌≡◌, ℕ, List, [], Some, None, Bool, true, false, ◌&&◌, IsTrue}
 use Rattle.elf_image.specs.declared.fault.Fault.{Fault}
 use Rattle.elf_image.specs.Faults.{first_fault}
 use Rattle.elf_image.specs.Code.{is_code}

@@ -1,5 +1,5 @@
 -- The one line that each refusal puts on standard error.
-use Rattle.std.specs.Prelude.{ℕ, List, [], ◌∷◌, ◌++◌, codes}
+use Rattle.std.specs.Prelude.{ℕ, List, [], ◌++◌, codes}
 use Rattle.elf_image.specs.FaultNames.{fault_name}
 use Rattle.cfg.specs.declared.refusal.Refusal.{Refusal}
 use Rattle.cfg.specs.declared.refusal.Refusal.TheVariants.{Usage, Malformed, ReadFault, WriteFault, Memory, NotYet}

@@ -1,8 +1,6 @@
 -- What the steps of a run tell one another.
-use Rattle.std.specs.Prelude.{◌≡◌, ℕ, List, Option, Some, None, IfSome, Result, Ok, Err}
-use Rattle.elf_image.specs.declared.fault.Fault.{Fault}
+use Rattle.std.specs.Prelude.{◌≡◌, ℕ, List, Option, IfSome, Result, Ok, Err}
 use Rattle.elf_image.specs.declared.fault.Fault.TheVariants.{TooLarge}
-use Rattle.elf_image.specs.Faults.{first_fault}
 use Rattle.cfg.specs.declared.refusal.Refusal.{Refusal}
 use Rattle.cfg.specs.declared.refusal.Refusal.TheVariants as refusals
 use Rattle.cfg.specs.Answer.{IsRefusedWith}

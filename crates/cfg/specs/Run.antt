@@ -1,8 +1,8 @@
 -- What a run may leave behind.
-use Rattle.std.specs.Prelude.{◌≡◌, ℕ, ◌+◌, ◌<◌, ◌≤◌, ◌⊎◌, List, [], length, Option, Some, None, IfSome, Bool}
+use Rattle.std.specs.Prelude.{◌≡◌, ℕ, ◌⊎◌, List, [], Option, Some, IfSome, Bool}
 use Rattle.elf_image.specs.declared.fault.Fault.{Fault}
 use Rattle.elf_image.specs.Faults.{first_fault}
-use Rattle.cfg_io.specs.Told.{Appends, AppendsPrefix, TakesCount}
+use Rattle.cfg_io.specs.Told.{Appends, AppendsPrefix}
 use Rattle.cfg_io.specs.Opened.{Opened, Nothing, Something, told_path}
 use Rattle.cfg.specs.declared.status.Status.{Status}
 use Rattle.cfg.specs.declared.status.Status.TheVariants as statuses

@@ -1,4 +1,4 @@
-use Rattle.std.proofs.Common.{sym, subst, ℕ, List}
+use Rattle.std.proofs.Common.{sym, subst, ℕ}
 use Rattle.std.specs.List.{Contains}
 use Rattle.cfg_model.specs.Instructions.{InstructionMap}
 use Rattle.cfg_model.specs.Reach.{AreSeeds}

@@ -1,4 +1,4 @@
-use Rattle.std.proofs.Common.{◌≡◌, ℕ, sym, subst, ap, ◌∙◌, true, ◌&&◌, Bool, IsSome}
+use Rattle.std.proofs.Common.{◌≡◌, ℕ, sym, subst, ap, ◌∙◌, IsSome}
 use Rattle.elf_image.specs.Code.{is_code}
 use Rattle.elf_image.specs.Seeds.{seeds}
 use Rattle.cfg_model.specs.Instructions.{InstructionMap}

@@ -1,4 +1,4 @@
-use Rattle.std.proofs.Common.{◌≡◌, ◌≢◌, ℕ, ◌<◌, List, [], length, Option, None, map, string_bytes, sym, subst, ap, inl}
+use Rattle.std.proofs.Common.{◌≢◌, [], None, map, string_bytes, sym, subst, ap, inl}
 use Rattle.std.specs.Prelude.{IfSome, Err}
 use Rattle.cfg.specs.declared.refusal.Refusal.{Refusal}
 use Rattle.cfg_io.specs.Fault.{Rose}
@@ -7,7 +7,7 @@ use Rattle.cfg.specs.declared.status.Status.{Status}
 use Rattle.cfg.specs.declared.status.Status.TheVariants as statuses
 use Rattle.cfg.specs.Words.{file_asked}
 use Rattle.cfg.specs.Lines.{refusal_line}
-use Rattle.cfg.specs.Run.{IsAnswer, HasAnswered, ErrorText, Tells}
+use Rattle.cfg.specs.Run.{IsAnswer, HasAnswered, ErrorText}
 use Rattle.cfg.proofs.Endings.{answer-of, report-of, text-of, of-bytes, appends-nothing, if_some_map}
 use Rattle.cfg.proofs.run.run.Goals as goal
 

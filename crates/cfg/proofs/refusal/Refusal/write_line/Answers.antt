@@ -1,5 +1,5 @@
 -- The line goes out in four pieces. Where one fails, those before it and a part of it went out.
-use Rattle.std.proofs.Common.{◌≡◌, ◌++◌, ◌∙◌, List, ℕ, Option, subst}
+use Rattle.std.proofs.Common.{◌++◌, ◌∙◌, List, ℕ, subst}
 use Rattle.std.specs.Prelude.{codes}
 use Rattle.cfg_io.specs.Told.{Appends, AppendsPrefix}
 use Rattle.cfg.specs.Lines.{text_of, detail_of}
