@@ -16,6 +16,7 @@ pub mod FactLaws
 pub mod StatusLaws
 pub mod LeaderFacts
 pub mod ArrivalFacts
+pub mod AllowedLaws
 pub mod BlockLaws
 pub mod ShardLaws
 pub mod SoundLaws
@@ -30,5 +31,7 @@ pub mod SelfCallRow
 pub mod SelfCallClosed
 pub mod WaitRow
 pub mod ChainSteps
+pub mod ChainPlaces
 pub mod Cover
 pub mod Spreading
+pub mod Bodies

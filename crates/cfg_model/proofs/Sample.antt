@@ -1,12 +1,14 @@
 -- A program given as lists is lawful where the tests of the lists say so.
-use Rattle.std.proofs.Common.{◌≡◌, ℕ, zero, suc, ◌+◌, ◌<◌, ◌^◌, ◌⊎◌, Bool, true, false, ◌&&◌, ◌||◌, List, [], ◌∷◌, length, ◌==◌, nat_lt, Some, None, ltb-true, eqb-true, refl, sym, subst, inl, inr, ⊎_elim, arith}
+use Rattle.std.proofs.Common.{◌≡◌, ℕ, zero, suc, ◌+◌, ◌<◌, ◌^◌, ◌⊎◌, Bool, true, false, ◌&&◌, ◌||◌, List, [], ◌∷◌, length, ◌==◌, nat_lt, Some, None, get_or, add-one, ltb-true, eqb-true, refl, sym, subst, inl, inr, ⊎_elim, arith}
+use Rattle.std.specs.List.Sorted.{IsStrictlyIncreasing}
 use Rattle.std.specs.Option.{option_map, option_map_or, is_some}
 use Rattle.std.proofs.lemmas.Bool.{false≢true}
 use Rattle.std.proofs.lemmas.List.Sums.{AllPass-from_list_all}
 use Rattle.cfg_model.specs.declared.flow.Flow.{Flow}
 use Rattle.cfg_model.specs.declared.flow.Flow.TheVariants.{Straight, Branch, Jump, Call, IndirectCall, Table, Return, Unknown, Stop}
 use Rattle.cfg_model.specs.Instructions.{Instruction, IsLawful, IsLawfulAt, FlowFits, named_by, targets_at}
-use Rattle.cfg_model.specs.Sample.{Slot, slot_at, kept_by, listed_at, are_known, flow_fits, slot_fits, slots_fit, are_lawful}
+use Rattle.cfg_model.specs.Reach.{AreSeeds}
+use Rattle.cfg_model.specs.Sample.{Slot, slot_at, kept_by, listed_at, are_known, flow_fits, slot_fits, slots_fit, are_lawful, rises_from, are_seeds}
 use Rattle.cfg_model.proofs.Outline.Code.{option_map_some}
 
 and_true : (a b : Bool) → (a && b) ≡ true → (a ≡ true) × (b ≡ true)
@@ -89,3 +91,23 @@ module _ (slots : List Slot) (targets : List ℕ) where
 
   pub same_targets : (a i : ℕ) → i < length (targets_at (listed_at slots targets) a) → targets_at (listed_at slots targets) a ≡ targets
   same_targets a i h = slot_keeps (slot_at slots a) i h
+
+-- a list is one of seeds where the test says so
+
+next_rises : (a : ℕ) (more : List ℕ) → rises_from a more ≡ true → (k : ℕ) → suc k < length (a ∷ more) → get_or (a ∷ more) k 0 < get_or (a ∷ more) (suc k) 0
+next_rises a [] h k lt = absurd (omega arith)
+next_rises a (b ∷ rest) h zero lt = ltb-true a b (and_true (nat_lt a b) (rises_from b rest) h).0
+next_rises a (b ∷ rest) h (suc k) lt = next_rises b rest (and_true (nat_lt a b) (rises_from b rest) h).1 k (omega arith)
+
+rises : (a : ℕ) (more : List ℕ) → rises_from a more ≡ true → IsStrictlyIncreasing (a ∷ more)
+rises a more h = λ k lt. rw add-one (next_rises a more h k (omega arith))
+
+pub list_seeds : (slots : List Slot) (targets seeds : List ℕ) → are_seeds slots targets seeds ≡ true → AreSeeds (listed_at slots targets) seeds
+list_seeds slots targets [] h = cc
+list_seeds slots targets (a ∷ rest) h =
+    let both = and_true (rises_from a rest) (are_known slots targets (a ∷ rest)) h in
+    record {
+      rising = rises a rest both.0;
+      some = omega arith;
+      known = AllPass-from_list_all (λ b. is_some (listed_at slots targets b)) (a ∷ rest) both.1;
+    }

@@ -12,12 +12,12 @@ use Rattle.cfg_model.specs.declared.state.Mark.{Mark}
 use Rattle.cfg_model.specs.declared.state.Mark.TheVariants as marks
 use Rattle.cfg_model.specs.declared.state.Waiter.{Waiter}
 use Rattle.cfg_model.specs.Instructions.{InstructionMap}
-use Rattle.cfg_model.specs.Event.{Event, Steps, with_start, with_parsed, with_settled, with_terminator, with_changed, new_entry, entry_with_waiter, entry_with_told, entry_with_return, entry_with_done}
+use Rattle.cfg_model.specs.Event.{Event, with_start, with_parsed, with_settled, with_terminator, with_changed, new_entry, entry_with_waiter, entry_with_told, entry_with_return, entry_with_done}
 use Rattle.cfg_model.specs.Fact.{Fact, Holds}
 use Rattle.cfg_model.specs.State.{BuilderState, StartMap, EndMap, TerminatorMap, EndEntry, TerminatorEntry}
 use Rattle.cfg_model.specs.Kept.{IsKept}
-use Rattle.cfg_model.specs.Shard.{Shard, shard_of, part_of, shard_of_event, IsBacked, BackedStarts, BackedEnds, BackedTerminators}
-use Rattle.cfg_model.specs.StateLaws.{KeptIsBacked, OwnShardStaysBacked, OtherShardsStayBacked}
+use Rattle.cfg_model.specs.Shard.{Shard, shard_of, part_of, shard_of_event, IsSameShard, IsBacked, BackedStarts, BackedEnds, BackedTerminators}
+use Rattle.cfg_model.specs.StateLaws.{KeptIsBacked, OwnShardStaysBacked, OtherShardsStay, OtherShardsStayBacked}
 use Rattle.cfg_model.proofs.StateGrowth.{false_true, no_waiter, no_told, none_is_some, changed_apart}
 use Rattle.cfg_model.proofs.EndGrowth.{StandsIn, none_stand, settled_apart}
 use Rattle.cfg_model.proofs.MapFacts.{tied_equal, same_or_other, get_apart}
@@ -169,34 +169,43 @@ entered_elsewhere terminators k q true apart = refl
 entered_elsewhere terminators k q false apart = get_apart terminators k new_entry q apart
 
 -- where an event changes only the key k of the starts (of the ends, of the terminators), every other part is as it was
-only_starts : (map : InstructionMap) (seeds : List ℕ) (old : BuilderState) (starts : StartMap) (k : ℕ) → ((q : ℕ) → q ≢ k → maps.get starts q ≡ maps.get old.starts q) → ((fact : Fact) → Holds map old fact → Holds map (record old { starts = starts }) fact) → (shard : Shard) → shard ≢ Shard.Starts (shard_of k) → IsBacked map seeds old shard → IsBacked map seeds (record old { starts = starts }) shard
-only_starts map seeds old starts k elsewhere more (Shard.Starts i) differ back = subst (BackedStarts map seeds (Holds map (record old { starts = starts }))) (sym (part_same old.starts starts k i elsewhere (λ e. absurd (differ (ap Shard.Starts e))))) (starts_more map seeds old (record old { starts = starts }) more (part_of old.starts i) back)
-only_starts map seeds old starts k elsewhere more (Shard.Ends i) differ back = ends_more map seeds old (record old { starts = starts }) more (part_of old.ends i) back
-only_starts map seeds old starts k elsewhere more (Shard.Terminators i) differ back = terminators_more map seeds old (record old { starts = starts }) more (part_of old.terminators i) back
+only_starts : (old : BuilderState) (starts : StartMap) (k : ℕ) → ((q : ℕ) → q ≢ k → maps.get starts q ≡ maps.get old.starts q) → (shard : Shard) → shard ≢ Shard.Starts (shard_of k) → IsSameShard old (record old { starts = starts }) shard
+only_starts old starts k elsewhere (Shard.Starts i) differ = part_same old.starts starts k i elsewhere (λ e. absurd (differ (ap Shard.Starts e)))
+only_starts old starts k elsewhere (Shard.Ends i) differ = refl
+only_starts old starts k elsewhere (Shard.Terminators i) differ = refl
 
-only_ends : (map : InstructionMap) (seeds : List ℕ) (old : BuilderState) (ends : EndMap) (k : ℕ) → ((q : ℕ) → q ≢ k → maps.get ends q ≡ maps.get old.ends q) → ((fact : Fact) → Holds map old fact → Holds map (record old { ends = ends }) fact) → (shard : Shard) → shard ≢ Shard.Ends (shard_of k) → IsBacked map seeds old shard → IsBacked map seeds (record old { ends = ends }) shard
-only_ends map seeds old ends k elsewhere more (Shard.Starts i) differ back = starts_more map seeds old (record old { ends = ends }) more (part_of old.starts i) back
-only_ends map seeds old ends k elsewhere more (Shard.Ends i) differ back = subst (BackedEnds map seeds (Holds map (record old { ends = ends }))) (sym (part_same old.ends ends k i elsewhere (λ e. absurd (differ (ap Shard.Ends e))))) (ends_more map seeds old (record old { ends = ends }) more (part_of old.ends i) back)
-only_ends map seeds old ends k elsewhere more (Shard.Terminators i) differ back = terminators_more map seeds old (record old { ends = ends }) more (part_of old.terminators i) back
+only_ends : (old : BuilderState) (ends : EndMap) (k : ℕ) → ((q : ℕ) → q ≢ k → maps.get ends q ≡ maps.get old.ends q) → (shard : Shard) → shard ≢ Shard.Ends (shard_of k) → IsSameShard old (record old { ends = ends }) shard
+only_ends old ends k elsewhere (Shard.Starts i) differ = refl
+only_ends old ends k elsewhere (Shard.Ends i) differ = part_same old.ends ends k i elsewhere (λ e. absurd (differ (ap Shard.Ends e)))
+only_ends old ends k elsewhere (Shard.Terminators i) differ = refl
 
-only_terminators : (map : InstructionMap) (seeds : List ℕ) (old : BuilderState) (terminators : TerminatorMap) (k : ℕ) → ((q : ℕ) → q ≢ k → maps.get terminators q ≡ maps.get old.terminators q) → ((fact : Fact) → Holds map old fact → Holds map (record old { terminators = terminators }) fact) → (shard : Shard) → shard ≢ Shard.Terminators (shard_of k) → IsBacked map seeds old shard → IsBacked map seeds (record old { terminators = terminators }) shard
-only_terminators map seeds old terminators k elsewhere more (Shard.Starts i) differ back = starts_more map seeds old (record old { terminators = terminators }) more (part_of old.starts i) back
-only_terminators map seeds old terminators k elsewhere more (Shard.Ends i) differ back = ends_more map seeds old (record old { terminators = terminators }) more (part_of old.ends i) back
-only_terminators map seeds old terminators k elsewhere more (Shard.Terminators i) differ back = subst (BackedTerminators map (Holds map (record old { terminators = terminators }))) (sym (part_same old.terminators terminators k i elsewhere (λ e. absurd (differ (ap Shard.Terminators e))))) (terminators_more map seeds old (record old { terminators = terminators }) more (part_of old.terminators i) back)
+only_terminators : (old : BuilderState) (terminators : TerminatorMap) (k : ℕ) → ((q : ℕ) → q ≢ k → maps.get terminators q ≡ maps.get old.terminators q) → (shard : Shard) → shard ≢ Shard.Terminators (shard_of k) → IsSameShard old (record old { terminators = terminators }) shard
+only_terminators old terminators k elsewhere (Shard.Starts i) differ = refl
+only_terminators old terminators k elsewhere (Shard.Ends i) differ = refl
+only_terminators old terminators k elsewhere (Shard.Terminators i) differ = part_same old.terminators terminators k i elsewhere (λ e. absurd (differ (ap Shard.Terminators e)))
 
-abbrev Stays : InstructionMap → List ℕ → BuilderState → Shard → BuilderState → Type 0
-Stays map seeds old own new = ((fact : Fact) → Holds map old fact → Holds map new fact) → (shard : Shard) → shard ≢ own → IsBacked map seeds old shard → IsBacked map seeds new shard
+abbrev OthersSame : BuilderState → Shard → BuilderState → Type 0
+OthersSame old own new = (shard : Shard) → shard ≢ own → IsSameShard old new shard
 
-stays : (map : InstructionMap) (seeds : List ℕ) (old : BuilderState) (event : Event) (new : BuilderState) → Steps map old event new → Stays map seeds old (shard_of_event event) new
-stays map seeds old (Event.Want s) new step = subst (Stays map seeds old (Shard.Starts (shard_of s))) (sym step) (only_starts map seeds old (with_start old.starts s) s (λ q apart. start_elsewhere old.starts s q (maps.contains_key old.starts s) apart))
-stays map seeds old (Event.Parsed s) new step = subst (Stays map seeds old (Shard.Starts (shard_of s))) (sym step) (only_starts map seeds old (with_parsed old.starts s) s (λ q apart. parsed_elsewhere old.starts s q (maps.contains_key old.starts s) apart))
-stays map seeds old (Event.Arrive k s) new (ends, (entry, arrives, is_ends), is) = subst (Stays map seeds old (Shard.Ends (shard_of k))) (sym is) (only_ends map seeds old ends k (λ q apart. ap (λ (m : EndMap). maps.get m q) is_ends ∙ get_apart old.ends k entry q apart))
-stays map seeds old (Event.Settle k x) new step = subst (Stays map seeds old (Shard.Ends (shard_of k))) (sym step) (only_ends map seeds old (with_settled old.ends k x) k (λ q apart. settled_apart old.ends k x q apart))
-stays map seeds old (Event.Terminator k) new step = subst (Stays map seeds old (Shard.Terminators (shard_of k))) (sym step) (only_terminators map seeds old (with_terminator old.terminators k) k (λ q apart. entered_elsewhere old.terminators k q (maps.contains_key old.terminators k) apart))
-stays map seeds old (Event.Wait k w) new step = subst (Stays map seeds old (Shard.Terminators (shard_of k))) (sym step) (only_terminators map seeds old (with_changed old.terminators k (entry_with_waiter w)) k (λ q apart. changed_apart old.terminators k (entry_with_waiter w) q apart))
-stays map seeds old (Event.Returned k) new step = subst (Stays map seeds old (Shard.Terminators (shard_of k))) (sym step) (only_terminators map seeds old (with_changed old.terminators k entry_with_return) k (λ q apart. changed_apart old.terminators k entry_with_return q apart))
-stays map seeds old (Event.Told k w) new step = subst (Stays map seeds old (Shard.Terminators (shard_of k))) (sym step) (only_terminators map seeds old (with_changed old.terminators k (entry_with_told w)) k (λ q apart. changed_apart old.terminators k (entry_with_told w) q apart))
-stays map seeds old (Event.EdgesDone k) new step = subst (Stays map seeds old (Shard.Terminators (shard_of k))) (sym step) (only_terminators map seeds old (with_changed old.terminators k entry_with_done) k (λ q apart. changed_apart old.terminators k entry_with_done q apart))
+changed_only : (old : BuilderState) (k : ℕ) (change : TerminatorEntry → TerminatorEntry) (new : BuilderState) → new ≡ record old { terminators = with_changed old.terminators k change } → OthersSame old (Shard.Terminators (shard_of k)) new
+changed_only old k change new step = subst (OthersSame old (Shard.Terminators (shard_of k))) (sym step) (only_terminators old (with_changed old.terminators k change) k (λ q apart. changed_apart old.terminators k change q apart))
+
+pub other_shards_stay : OtherShardsStay
+other_shards_stay map old (Event.Want s) new step = subst (OthersSame old (Shard.Starts (shard_of s))) (sym step) (only_starts old (with_start old.starts s) s (λ q apart. start_elsewhere old.starts s q (maps.contains_key old.starts s) apart))
+other_shards_stay map old (Event.Parsed s) new step = subst (OthersSame old (Shard.Starts (shard_of s))) (sym step) (only_starts old (with_parsed old.starts s) s (λ q apart. parsed_elsewhere old.starts s q (maps.contains_key old.starts s) apart))
+other_shards_stay map old (Event.Arrive k s) new (ends, (entry, arrives, is_ends), is) = subst (OthersSame old (Shard.Ends (shard_of k))) (sym is) (only_ends old ends k (λ q apart. ap (λ (m : EndMap). maps.get m q) is_ends ∙ get_apart old.ends k entry q apart))
+other_shards_stay map old (Event.Settle k x) new step = subst (OthersSame old (Shard.Ends (shard_of k))) (sym step) (only_ends old (with_settled old.ends k x) k (λ q apart. settled_apart old.ends k x q apart))
+other_shards_stay map old (Event.Terminator k) new step = subst (OthersSame old (Shard.Terminators (shard_of k))) (sym step) (only_terminators old (with_terminator old.terminators k) k (λ q apart. entered_elsewhere old.terminators k q (maps.contains_key old.terminators k) apart))
+other_shards_stay map old (Event.Wait k w) new step = changed_only old k (entry_with_waiter w) new step
+other_shards_stay map old (Event.Returned k) new step = changed_only old k entry_with_return new step
+other_shards_stay map old (Event.Told k w) new step = changed_only old k (entry_with_told w) new step
+other_shards_stay map old (Event.EdgesDone k) new step = changed_only old k entry_with_done new step
+
+-- a shard that is as it was, in a state of which no less is known, is backed if it was
+backed_still : (map : InstructionMap) (seeds : List ℕ) (old new : BuilderState) → ((fact : Fact) → Holds map old fact → Holds map new fact) → (shard : Shard) → IsSameShard old new shard → IsBacked map seeds old shard → IsBacked map seeds new shard
+backed_still map seeds old new more (Shard.Starts i) same back = subst (BackedStarts map seeds (Holds map new)) (sym same) (starts_more map seeds old new more (part_of old.starts i) back)
+backed_still map seeds old new more (Shard.Ends i) same back = subst (BackedEnds map seeds (Holds map new)) (sym same) (ends_more map seeds old new more (part_of old.ends i) back)
+backed_still map seeds old new more (Shard.Terminators i) same back = subst (BackedTerminators map (Holds map new)) (sym same) (terminators_more map seeds old new more (part_of old.terminators i) back)
 
 pub other_shards_stay_backed : OtherShardsStayBacked
-other_shards_stay_backed map seeds lawful old event new may step shard differ back = stays map seeds old event new step (facts_last map seeds lawful old event new may step) shard differ back
+other_shards_stay_backed map seeds lawful old event new may step shard differ back = backed_still map seeds old new (facts_last map seeds lawful old event new may step) shard (other_shards_stay map old event new step shard differ) back

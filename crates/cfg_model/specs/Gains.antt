@@ -1,8 +1,15 @@
 -- A list that grows.
-use Rattle.std.specs.Prelude.{◌⊎◌, List, Contains}
+use Rattle.std.specs.Prelude.{◌≡◌, ◌⊎◌, List, ◌++◌, Contains}
 
 -- new has what old has, all that holds besides, and nothing else.
 pub record Gains {X : Type 0} (old new : List X) (Holds : X → Type 0) : Type 0 where
   pub kept : (x : X) → Contains old x → Contains new x
   pub added : (x : X) → Holds x → Contains new x
   pub nothing_else : (x : X) → Contains new x → Contains old x ⊎ Holds x
+
+-- The same where new goes on where old ends.
+pub record Extends {X : Type 0} (old new : List X) (Holds : X → Type 0) : Type 0 where
+  pub rest : List X
+  pub goes_on : new ≡ old ++ rest
+  pub has : (x : X) → Holds x → Contains new x
+  pub only : (x : X) → Contains new x → Contains old x ⊎ Holds x

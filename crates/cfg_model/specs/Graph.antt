@@ -1,5 +1,5 @@
 -- The control-flow graph of a program.
-use Rattle.std.specs.Prelude.{◌≡◌, ℕ, ◌<◌, ◌⊎◌, List, []}
+use Rattle.std.specs.Prelude.{◌≡◌, ℕ, ◌<◌, ◌⊎◌, List}
 use Rattle.cfg_model.specs.declared.graph.Block.{Block}
 use Rattle.cfg_model.specs.declared.graph.Edge.{Edge}
 use Rattle.cfg_model.specs.declared.graph.EdgeKind.{EdgeKind}
@@ -46,9 +46,3 @@ pub record IsGraph (map : InstructionMap) (seeds : List ℕ) (entry : ℕ) (grap
   pub functions : Lists FunctionBefore (IsFunction map seeds) graph.functions
   pub blocks : Lists BlockBefore (IsBlock map seeds) graph.blocks
   pub edges : Lists EdgeBefore (IsMarkedEdge map seeds) graph.edges
-
--- The graph as it is known before functions are: no functions, and no jump told to be a tail call.
-pub record IsEarlyGraph (map : InstructionMap) (seeds : List ℕ) (entry : ℕ) (graph : Graph) : Type 0 where
-  pub starts : graph.entry ≡ entry
-  pub functions : graph.functions ≡ []
-  pub outline : IsOutline map seeds graph.blocks graph.edges

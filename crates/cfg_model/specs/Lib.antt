@@ -10,6 +10,8 @@ pub mod Block
 pub mod Edge
 pub mod Listing
 pub mod Function
+pub mod Bodies
+pub mod TailMarks
 pub mod Graph
 pub mod Cuts
 pub mod Unique

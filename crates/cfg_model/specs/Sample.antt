@@ -1,5 +1,5 @@
 -- Small programs for tests, given as lists.
-use Rattle.std.specs.Prelude.{ℕ, ◌+◌, ◌^◌, ◌==◌, nat_lt, suc, Bool, true, ◌&&◌, ◌||◌, List, [], ◌∷◌, length, Option, Some, None, is_some, slice_index_or}
+use Rattle.std.specs.Prelude.{ℕ, ◌+◌, ◌^◌, ◌==◌, nat_lt, suc, Bool, true, false, ◌&&◌, ◌||◌, List, [], ◌∷◌, length, Option, Some, None, is_some, slice_index_or}
 use Rattle.std.specs.List.{list_all}
 use Rattle.std.specs.Option.{option_map}
 use Rattle.cfg_model.specs.declared.flow.Flow.{Flow}
@@ -57,3 +57,12 @@ slots_fit slots targets a (s ∷ rest) = slot_fits slots targets a s && slots_fi
 
 abbrev pub are_lawful : List Slot → List ℕ → Bool
 are_lawful slots targets = slots_fit slots targets 0 slots
+
+-- Tests of a list that it rises, and that it lists seeds of the program.
+abbrev pub rises_from : ℕ → List ℕ → Bool
+rises_from a [] = true
+rises_from a (b ∷ rest) = nat_lt a b && rises_from b rest
+
+abbrev pub are_seeds : List Slot → List ℕ → List ℕ → Bool
+are_seeds slots targets [] = false
+are_seeds slots targets (a ∷ rest) = rises_from a rest && are_known slots targets (a ∷ rest)

@@ -1,5 +1,5 @@
 -- A state in shards: each of its three maps in 64 parts by address, and what one part shows alone.
-use Rattle.std.specs.Prelude.{ℕ, ◌/◌, ◌%◌, ◌==◌, List}
+use Rattle.std.specs.Prelude.{◌≡◌, ℕ, ◌/◌, ◌%◌, ◌==◌, List}
 use Rattle.std.specs.Ordering.{nat_cmp}
 use Rattle.std.specs.FinMap as maps
 use Rattle.cfg_model.specs.Instructions.{InstructionMap}
@@ -33,6 +33,12 @@ shard_of_event (Event.Wait k w) = Shard.Terminators (shard_of k)
 shard_of_event (Event.Returned k) = Shard.Terminators (shard_of k)
 shard_of_event (Event.Told k w) = Shard.Terminators (shard_of k)
 shard_of_event (Event.EdgesDone k) = Shard.Terminators (shard_of k)
+
+-- The shard is in the new state as it was in the old one.
+abbrev pub IsSameShard : BuilderState → BuilderState → Shard → Type 0
+IsSameShard old new (Shard.Starts number) = part_of new.starts number ≡ part_of old.starts number
+IsSameShard old new (Shard.Ends number) = part_of new.ends number ≡ part_of old.ends number
+IsSameShard old new (Shard.Terminators number) = part_of new.terminators number ≡ part_of old.terminators number
 
 -- Some starts are backed: the items of the invariant on starts hold of them, and what these ask of
 -- other entries is known. Likewise some ends, and some terminators.

@@ -9,7 +9,7 @@ use Rattle.cfg_model.specs.State.{BuilderState, empty_state, IsStart, IsNear, St
 use Rattle.cfg_model.specs.Brought.{facts_of}
 use Rattle.cfg_model.specs.Left.{HasNothingLeft, IsSettled}
 use Rattle.cfg_model.specs.Kept.{KeepsBlocks, KeepsStatus, ReturnedReturn, IsKept, IsClosed}
-use Rattle.cfg_model.specs.Shard.{Shard, shard_of_event, IsBacked}
+use Rattle.cfg_model.specs.Shard.{Shard, shard_of_event, IsSameShard, IsBacked}
 use Rattle.cfg_model.specs.Sound.{IsSound}
 use Rattle.cfg_model.specs.Shown.{ShowsGraph, ShowSame}
 use Rattle.cfg_model.specs.Run.{IsRun}
@@ -31,6 +31,14 @@ FactsLast = (map : InstructionMap) (seeds : List ℕ) → IsLawful map → (old 
 
 abbrev pub ReasonsLast : Type 0
 ReasonsLast = (map : InstructionMap) (seeds : List ℕ) → IsLawful map → (old : BuilderState) (event : Event) (new : BuilderState) → May map seeds old event → Steps map old event new → (other : Event) → Reason map seeds (Holds map old) other → Reason map seeds (Holds map new) other
+
+-- So what a state allows is allowed after every event that it allows.
+abbrev pub AllowedStaysAllowed : Type 0
+AllowedStaysAllowed = (map : InstructionMap) (seeds : List ℕ) → IsLawful map → (old : BuilderState) (event : Event) (new : BuilderState) → May map seeds old event → Steps map old event new → (other : Event) → May map seeds old other → May map seeds new other
+
+-- Where blocks are kept, a reason is enough: what an arrival asks of the end besides holds there.
+abbrev pub ReasonsSuffice : Type 0
+ReasonsSuffice = (map : InstructionMap) (seeds : List ℕ) (state : BuilderState) (event : Event) → KeepsBlocks map seeds state → Reason map seeds (Holds map state) event → May map seeds state event
 
 -- What an event brings holds after it. And what is read at an end is known: where x stands at k, k has
 -- an entry, and x is anchored at or before k.
@@ -54,6 +62,10 @@ EventsKeepStatus = (map : InstructionMap) (seeds : List ℕ) → IsLawful map �
 
 abbrev pub EventsKeepKept : Type 0
 EventsKeepKept = (map : InstructionMap) (seeds : List ℕ) → IsLawful map → (old : BuilderState) (event : Event) (new : BuilderState) → IsKept map seeds old → May map seeds old event → Steps map old event new → IsKept map seeds new
+
+-- An event changes no shard but its own.
+abbrev pub OtherShardsStay : Type 0
+OtherShardsStay = (map : InstructionMap) (old : BuilderState) (event : Event) (new : BuilderState) → Steps map old event new → (shard : Shard) → shard ≢ shard_of_event event → IsSameShard old new shard
 
 -- An event that a kept state allows leaves its own shard backed; and it leaves every other shard
 -- backed that was, without a further reason.

@@ -7,15 +7,11 @@ use Rattle.cfg_model.specs.declared.graph.Graph.{Graph}
 use Rattle.cfg_model.specs.Instructions.{InstructionMap}
 use Rattle.cfg_model.specs.Block.{IsBlock}
 use Rattle.cfg_model.specs.Function.{IsFunction}
-use Rattle.cfg_model.specs.Graph.{IsGraph, IsEarlyGraph, IsOutline}
+use Rattle.cfg_model.specs.Graph.{IsGraph, IsOutline}
 
 -- Two graphs of one program, from the same seeds and with the same entry, are equal.
 abbrev pub GraphIsUnique : Type 0
 GraphIsUnique = (map : InstructionMap) (seeds : List ℕ) (entry : ℕ) (a b : Graph) → IsGraph map seeds entry a → IsGraph map seeds entry b → a ≡ b
-
--- The same of the graph before functions are known.
-abbrev pub EarlyGraphIsUnique : Type 0
-EarlyGraphIsUnique = (map : InstructionMap) (seeds : List ℕ) (entry : ℕ) (a b : Graph) → IsEarlyGraph map seeds entry a → IsEarlyGraph map seeds entry b → a ≡ b
 
 -- The same of the blocks and edges alone.
 abbrev pub OutlineIsUnique : Type 0

@@ -1,6 +1,6 @@
 //! Functions, basic blocks and edges as plain data, and their lists.
 
-ghost use Rattle.std.specs.Prelude.{◌≡◌, ◌<◌, length, slice_set};
+ghost use Rattle.std.specs.Prelude.{◌≡◌, ◌<◌, length, slice_get, slice_set, IfSome};
 
 use std::marker::Model;
 
@@ -176,6 +176,14 @@ impl Edges {
         ensures { result.now ≡ self.now }
     {
         self.items.as_slice()
+    }
+
+    /// Sets the kind of edge number `i`, and leaves all else as it is.
+    pub fn set_kind(&mut self, i: usize, kind: EdgeKind)
+        requires { i < length self.old }
+        ensures { IfSome (slice_get self.old i) (λ edge. self.new ≡ slice_set self.old i (record edge { kind = kind })) }
+    {
+        self.items[i].kind = kind;
     }
 }
 

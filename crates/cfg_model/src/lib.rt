@@ -18,7 +18,7 @@ pub mod memory;
 pub mod plain;
 pub mod state;
 
-pub use chain::term;
+pub use chain::{before, meet, on_chain, term};
 pub use flow::{Chains, Flow};
 pub use graph::{
     Addresses, Block, Blocks, Edge, EdgeKind, Edges, EndKind, Function, Functions, Graph,

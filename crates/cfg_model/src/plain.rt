@@ -2,11 +2,13 @@
 
 ghost use Rattle.std.specs.Prelude.{IfOk, Contains};
 ghost use Rattle.cfg_model.specs.Reach.{AreSeeds};
-ghost use Rattle.cfg_model.specs.Graph.{IsEarlyGraph};
+ghost use Rattle.cfg_model.specs.Graph.{IsGraph};
 
 mod blocks;
 mod closure;
 mod edges;
+mod found;
+mod functions;
 mod leaders;
 mod outline;
 mod spread;
@@ -17,13 +19,17 @@ use crate::flow::Chains;
 use crate::graph::{Blocks, Edges, Functions, Graph};
 use crate::memory::Memory;
 use crate::plain::closure::closure_of;
+use crate::plain::functions::functions_of;
+use crate::plain::functions::tails::mark_tails;
 use crate::plain::outline::outline_of;
 use std::alloc::Global;
 
-/// The graph of the program `code` from the addresses `seeds`, without functions, or want of memory.
+/// The graph of the program `code` from the addresses `seeds`, or want of memory.
 ///
-/// The closure is found in one pass and made sure of in one round; each pass takes linear time in the
-/// number of reached addresses but for the look-ups in ordered sets and among the blocks.
+/// The closure is found in one pass and made sure of in one round, and then cut into blocks and edges:
+/// each of these passes takes linear time in the number of reached addresses but for the look-ups in
+/// ordered sets and among the blocks. The time of the functions is that of their bodies together, which
+/// may share blocks.
 pub fn plain_graph<C: Chains>(
     alloc: Global,
     code: &C,
@@ -32,14 +38,17 @@ pub fn plain_graph<C: Chains>(
 ) -> Result<Graph, Memory>
     requires seeds { AreSeeds (C.map code.now) seeds.now }
     requires entry { Contains seeds.now entry }
-    ensures graph { IfOk result (IsEarlyGraph (C.map code.now) seeds.now entry) }
+    ensures graph { IfOk result (IsGraph (C.map code.now) seeds.now entry) }
 {
     let closure = closure_of(alloc, code, seeds)?;
     let (blocks, edges) = outline_of(alloc, code, &closure, seeds)?;
+    let functions = functions_of(alloc, &edges, &closure, seeds)?;
+    let mut edges = Edges::from_vec(edges);
+    mark_tails(&functions, &mut edges);
     Ok(Graph {
         entry,
-        functions: Functions::from_vec(Vec::new(alloc)),
+        functions: Functions::from_vec(functions),
         blocks: Blocks::from_vec(blocks),
-        edges: Edges::from_vec(edges),
+        edges,
     })
 }

@@ -34,6 +34,12 @@ ways_within map leaders returning s k old new last gains =
     (λ edge is. subst (λ x. WaysFrom map returning s x edge) (one_last is.1.runs is.1.stops k last.runs last.stops) is.2)
     gains
 
+-- a block of a reached address is reached
+pub reached_along : {map : InstructionMap} {seeds : List ℕ} {s k : ℕ} → Reached map seeds s → RunsTo map seeds s k → Reached map seeds k
+reached_along r RunsTo.here = r
+reached_along {map = map} r (RunsTo.on {s = s} {next = next} goes none rest) =
+    reached_along (Reached.onward r (successor_by map s next (Straight next) goes (Contains-here next []))) rest
+
 -- where the list has exactly the leaders
 
 module _ (map : InstructionMap) (seeds leaders : List ℕ) (exact : (a : ℕ) → Contains leaders a ↔ IsLeader map seeds a) where
@@ -105,10 +111,6 @@ module _ (map : InstructionMap) (seeds leaders : List ℕ) (exact : (a : ℕ) �
   -- edges
 
   module _ (reached returning : List ℕ) (closure : IsClosure map seeds reached returning) where
-    reached_along : {s k : ℕ} → Reached map seeds s → RunsTo map seeds s k → Reached map seeds k
-    reached_along r RunsTo.here = r
-    reached_along r (RunsTo.on {s = s} {next = next} goes none rest) = reached_along (Reached.onward r (successor_by map s next (Straight next) goes (Contains-here next []))) rest
-
     abbrev Leads : ℕ → ℕ → Edge → Type 0
     Leads s k edge = (edge.from ≡ s) × LeadsTo map k edge.to edge.kind
 

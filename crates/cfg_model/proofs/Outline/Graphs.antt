@@ -8,7 +8,7 @@ use Rattle.cfg_model.specs.Status.{Returns}
 use Rattle.cfg_model.specs.Function.{InBody}
 use Rattle.cfg_model.specs.Listing.{Lists}
 use Rattle.cfg_model.specs.Graph.{BlockBefore, FunctionBefore, EdgeBefore, rank}
-use Rattle.cfg_model.specs.Unique.{GraphIsUnique, EarlyGraphIsUnique, OutlineIsUnique, FunctionIsUnique}
+use Rattle.cfg_model.specs.Unique.{GraphIsUnique, OutlineIsUnique, FunctionIsUnique}
 use Rattle.cfg_model.proofs.Outline.Lists.{IsAsymmetric, one_listing}
 
 pub blocks_asymmetric : IsAsymmetric BlockBefore
@@ -55,11 +55,6 @@ one_graph map seeds entry a b p q =
     (one_listing FunctionBefore _ functions_asymmetric a.functions b.functions p.functions q.functions)
     (one_listing BlockBefore _ blocks_asymmetric a.blocks b.blocks p.blocks q.blocks)
     (one_listing EdgeBefore _ edges_asymmetric a.edges b.edges p.edges q.edges)
-
-pub one_early_graph : EarlyGraphIsUnique
-one_early_graph map seeds entry a b p q =
-    let both = one_outline map seeds a.blocks b.blocks a.edges b.edges p.outline q.outline in
-    same_graph a b (p.starts ∙ sym q.starts) (p.functions ∙ sym q.functions) both.0 both.1
 
 -- a function is known by its entry
 

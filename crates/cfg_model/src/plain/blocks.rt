@@ -40,7 +40,7 @@ fn onward<C: Chains>(code: &C, leaders: &[u64], k: u64) -> Option<u64>
 }
 
 /// Whether the rising list `addresses` has `a`.
-fn is_listed(addresses: &[u64], a: u64) -> bool
+pub(crate) fn is_listed(addresses: &[u64], a: u64) -> bool
     requires { IsStrictlyIncreasing addresses.now }
     ensures { IsTrue result ↔ Contains addresses.now a }
 {

@@ -5,17 +5,17 @@
 //! ones are those known so far; [`mark`] looks for further returning ones among them. A round that
 //! marks nothing is the last.
 
-ghost use Rattle.std.specs.Prelude.{◌≡◌, ◌↔◌, ◌⊎◌, ◌<◌, ◌+◌, [], ◌∷◌, ◌++◌, ℕ, ◌^◌, IfOk, OnOk, IsTrue, Contains, length, option_to_list, IsSome};
+ghost use Rattle.std.specs.Prelude.{◌≡◌, ◌↔◌, ◌⊎◌, ◌<◌, [], ◌∷◌, ℕ, ◌^◌, IfOk, OnOk, IsTrue, Contains, length, option_to_list, IsSome};
 ghost use Rattle.std.specs.List.Sorted.{IsStrictlyIncreasing};
 ghost use Rattle.std.specs.BTreeSet.{btree_set_len};
 ghost use Rattle.cfg_model.specs.Instructions.{IsLawful, targets_at};
-ghost use Rattle.cfg_model.specs.Successors.{IsCall};
 ghost use Rattle.cfg_model.specs.Reach.{AreSeeds};
 ghost use Rattle.cfg_model.specs.Closure.{IsClosure};
 ghost use Rattle.cfg_model.specs.Rounds.{ReturnsBy, Meet, IsWithin, HaveSame, Adds, Follows, AreKnown, AreReached, AreReturning, IsClosedUnder, AreAllMarked, Marks};
 
 use crate::flow::{Chains, Flow};
 use crate::memory::Memory;
+use crate::plain::found::{Found, has, insert};
 use crate::plain::spread::spread;
 use std::alloc::Global;
 use std::collections::BTreeSet;
@@ -76,64 +76,16 @@ pub(crate) fn closure_of<C: Chains>(
             break;
         }
     }
-    found.into_closure(alloc, returning)
+    closure_from(alloc, found, returning)
 }
 
-/// The addresses found so far: in the order found, and as a set.
-#[derive(Drop)]
-pub(crate) struct Found {
-    pub(crate) order: Vec<u64>,
-    pub(crate) members: BTreeSet<u64>,
-}
-
-impl Found {
-    /// These addresses.
-    fn of(alloc: Global, seeds: &[u64]) -> Result<Self, Memory>
-        ensures same { IfOk result (λ found. HaveSame found.order.items found.members.keys) }
-        ensures seeds { IfOk result (λ found. HaveSame found.order.items seeds.now) }
-    {
-        let mut found = Found {
-            order: Vec::new(alloc),
-            members: BTreeSet::new(alloc),
-        };
-        for a in seeds {
-            found.add(*a)?;
-        }
-        Ok(found)
-    }
-
-    /// Adds an address, unless it is there.
-    fn add(&mut self, a: u64) -> Result<(), Memory>
-        requires { HaveSame self.old.order.items self.old.members.keys }
-        ensures same { OnOk result (HaveSame self.new.order.items self.new.members.keys) }
-        ensures adds { OnOk result (Adds self.old.order.items self.new.order.items (a ∷ [])) }
-    {
-        if insert(&mut self.members, a)? {
-            self.order.push(a)?;
-        }
-        Ok(())
-    }
-
-    /// Adds an address, where there is one.
-    fn add_any(&mut self, a: Option<u64>) -> Result<(), Memory>
-        requires { HaveSame self.old.order.items self.old.members.keys }
-        ensures same { OnOk result (HaveSame self.new.order.items self.new.members.keys) }
-        ensures adds { OnOk result (Adds self.old.order.items self.new.order.items (option_to_list a)) }
-    {
-        match a {
-            Some(a) => self.add(a),
-            None => Ok(()),
-        }
-    }
-
-    /// The closure of which these are the reached addresses.
-    fn into_closure(self, alloc: Global, returning: BTreeSet<u64>) -> Result<Closure, Memory>
-        ensures reached { IfOk result (λ c. c.reached.items ≡ self.members.keys) }
-        ensures returning { IfOk result (λ c. c.returning ≡ returning) }
-    {
-        let reached: Vec<u64> = self.members.iter().copied().collect(alloc)?;
-        Ok(Closure { reached, returning })
-    }
+/// The closure of which these are the reached addresses.
+fn closure_from(alloc: Global, found: Found, returning: BTreeSet<u64>) -> Result<Closure, Memory>
+    ensures reached { IfOk result (λ c. c.reached.items ≡ found.members.keys) }
+    ensures returning { IfOk result (λ c. c.returning ≡ returning) }
+{
+    let reached = found.into_rising(alloc)?;
+    Ok(Closure { reached, returning })
 }
 
 /// Finds what the addresses found lead to, and what these lead to, and so on, where the returning
@@ -275,13 +227,6 @@ fn table_returns<C: Chains>(code: &C, a: u64, entries: u32, returning: &BTreeSet
     false
 }
 
-/// Whether the set has `a`.
-pub(crate) fn has(set: &BTreeSet<u64>, a: u64) -> bool
-    ensures { IsTrue result ↔ Contains set.now.keys a }
-{
-    set.contains(&a)
-}
-
 /// Whether there is an address that the set has.
 fn has_any(set: &BTreeSet<u64>, a: Option<u64>) -> bool
     ensures { IsTrue result ↔ Meet (option_to_list a) set.now.keys }
@@ -290,16 +235,4 @@ fn has_any(set: &BTreeSet<u64>, a: Option<u64>) -> bool
         Some(a) => has(set, a),
         None => false,
     }
-}
-
-/// Adds an address to the set, and answers whether it is new.
-fn insert(set: &mut BTreeSet<u64>, a: u64) -> Result<bool, Memory>
-    ensures has { OnOk result (Contains set.new.keys a) }
-    ensures kept { OnOk result (IsWithin set.old.keys set.new.keys) }
-    ensures only { OnOk result ((b : ℕ) → Contains set.new.keys b → Contains set.old.keys b ⊎ (b ≡ a)) }
-    ensures new { IfOk result (λ new. IsTrue new ↔ ¬ Contains set.old.keys a) }
-    ensures old { IfOk result (λ new. ¬ IsTrue new → set.new.keys ≡ set.old.keys) }
-    ensures len { IfOk result (λ new. IsTrue new → btree_set_len set.new ≡ btree_set_len set.old + 1) }
-{
-    Ok(set.insert(a)?)
 }

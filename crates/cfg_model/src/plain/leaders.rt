@@ -31,7 +31,7 @@ pub(crate) fn leaders_of<C: Chains>(
 }
 
 /// The same addresses, rising, each once.
-fn rising(mut addresses: Vec<u64>) -> Vec<u64>
+pub(crate) fn rising(mut addresses: Vec<u64>) -> Vec<u64>
     ensures rising { IsStrictlyIncreasing result.items }
     ensures same { (a : ℕ) → Contains result.items a ↔ Contains addresses.items a }
 {

@@ -10,7 +10,8 @@ ghost use Rattle.cfg_model.specs.Rounds.{IsFoundSoFar, FindsMore};
 
 use crate::flow::{Chains, Flow};
 use crate::memory::Memory;
-use crate::plain::closure::{Found, follow_one, has, mark_one};
+use crate::plain::closure::{follow_one, mark_one};
+use crate::plain::found::{Found, has};
 use std::alloc::Global;
 use std::collections::{BTreeMap, BTreeSet};
 

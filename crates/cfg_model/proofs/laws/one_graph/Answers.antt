@@ -1,6 +1,6 @@
-use Rattle.cfg_model.proofs.Outline.Graphs.{one_graph, one_early_graph, one_outline, function_unique}
+use Rattle.cfg_model.proofs.Outline.Graphs.{one_graph, one_outline, function_unique}
 use Rattle.cfg_model.proofs.Outline.OneBlock.{block_unique}
 use Rattle.cfg_model.proofs.laws.one_graph.Goals as goal
 
 pub returns : goal.returns
-returns c = record { whole = one_graph; early = one_early_graph; outline = one_outline; block = block_unique; function = function_unique }
+returns c = record { whole = one_graph; outline = one_outline; block = block_unique; function = function_unique }

@@ -39,9 +39,9 @@ returns g c =
     c.in_ok-mark.ensures.same (λ t. absurd (cc)) in
     let whole = closure_at_end _ _ _ _ _ followed c.in_ok-follow.ensures.closed all in
     record {
-      closure = from_both c.into_closure.result _ _ _ c.into_closure.ensures.reached c.into_closure.ensures.returning
+      closure = from_both c.closure_from.result _ _ _ c.closure_from.ensures.reached c.closure_from.ensures.returning
           (λ x r s. rw (r, s, same) whole);
-      known = IfOk-weaker c.into_closure.result _ _
+      known = IfOk-weaker c.closure_from.result _ _
           (λ x r. record { each = λ a h. c.in_ok-follow.ensures.known.each a ((c.in_ok-follow.ensures.same.each a).1 (rw r at h)) })
-          c.into_closure.ensures.reached;
+          c.closure_from.ensures.reached;
     }
