@@ -1,0 +1,5 @@
+use Rattle.cfg_model.proofs.StepLaws.{meeting_is_unique}
+use Rattle.split_laws.proofs.chains_meet_once.Goals as goal
+
+pub returns : goal.returns
+returns c = meeting_is_unique

@@ -1,0 +1,5 @@
+use Rattle.cfg_model.proofs.AllowedLaws as laws
+use Rattle.split_laws.proofs.reasons_suffice.Goals as goal
+
+pub returns : goal.returns
+returns c = laws.reasons_suffice

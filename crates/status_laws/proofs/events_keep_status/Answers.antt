@@ -1,0 +1,5 @@
+use Rattle.cfg_model.proofs.StatusLaws as laws
+use Rattle.status_laws.proofs.events_keep_status.Goals as goal
+
+pub returns : goal.returns
+returns c = laws.events_keep_status

@@ -1,0 +1,39 @@
+//! What events keep of return status, of each shard and of what is known, and what a closed state shows.
+//! Each law is proved as the contract of a function that does nothing. It holds for every lawful program
+//! and all seeds, and speaks of all nine events.
+#![tactic(auto)]
+
+ghost use Rattle.cfg_model.specs.StateLaws.{EventsKeepStatus, FactsLast, ReasonsLast, AllowedStaysAllowed, OwnShardStaysBacked, OtherShardsStay, OtherShardsStayBacked, KeptIsBacked, ClosedShowsGraph};
+
+/// Each allowed event keeps what the invariant says of return status: what is marked as returning returns,
+/// and waits, terminators that are dealt with and waiters that were told still have the reason to be. The
+/// law that an event keeps the whole invariant stands on it.
+pub fn events_keep_status()
+    ensures { EventsKeepStatus }
+{}
+
+/// What is known of a state stays true under every allowed event, and so does the reason for another
+/// event, and what is allowed stays allowed. A builder relies on it that looks at one entry, lets others
+/// make their events, and then makes its own.
+pub fn what_is_known_lasts()
+    ensures facts { FactsLast }
+    ensures reasons { ReasonsLast }
+    ensures allowed { AllowedStaysAllowed }
+{}
+
+/// A state is kept exactly where each of its shards is backed. An event changes no shard but its own; an
+/// allowed one leaves its own shard backed, and every other one that was. Whoever keeps the shards under
+/// locks of their own relies on it, and looks at one shard at a time.
+pub fn shards_stay_backed()
+    ensures whole { KeptIsBacked }
+    ensures own { OwnShardStaysBacked }
+    ensures same { OtherShardsStay }
+    ensures others { OtherShardsStayBacked }
+{}
+
+/// A closed state shows exactly the graph: the leaders, the first and last addresses of the blocks, the
+/// reachable terminators, and those of them that return. That the order of events does not matter stands
+/// on it.
+pub fn a_closed_state_shows_the_graph()
+    ensures { ClosedShowsGraph }
+{}
