@@ -10,6 +10,7 @@ use Rattle.rv_decode.specs.Table.{instruction, rows, upper_rows, jump_rows, bran
 use Rattle.rvc_expand.specs.Table.{expansion, forms, quadrant_0, quadrant_1, quadrant_2}
 use Rattle.rvc_expand.specs.Halfword.{shift_amount, small_immediate, lui_immediate, addi16sp_immediate, addi4spn_immediate, word_offset, double_offset, lwsp_offset, ldsp_offset, swsp_offset, sdsp_offset, jump_offset, branch_offset}
 use Rattle.rvc_expand.specs.Formats.{r_type, i_type, s_type, b_type, u_type, j_type}
+use Rattle.jump_table.specs.Section.{straight_run}
 use Rattle.jump_table.specs.Bound.{bound_test}
 use Rattle.jump_table.specs.Table.{table_at, table_targets}
 
@@ -51,17 +52,17 @@ plain_file =
 
 -- the eighth entry counts, since the bound test is `bltu`, and the ninth word does not
 plain_table : table_at plain_file 0x1001C ≡ Some (record { base = 0x20000; count = 8; bound = 8; add = 0x20000 })
-unfolding plain_file u16_at u32_at u64_at section sections code_section_of data_section_of instruction rows upper_rows jump_rows branch_rows load_rows store_rows imm_rows imm_w_rows reg_rows reg_w_rows atomic_rows_of atomic_rows fence_rows system_rows expansion forms quadrant_0 quadrant_1 quadrant_2 shift_amount small_immediate lui_immediate addi16sp_immediate addi4spn_immediate word_offset double_offset lwsp_offset ldsp_offset swsp_offset sdsp_offset jump_offset branch_offset r_type i_type s_type b_type u_type j_type table_at bound_test
+unfolding plain_file u16_at u32_at u64_at section sections code_section_of data_section_of instruction rows upper_rows jump_rows branch_rows load_rows store_rows imm_rows imm_w_rows reg_rows reg_w_rows atomic_rows_of atomic_rows fence_rows system_rows expansion forms quadrant_0 quadrant_1 quadrant_2 shift_amount small_immediate lui_immediate addi16sp_immediate addi4spn_immediate word_offset double_offset lwsp_offset ldsp_offset swsp_offset sdsp_offset jump_offset branch_offset r_type i_type s_type b_type u_type j_type table_at bound_test straight_run
 plain_table = refl
 
 plain_targets : table_targets plain_file (record { base = 0x20000; count = 8; bound = 8; add = 0x20000 })
     ≡ 0x10020 ∷ 0x10020 ∷ 0x10020 ∷ 0x10020 ∷ 0x10020 ∷ 0x10020 ∷ 0x10020 ∷ 0x10024 ∷ []
-unfolding plain_file u16_at u32_at u64_at section sections code_section_of data_section_of instruction rows upper_rows jump_rows branch_rows load_rows store_rows imm_rows imm_w_rows reg_rows reg_w_rows atomic_rows_of atomic_rows fence_rows system_rows expansion forms quadrant_0 quadrant_1 quadrant_2 shift_amount small_immediate lui_immediate addi16sp_immediate addi4spn_immediate word_offset double_offset lwsp_offset ldsp_offset swsp_offset sdsp_offset jump_offset branch_offset r_type i_type s_type b_type u_type j_type table_at bound_test
+unfolding plain_file u16_at u32_at u64_at section sections code_section_of data_section_of instruction rows upper_rows jump_rows branch_rows load_rows store_rows imm_rows imm_w_rows reg_rows reg_w_rows atomic_rows_of atomic_rows fence_rows system_rows expansion forms quadrant_0 quadrant_1 quadrant_2 shift_amount small_immediate lui_immediate addi16sp_immediate addi4spn_immediate word_offset double_offset lwsp_offset ldsp_offset swsp_offset sdsp_offset jump_offset branch_offset r_type i_type s_type b_type u_type j_type table_at bound_test straight_run
 plain_targets = refl
 
 -- a return is no table jump
 no_table : table_at plain_file 0x10020 ≡ None
-unfolding plain_file u16_at u32_at u64_at section sections code_section_of data_section_of instruction rows upper_rows jump_rows branch_rows load_rows store_rows imm_rows imm_w_rows reg_rows reg_w_rows atomic_rows_of atomic_rows fence_rows system_rows expansion forms quadrant_0 quadrant_1 quadrant_2 shift_amount small_immediate lui_immediate addi16sp_immediate addi4spn_immediate word_offset double_offset lwsp_offset ldsp_offset swsp_offset sdsp_offset jump_offset branch_offset r_type i_type s_type b_type u_type j_type table_at bound_test
+unfolding plain_file u16_at u32_at u64_at section sections code_section_of data_section_of instruction rows upper_rows jump_rows branch_rows load_rows store_rows imm_rows imm_w_rows reg_rows reg_w_rows atomic_rows_of atomic_rows fence_rows system_rows expansion forms quadrant_0 quadrant_1 quadrant_2 shift_amount small_immediate lui_immediate addi16sp_immediate addi4spn_immediate word_offset double_offset lwsp_offset ldsp_offset swsp_offset sdsp_offset jump_offset branch_offset r_type i_type s_type b_type u_type j_type table_at bound_test straight_run
 no_table = refl
 
 -- ---- compressed instructions; the jump stands at 10012 (hexadecimal)
@@ -73,5 +74,5 @@ compressed_file =
     []
 
 compressed_table : table_at compressed_file 0x10012 ≡ Some (record { base = 0x20000; count = 8; bound = 8; add = 0x20000 })
-unfolding compressed_file u16_at u32_at u64_at section sections code_section_of data_section_of instruction rows upper_rows jump_rows branch_rows load_rows store_rows imm_rows imm_w_rows reg_rows reg_w_rows atomic_rows_of atomic_rows fence_rows system_rows expansion forms quadrant_0 quadrant_1 quadrant_2 shift_amount small_immediate lui_immediate addi16sp_immediate addi4spn_immediate word_offset double_offset lwsp_offset ldsp_offset swsp_offset sdsp_offset jump_offset branch_offset r_type i_type s_type b_type u_type j_type table_at bound_test
+unfolding compressed_file u16_at u32_at u64_at section sections code_section_of data_section_of instruction rows upper_rows jump_rows branch_rows load_rows store_rows imm_rows imm_w_rows reg_rows reg_w_rows atomic_rows_of atomic_rows fence_rows system_rows expansion forms quadrant_0 quadrant_1 quadrant_2 shift_amount small_immediate lui_immediate addi16sp_immediate addi4spn_immediate word_offset double_offset lwsp_offset ldsp_offset swsp_offset sdsp_offset jump_offset branch_offset r_type i_type s_type b_type u_type j_type table_at bound_test straight_run
 compressed_table = refl

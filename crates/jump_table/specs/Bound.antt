@@ -10,14 +10,9 @@ use Rattle.rv_decode.specs.declared.instructions.ImmKind.{ImmKind}
 use Rattle.rv_decode.specs.declared.instructions.ImmKind.TheVariants as imms
 use Rattle.rv_decode.specs.Table.{instruction}
 use Rattle.rvc_expand.specs.Table.{expansion}
+use Rattle.jump_table.specs.declared.bound.Comparison.{Comparison}
+use Rattle.jump_table.specs.declared.bound.BoundTest.{BoundTest}
 use Rattle.jump_table.specs.Section.{is_in_section, whole_insn_at, straight_run}
-
--- A comparison that leaves the pattern where the index passes its limit: `bltu limit, index`, or
--- `bgeu index, limit`, which leaves it where they are equal too.
-pub record Comparison : Type 0 where
-  pub index : ℕ
-  pub limit : ℕ
-  pub excludes_equal : Bool
 
 -- The two registers differ, and neither is x0.
 abbrev pub checked : Comparison → Option Comparison
@@ -48,6 +43,10 @@ short_constant bytes start a r =
     then option_and_then (constant_of r) (option_and_then instruction (option_and_then expansion (half_at bytes a)))
     else None
 
+-- The constant that the 32-bit instruction at a sets r to, within the section.
+abbrev pub whole_constant : List ℕ → ℕ → ℕ → ℕ → Option ℤ
+whole_constant bytes start a r = option_and_then (constant_of r) (whole_insn_at bytes start a)
+
 -- The first that is there.
 abbrev pub first_of_two : Option ℤ → Option ℤ → Option ℤ
 first_of_two None second = second
@@ -59,13 +58,7 @@ abbrev pub constant_before : List ℕ → ℕ → ℕ → ℕ → Option ℤ
 constant_before bytes start b r =
     first_of_two
     (if nat_le (start + 2) b then short_constant bytes start (b - 2) r else None)
-    (if nat_le (start + 4) b then option_and_then (constant_of r) (whole_insn_at bytes start (b - 4)) else None)
-
--- A bound test: where it stands, the register of the index, and how many values of the index pass.
-pub record BoundTest : Type 0 where
-  pub at : ℕ
-  pub index : ℕ
-  pub bound : Option ℕ
+    (if nat_le (start + 4) b then whole_constant bytes start (b - 4) r else None)
 
 -- How many values of the index pass, where the limit is good: up to the limit, or below it.
 abbrev pub bound_by : Bool → ℤ → Option ℕ

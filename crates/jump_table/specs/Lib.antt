@@ -1,3 +1,4 @@
+pub mod Operands
 pub mod Section
 pub mod Bound
 pub mod Values

@@ -1,5 +1,5 @@
 -- The values that registers hold between the bound test and the jump (this project's profile).
-use Rattle.std.specs.Prelude.{ℕ, ◌==◌, List, [], ◌∷◌, zero, ℤ, pos, if◌then◌else◌, Option, Some, None}
+use Rattle.std.specs.Prelude.{ℕ, ◌==◌, List, [], ◌∷◌, zero, ℤ, pos, if◌then◌else◌, Option, Some, None, slice_get, unwrap_or}
 use Rattle.std.specs.Int.{cast_unsigned, w64}
 use Rattle.rv_decode.specs.declared.instructions.Insn.{Insn}
 use Rattle.rv_decode.specs.declared.instructions.Insn.TheVariants as insns
@@ -11,23 +11,16 @@ use Rattle.rv_decode.specs.declared.instructions.LoadKind.{LoadKind}
 use Rattle.rv_decode.specs.declared.instructions.LoadKind.TheVariants as loads
 use Rattle.rv_flow.specs.Placed.{placed_at}
 use Rattle.rv_flow.specs.Raw.{address_plus}
-
--- What is known of a register's value: nothing; a constant; the index; the index times 2 to the power
--- 32; the index times 4; a constant plus that; the sign-extended word at that address; that word plus
--- a constant. Sums are modulo 2 to the power 64.
-pub data Value : Type 0 where
-  Unknown : Value
-  Const : ℕ → Value
-  Index : Value
-  High : Value
-  Scaled : Value
-  Addr : ℕ → Value
-  Entry : ℕ → Value
-  EntryPlus : ℕ → ℕ → Value
+use Rattle.jump_table.specs.declared.values.Value.{Value}
+use Rattle.jump_table.specs.declared.values.Value.TheVariants.{Unknown, Const, Index, High, Scaled, Addr, Entry, EntryPlus}
 
 -- What the registers hold.
 abbrev pub Registers : Type 0
 Registers = ℕ → Value
+
+-- What the registers of a list hold, of which nothing is known past its end. x0 always holds 0.
+abbrev pub held_by : List Value → Registers
+held_by values r = if r == 0 then Const 0 else unwrap_or (slice_get values r) Unknown
 
 -- Behind the bound test the index register holds the index, and x0 always holds 0.
 abbrev pub at_test : ℕ → Registers

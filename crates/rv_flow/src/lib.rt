@@ -7,4 +7,4 @@ mod placed;
 mod raw;
 
 pub use placed::{Placed, insn_at};
-pub use raw::{RawFlow, raw_flow};
+pub use raw::{RawFlow, flow_of, raw_flow};

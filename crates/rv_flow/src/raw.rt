@@ -4,7 +4,7 @@
 ghost use Rattle.std.specs.Prelude.{◌≡◌, ◌≤◌, IsTrue, Some};
 ghost use Rattle.elf_image.specs.Code.{is_code};
 ghost use Rattle.elf_image.specs.Faults.{IsImage};
-ghost use Rattle.rv_flow.specs.Raw.{raw_flow_at, insn_flow, jalr_flow, pair_target, upper_before, upper_of, word_before, address_plus, is_unimp};
+ghost use Rattle.rv_flow.specs.Raw.{raw_flow_at, raw_flow_by, insn_flow, jalr_flow, pair_target, upper_before, upper_of, word_before, address_plus, is_unimp};
 
 use crate::placed::insn_at;
 use elf_image::Image;
@@ -38,7 +38,15 @@ pub fn raw_flow(image: &Image, a: u64) -> RawFlow
     ensures flow { result ≡ raw_flow_at image.now a }
     ensures image { IsImage image.now }
 {
-    match insn_at(image, a).insn {
+    flow_of(image, a, insn_at(image, a).insn)
+}
+
+/// The flow of an instruction at `a`; what is no instruction stops. For the instruction that
+/// [`insn_at`] finds there, this is its [`raw_flow`].
+pub fn flow_of(image: &Image, a: u64, insn: Option<Insn>) -> RawFlow
+    ensures { result ≡ raw_flow_by image.now a insn }
+{
+    match insn {
         None => RawFlow::Stop,
         Some(insn) => insn_flow(image, a, insn),
     }
