@@ -1,9 +1,10 @@
--- The program of an accepted file is lawful.
-use Rattle.std.proofs.Common.{◌≡◌, ℕ, ◌+◌, ◌<◌, ◌^◌, ◌%◌, ◌/◌, ◌⊎◌, ◌==◌, Bool, true, false, cond, List, [], ◌∷◌, ◌++◌, length, Option, Some, None, is_some, refl, sym, ap, ◌∙◌, subst, inl, inr, arith}
-use Rattle.std.specs.Prelude.{All, IsSome, IfSome, option_to_list}
+-- The program of an accepted file is lawful under table cuts that fit.
+use Rattle.std.proofs.Common.{◌≡◌, ℕ, zero, suc, ◌+◌, ◌<◌, ◌≤◌, ◌^◌, ◌%◌, ◌/◌, ◌⊎◌, ◌==◌, Bool, true, false, cond, List, [], ◌∷◌, ◌++◌, length, get_or, take, Option, Some, None, is_some, refl, sym, ap, ◌∙◌, subst, inl, inr, arith}
+use Rattle.std.specs.Prelude.{ℤ, All, IsSome, IfSome, option_to_list, slice_get}
 use Rattle.std.specs.Option.{option_map, option_map_or, option_and_then}
-use Rattle.std.proofs.lemmas.Option.{cond_some}
-use Rattle.std.proofs.lemmas.List.Elements.{All-nil, All-cons}
+use Rattle.std.proofs.lemmas.Option.{cond_some, same_Some}
+use Rattle.std.proofs.lemmas.List.{length-take-le}
+use Rattle.std.proofs.lemmas.List.Elements.{All-nil, All-cons, All-take}
 use Rattle.std.proofs.lemmas.Bool.{cond_both, cond-true}
 use Rattle.elf_image.specs.declared.section.Section.{Section}
 use Rattle.elf_image.specs.Sections.{holds_bytes}
@@ -19,11 +20,15 @@ use Rattle.rv_flow.specs.declared.placed.Placed.{Placed}
 use Rattle.rv_flow.specs.declared.raw.RawFlow.{RawFlow}
 use Rattle.rv_flow.specs.declared.raw.RawFlow.TheVariants as raw
 use Rattle.rv_flow.specs.Placed.{placed_at, placed_by, whole, whole_insn, bad}
-use Rattle.rv_flow.specs.Raw.{raw_flow_at}
+use Rattle.rv_flow.specs.Raw.{raw_flow_at, raw_flow_by}
+use Rattle.jump_table.specs.declared.table.Table.{Table}
+use Rattle.jump_table.specs.Table.{table_at, table_targets}
+use Rattle.jump_table.proofs.Targets.{IsTable, is_table}
 use Rattle.cfg_model.specs.declared.flow.Flow.{Flow}
 use Rattle.cfg_model.specs.Instructions.{Instruction, IsLawfulAt, IsLawful, FlowFits, named_by, length_at, flow_at, targets_at}
-use Rattle.code_view.specs.Flow.{in_code, straight_flow, jump_flow, call_flow, flow_by, kept_by}
-use Rattle.code_view.specs.Program.{instruction_at, program_without_tables}
+use Rattle.code_view.specs.Cuts.{CutsFit}
+use Rattle.code_view.specs.Flow.{in_code, straight_flow, jump_flow, call_flow, table_flow, flow_by, kept_by, kept_entries}
+use Rattle.code_view.specs.Program.{instruction_at, program_under}
 
 -- ---- lengths
 
@@ -84,20 +89,48 @@ placed-size bytes a = go (placed_at bytes a) (is-placed bytes a)
     go placed (inl short) = inl short
     go placed (inr long) = inr long.0
 
+-- ---- tables
+
+-- How many entries are kept of a table: one at least, and not more than there are.
+pub record KeptFits (bytes : List ℕ) (cut : Option ℕ) (table : Table) : Type 0 where
+  pub is_table : IsTable bytes table
+  pub some : 0 < kept_entries cut table
+  pub within : kept_entries cut table ≤ table.count
+
+module _ (bytes : List ℕ) (cuts : ℕ → Option ℕ) (fit : CutsFit bytes cuts) (a : ℕ) where
+  kept_fits : (cut : Option ℕ) → cuts a ≡ cut → (table : Table) → table_at bytes a ≡ Some table → KeptFits bytes cut table
+  kept_fits None is table at =
+      let t = is_table bytes a table at in
+      record { is_table = t; some = t.some; within = omega arith }
+  kept_fits (Some count) is table at =
+      let kept = fit a count is in
+      let same : kept.table ≡ table = same_Some kept.table table (sym kept.at_jump ∙ at) in
+      record {
+        is_table = is_table bytes a table at;
+        some = kept.some;
+        within = subst (λ (t : Table). count ≤ t.count) same kept.within;
+      }
+
+  pub table-fits : (o : Option Table) → table_at bytes a ≡ o → IfSome o (KeptFits bytes (cuts a))
+  table-fits None is = tt
+  table-fits (Some table) is = kept_fits (cuts a) refl table is
+
 -- ---- flows
 
 -- An address that a flow names is one of code.
-module _ (bytes : List ℕ) where
+module _ (bytes : List ℕ) (cuts : ℕ → Option ℕ) where
   abbrev IsKnown : ℕ → Type 0
-  IsKnown b = IsSome (program_without_tables bytes b)
+  IsKnown b = IsSome (program_under bytes cuts b)
 
   abbrev AllKnown : Option ℕ → Type 0
   AllKnown o = IfSome o IsKnown
 
+  -- An instruction stands at each code address.
+  pub code-program : (b : ℕ) → is_code bytes b ≡ true → IsKnown b
+  code-program b code = ap (λ o. is_some o) (cond-true (is_code bytes b) (Some (instruction_at bytes (table_at bytes) cuts b)) None code)
+
   known : (b : ℕ) → AllKnown (in_code bytes b)
-  known b = cond_both (is_code bytes b) (Some b) None AllKnown
-      (λ code. ap (λ o. is_some o) (cond-true (is_code bytes b) (Some (instruction_at bytes (λ j. None) (λ j. None) b)) None code))
-      (λ _. tt)
+  known b = cond_both (is_code bytes b) (Some b) None AllKnown (λ code. code-program b code) (λ _. tt)
 
   both : (o p : Option ℕ) → AllKnown o → AllKnown p → All IsKnown (option_to_list o ++ option_to_list p)
   both None None h k = All-nil IsKnown
@@ -105,107 +138,160 @@ module _ (bytes : List ℕ) where
   both (Some x) None h k = All-cons IsKnown x [] h (All-nil IsKnown)
   both (Some x) (Some y) h k = All-cons IsKnown x (y ∷ []) h (All-cons IsKnown y [] k (All-nil IsKnown))
 
-  -- The flow by the options of its target and of the address behind it.
-  abbrev FlowIsLawful : ℕ → Instruction → Flow → Type 0
-  FlowIsLawful a i flow = FlowFits a i flow × All IsKnown (named_by flow)
+  -- What the law says of a flow.
+  record FlowIsLawful (a : ℕ) (i : Instruction) (flow : Flow) : Type 0 where
+    fits : FlowFits a i flow
+    named : All IsKnown (named_by flow)
+    kept : All IsKnown i.targets
 
-  module _ (a : ℕ) (i : Instruction) (no_targets : i.targets ≡ []) where
-    straight : (o : Option ℕ) → AllKnown o → IfSome o (λ next. next ≡ a + i.bytes) → FlowIsLawful a i (straight_flow o)
-    straight None h next = (no_targets, All-nil IsKnown)
-    straight (Some x) h next = ((next, no_targets), All-cons IsKnown x [] h (All-nil IsKnown))
+  -- The flow of an instruction by the options of its target and of the address behind it.
+  module _ (a : ℕ) (i : Instruction) where
+    none_kept : i.targets ≡ [] → All IsKnown i.targets
+    none_kept no_targets = subst (λ targets. All IsKnown targets) (sym no_targets) (All-nil IsKnown)
 
-    jump : (o : Option ℕ) → AllKnown o → FlowIsLawful a i (jump_flow o)
-    jump None h = (no_targets, All-nil IsKnown)
-    jump (Some x) h = (no_targets, All-cons IsKnown x [] h (All-nil IsKnown))
+    straight : (o : Option ℕ) → i.targets ≡ [] → AllKnown o → IfSome o (λ next. next ≡ a + i.bytes) → FlowIsLawful a i (straight_flow o)
+    straight None none h next = record { fits = none; named = All-nil IsKnown; kept = none_kept none }
+    straight (Some x) none h next = record { fits = (next, none); named = All-cons IsKnown x [] h (All-nil IsKnown); kept = none_kept none }
 
-    indirect : (o : Option ℕ) → AllKnown o → All IsKnown (option_to_list o)
-    indirect None h = All-nil IsKnown
-    indirect (Some x) h = All-cons IsKnown x [] h (All-nil IsKnown)
+    jump : (o : Option ℕ) → i.targets ≡ [] → AllKnown o → FlowIsLawful a i (jump_flow o)
+    jump None none h = record { fits = none; named = All-nil IsKnown; kept = none_kept none }
+    jump (Some x) none h = record { fits = none; named = All-cons IsKnown x [] h (All-nil IsKnown); kept = none_kept none }
 
-    call : (o p : Option ℕ) → AllKnown o → AllKnown p → FlowIsLawful a i (call_flow o p)
-    call None p h k = (no_targets, indirect p k)
-    call (Some x) p h k = (no_targets, All-cons IsKnown x (option_to_list p) h (indirect p k))
+    fall : (o : Option ℕ) → AllKnown o → All IsKnown (option_to_list o)
+    fall None h = All-nil IsKnown
+    fall (Some x) h = All-cons IsKnown x [] h (All-nil IsKnown)
 
-    lawful_by : (behind : ℕ) → behind ≡ a + i.bytes → (r : RawFlow) → FlowIsLawful a i (flow_by bytes behind None None r)
-    lawful_by behind is raw.Straight = straight (in_code bytes behind) (known behind) (cond_both (is_code bytes behind) (Some behind) None (λ o. IfSome o (λ next. next ≡ a + i.bytes)) (λ _. is) (λ _. tt))
-    lawful_by behind is (raw.Branch target) = (no_targets, both (in_code bytes target) (in_code bytes behind) (known target) (known behind))
-    lawful_by behind is (raw.Jump target) = jump (in_code bytes target) (known target)
-    lawful_by behind is (raw.Call target) = call (in_code bytes target) (in_code bytes behind) (known target) (known behind)
-    lawful_by behind is raw.IndirectCall = (no_targets, indirect (in_code bytes behind) (known behind))
-    lawful_by behind is raw.Return = (no_targets, All-nil IsKnown)
-    lawful_by behind is (raw.RegisterJump register offset) = (no_targets, All-nil IsKnown)
-    lawful_by behind is raw.Stop = (no_targets, All-nil IsKnown)
+    call : (o p : Option ℕ) → i.targets ≡ [] → AllKnown o → AllKnown p → FlowIsLawful a i (call_flow o p)
+    call None p none h k = record { fits = none; named = fall p k; kept = none_kept none }
+    call (Some x) p none h k = record { fits = none; named = All-cons IsKnown x (option_to_list p) h (fall p k); kept = none_kept none }
 
-kept-none : (bytes : List ℕ) (r : RawFlow) → kept_by bytes None None r ≡ []
-kept-none bytes raw.Straight = refl
-kept-none bytes (raw.Branch target) = refl
-kept-none bytes (raw.Jump target) = refl
-kept-none bytes (raw.Call target) = refl
-kept-none bytes raw.IndirectCall = refl
-kept-none bytes raw.Return = refl
-kept-none bytes (raw.RegisterJump register offset) = refl
-kept-none bytes raw.Stop = refl
+    -- A jump through a register: to the first targets of its table.
+    through : (cut : Option ℕ) (o : Option Table) (register : ℕ) (offset : ℤ) → i.targets ≡ kept_by bytes cut o (raw.RegisterJump register offset) → IfSome o (KeptFits bytes cut) → FlowIsLawful a i (table_flow cut o)
+    through cut None register offset none h = record { fits = none; named = All-nil IsKnown; kept = none_kept none }
+    through cut (Some table) register offset is h =
+        let all = table_targets bytes table in
+        let n = kept_entries cut table in
+        let enough : n ≤ length all = omega (arith, h.within, h.is_table.counted) in
+        let targets : All IsKnown all = λ k d below. code-program (get_or all k d) (h.is_table.targets k d below).code in
+        record {
+          fits = (sym (ap (λ xs. length xs) is ∙ length-take-le n all enough), h.some);
+          named = All-nil IsKnown;
+          kept = subst (λ xs. All IsKnown xs) (sym is) (All-take IsKnown n all targets);
+        }
+
+    lawful_by : (behind : ℕ) → behind ≡ a + i.bytes → (cut : Option ℕ) (table : Option Table) → IfSome table (KeptFits bytes cut)
+        → (r : RawFlow) → i.targets ≡ kept_by bytes cut table r → FlowIsLawful a i (flow_by bytes behind cut table r)
+    lawful_by behind is cut table h raw.Straight none =
+        straight (in_code bytes behind) none (known behind) (cond_both (is_code bytes behind) (Some behind) None (λ o. IfSome o (λ next. next ≡ a + i.bytes)) (λ _. is) (λ _. tt))
+    lawful_by behind is cut table h (raw.Branch target) none =
+        record { fits = none; named = both (in_code bytes target) (in_code bytes behind) (known target) (known behind); kept = none_kept none }
+    lawful_by behind is cut table h (raw.Jump target) none = jump (in_code bytes target) none (known target)
+    lawful_by behind is cut table h (raw.Call target) none = call (in_code bytes target) (in_code bytes behind) none (known target) (known behind)
+    lawful_by behind is cut table h raw.IndirectCall none =
+        record { fits = none; named = fall (in_code bytes behind) (known behind); kept = none_kept none }
+    lawful_by behind is cut table h raw.Return none = record { fits = none; named = All-nil IsKnown; kept = none_kept none }
+    lawful_by behind is cut table h (raw.RegisterJump register offset) first = through cut table register offset first h
+    lawful_by behind is cut table h raw.Stop none = record { fits = none; named = All-nil IsKnown; kept = none_kept none }
 
 -- ---- the program
 
-module _ (bytes : List ℕ) (accepted : IsImage bytes) (a : ℕ) (code : is_code bytes a ≡ true) where
-  at_code : IsLawfulAt (program_without_tables bytes) a (instruction_at bytes (λ j. None) (λ j. None) a)
+module _ (bytes : List ℕ) (accepted : IsImage bytes) (cuts : ℕ → Option ℕ) (fit : CutsFit bytes cuts) where
+  at_code : (a : ℕ) → is_code bytes a ≡ true → IsLawfulAt (program_under bytes cuts) a (instruction_at bytes (table_at bytes) cuts a)
   unfolding instruction_at
-  at_code =
-      let none = kept-none bytes (raw_flow_at bytes a) in
-      let flow = lawful_by bytes a (instruction_at bytes (λ j. None) (λ j. None) a) none (a + (placed_at bytes a).length) refl (raw_flow_at bytes a) in
+  at_code a code =
+      let flow = lawful_by bytes cuts a (instruction_at bytes (table_at bytes) cuts a) (a + (placed_at bytes a).length) refl
+      (cuts a) (table_at bytes a) (table-fits bytes cuts fit a (table_at bytes a) refl) (raw_flow_at bytes a) refl in
       record {
         size = placed-size bytes a;
         ends = placed-end bytes accepted a code;
-        fits = flow.0;
-        named = flow.1;
-        kept = subst (λ targets. All (λ b. IsSome (program_without_tables bytes b)) targets) (sym none) (All-nil (λ b. IsSome (program_without_tables bytes b)));
+        fits = flow.fits;
+        named = flow.named;
+        kept = flow.kept;
       }
 
-pub program-lawful : (bytes : List ℕ) → IsImage bytes → IsLawful (program_without_tables bytes)
-program-lawful bytes accepted a i is =
-    let parts = cond_some (is_code bytes a) (instruction_at bytes (λ j. None) (λ j. None) a) i is in
-    subst (λ j. IsLawfulAt (program_without_tables bytes) a j) parts.1 (at_code bytes accepted a parts.0)
+  pub program-lawful : IsLawful (program_under bytes cuts)
+  program-lawful a i is =
+      let parts = cond_some (is_code bytes a) (instruction_at bytes (table_at bytes) cuts a) i is in
+      subst (λ j. IsLawfulAt (program_under bytes cuts) a j) parts.1 (at_code a parts.0)
 
--- An instruction stands at each code address, and nowhere else.
-pub code-program : (bytes : List ℕ) (a : ℕ) → is_code bytes a ≡ true → IsSome (program_without_tables bytes a)
-code-program bytes a code = ap (λ o. is_some o) (cond-true (is_code bytes a) (Some (instruction_at bytes (λ j. None) (λ j. None) a)) None code)
+module _ (bytes : List ℕ) (cuts : ℕ → Option ℕ) (a : ℕ) where
+  -- An instruction stands at no other address.
+  pub code_of : IsSome (program_under bytes cuts a) → is_code bytes a ≡ true
+  code_of there = go (is_code bytes a) there
+    where
+      go : (b : Bool) → is_some (cond b (Some (instruction_at bytes (table_at bytes) cuts a)) None) ≡ true → b ≡ true
+      go true h = refl
+      go false h = absurd (cc)
 
-pub code_of : (bytes : List ℕ) (a : ℕ) → IsSome (program_without_tables bytes a) → is_code bytes a ≡ true
-code_of bytes a there = go (is_code bytes a) there
-  where
-    go : (b : Bool) → is_some (cond b (Some (instruction_at bytes (λ j. None) (λ j. None) a)) None) ≡ true → b ≡ true
-    go true h = refl
-    go false h = absurd (cc)
+  program-at_code : is_code bytes a ≡ true → program_under bytes cuts a ≡ Some (instruction_at bytes (table_at bytes) cuts a)
+  program-at_code code = cond-true (is_code bytes a) _ _ code
 
-program-at_code : (bytes : List ℕ) (a : ℕ) → IsSome (program_without_tables bytes a) → program_without_tables bytes a ≡ Some (instruction_at bytes (λ j. None) (λ j. None) a)
-program-at_code bytes a there = cond-true (is_code bytes a) _ _ (code_of bytes a there)
+  pub length-program : is_code bytes a ≡ true → (placed : Placed) → placed ≡ placed_at bytes a → length_at (program_under bytes cuts) a ≡ Some placed.length
+  unfolding instruction_at
+  length-program code placed is =
+      ap (λ o. option_map (λ (i : Instruction). i.bytes) o) (program-at_code code) ∙ ap (λ (p : Placed). Some p.length) (sym is)
 
-pub length-program : (bytes : List ℕ) (a : ℕ) → IsSome (program_without_tables bytes a) → (placed : Placed) → placed ≡ placed_at bytes a → length_at (program_without_tables bytes) a ≡ Some placed.length
-unfolding instruction_at
-length-program bytes a there placed is =
-    ap (λ o. option_map (λ (i : Instruction). i.bytes) o) (program-at_code bytes a there) ∙ ap (λ (p : Placed). Some p.length) (sym is)
+  pub flow-program : is_code bytes a ≡ true → (placed : Placed) → placed ≡ placed_at bytes a
+      → flow_at (program_under bytes cuts) a ≡ Some (flow_by bytes (a + placed.length) (cuts a) (table_at bytes a) (raw_flow_by bytes a placed.insn))
+  unfolding instruction_at
+  flow-program code placed is =
+      ap (λ o. option_map (λ (i : Instruction). i.flow) o) (program-at_code code)
+      ∙ ap (λ (p : Placed). Some (flow_by bytes (a + p.length) (cuts a) (table_at bytes a) (raw_flow_by bytes a p.insn))) (sym is)
 
-pub flow-program : (bytes : List ℕ) (a : ℕ) → IsSome (program_without_tables bytes a)
-    → (behind : ℕ) → behind ≡ a + (placed_at bytes a).length → (r : RawFlow) → r ≡ raw_flow_at bytes a
-    → flow_at (program_without_tables bytes) a ≡ Some (flow_by bytes behind None None r)
-unfolding instruction_at
-flow-program bytes a there behind at r raw =
-    ap (λ o. option_map (λ (i : Instruction). i.flow) o) (program-at_code bytes a there)
-    ∙ ap (λ (p : RawFlow). Some (flow_by bytes (a + (placed_at bytes a).length) None None p)) (sym raw)
-    ∙ ap (λ b. Some (flow_by bytes b None None r)) (sym at)
+  pub targets-program : is_code bytes a ≡ true → targets_at (program_under bytes cuts) a ≡ kept_by bytes (cuts a) (table_at bytes a) (raw_flow_at bytes a)
+  unfolding instruction_at
+  targets-program code = ap (λ o. option_map_or (λ (i : Instruction). i.targets) o []) (program-at_code code)
 
--- No instruction has kept targets.
-targets-none : (bytes : List ℕ) (a : ℕ) (o : Option Instruction) → program_without_tables bytes a ≡ o → IfSome o (λ i. i.targets ≡ [])
-unfolding instruction_at
-targets-none bytes a None is = tt
-targets-none bytes a (Some i) is =
-    let parts = cond_some (is_code bytes a) (instruction_at bytes (λ j. None) (λ j. None) a) i is in
-    ap (λ (j : Instruction). j.targets) (sym parts.1) ∙ kept-none bytes (raw_flow_at bytes a)
+-- ---- kept targets
 
-pub no-targets : (bytes : List ℕ) (a i : ℕ) → i < length (targets_at (program_without_tables bytes) a) → ⊥
-no-targets bytes a i below = go (program_without_tables bytes a) (targets-none bytes a (program_without_tables bytes a) refl) below
-  where
-    go : (o : Option Instruction) → IfSome o (λ i. i.targets ≡ []) → i < length (option_map_or (λ (j : Instruction). j.targets) o []) → ⊥
-    go None none h = omega arith
-    go (Some j) none h = omega (arith, ap length none)
+slice_get-take : (n : ℕ) (xs : List ℕ) (i : ℕ) → i < n → slice_get (take n xs) i ≡ slice_get xs i
+slice_get-take zero xs i below = absurd (omega arith)
+slice_get-take (suc n) [] i below = refl
+slice_get-take (suc n) (x ∷ xs) zero below = refl
+slice_get-take (suc n) (x ∷ xs) (suc i) below = slice_get-take n xs i (omega arith)
+
+-- Kept target i is the target of entry i of the table.
+pub record IsKeptOf (bytes : List ℕ) (kept : List ℕ) (o : Option Table) (i : ℕ) : Type 0 where
+  pub table : Table
+  pub is : o ≡ Some table
+  pub inside : i < table.count
+  pub same : slice_get kept i ≡ slice_get (table_targets bytes table) i
+
+module _ (bytes : List ℕ) (cut : Option ℕ) where
+  nothing_kept : (i : ℕ) → i < length {A = ℕ} [] → ⊥
+  nothing_kept i below = omega arith
+
+  first_kept : (i : ℕ) (o : Option Table) (register : ℕ) (offset : ℤ) → IfSome o (KeptFits bytes cut)
+      → i < length (kept_by bytes cut o (raw.RegisterJump register offset)) → IsKeptOf bytes (kept_by bytes cut o (raw.RegisterJump register offset)) o i
+  first_kept i None register offset h below = absurd (nothing_kept i below)
+  first_kept i (Some table) register offset h below =
+      let all = table_targets bytes table in
+      let n = kept_entries cut table in
+      let enough : n ≤ length all = omega (arith, h.within, h.is_table.counted) in
+      let kept : i < n = omega (arith, below, length-take-le n all enough) in
+      record { table = table; is = refl; inside = omega (arith, kept, h.within); same = slice_get-take n all i kept }
+
+  kept_of : (i : ℕ) (o : Option Table) (r : RawFlow) → IfSome o (KeptFits bytes cut) → i < length (kept_by bytes cut o r) → IsKeptOf bytes (kept_by bytes cut o r) o i
+  kept_of i o raw.Straight h below = absurd (nothing_kept i below)
+  kept_of i o (raw.Branch target) h below = absurd (nothing_kept i below)
+  kept_of i o (raw.Jump target) h below = absurd (nothing_kept i below)
+  kept_of i o (raw.Call target) h below = absurd (nothing_kept i below)
+  kept_of i o raw.IndirectCall h below = absurd (nothing_kept i below)
+  kept_of i o raw.Return h below = absurd (nothing_kept i below)
+  kept_of i o (raw.RegisterJump register offset) h below = first_kept i o register offset h below
+  kept_of i o raw.Stop h below = absurd (nothing_kept i below)
+
+module _ (bytes : List ℕ) (cuts : ℕ → Option ℕ) (a i : ℕ) where
+  -- Only an instruction has kept targets.
+  pub code_of_target : i < length (targets_at (program_under bytes cuts) a) → is_code bytes a ≡ true
+  code_of_target below = go (is_code bytes a) below
+    where
+      go : (b : Bool) → i < length (option_map_or (λ (j : Instruction). j.targets) (cond b (Some (instruction_at bytes (table_at bytes) cuts a)) None) []) → b ≡ true
+      go true h = refl
+      go false h = absurd (omega arith)
+
+  pub kept-at : CutsFit bytes cuts → i < length (targets_at (program_under bytes cuts) a) → IsKeptOf bytes (targets_at (program_under bytes cuts) a) (table_at bytes a) i
+  kept-at fit below =
+      let is = targets-program bytes cuts a (code_of_target below) in
+      subst (λ kept. i < length kept → IsKeptOf bytes kept (table_at bytes a) i) (sym is)
+      (kept_of bytes (cuts a) i (table_at bytes a) (raw_flow_at bytes a) (table-fits bytes cuts fit a (table_at bytes a) refl)) below

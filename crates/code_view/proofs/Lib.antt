@@ -1,1 +1,3 @@
+pub mod Counts
 pub mod Lawful
+pub mod Views

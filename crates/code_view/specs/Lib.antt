@@ -1,3 +1,5 @@
 pub mod Cuts
 pub mod Flow
 pub mod Program
+pub mod FileCode
+pub mod View

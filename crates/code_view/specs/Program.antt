@@ -23,8 +23,3 @@ program_with bytes tables cuts a = if is_code bytes a then Some (instruction_at 
 -- The program of a file under table cuts.
 abbrev pub program_under : List ℕ → (ℕ → Option ℕ) → InstructionMap
 program_under bytes cuts = program_with bytes (table_at bytes) cuts
-
--- The program of a file as it is known before jump tables are read: every jump through a register
--- that is no return goes nobody knows where.
-abbrev pub program_without_tables : List ℕ → InstructionMap
-program_without_tables bytes = program_with bytes (λ j. None) (λ j. None)

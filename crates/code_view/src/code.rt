@@ -1,54 +1,111 @@
 //! An image's instructions as a program.
 
 use crate::cuts::Cuts;
-use crate::flow::flow_by;
+use crate::flow::{call_flow, in_code, jump_flow, straight_flow, table_flow};
 use cfg_model::{Chains, Flow};
 use elf_image::Image;
-use rv_flow::{insn_at, raw_flow};
+use jump_table::{Table, find_table, target_of};
+use rv_flow::{RawFlow, flow_of, insn_at};
+use std::marker::Model;
 
 /// The code of an image under table cuts, as a program: an instruction at each code address.
 ///
 /// Targets outside the code are dropped: a jump or a call whose target is outside is one whose target
 /// is not known, and a branch that loses one of its ways is cut off. A straight instruction with no
-/// code behind it stops. Jump tables are not read yet, so each jump through a register that is no
-/// return goes nobody knows where, and no cut says anything.
+/// code behind it stops. A jump through a register that is no return goes through its jump table, of
+/// which as many entries are kept as its cut says, and where it has none nobody knows where.
 #[derive(Drop)]
 pub struct Code<'a> {
     image: &'a Image,
     cuts: &'a Cuts,
 }
 
-impl<'a> Code<'a> {
-    ghost use Rattle.std.specs.Prelude.{◌≡◌};
-    ghost use Rattle.code_view.specs.Program.{program_without_tables};
+impl<'a> Model for Code<'a> {
+    ghost use Rattle.code_view.specs.FileCode.{FileCode, file_code};
 
-    /// The code of `image` under `cuts`.
+    ghost Value = { FileCode };
+
+    ghost coded = { file_code };
+
+    ghost view = { λ c. record { bytes = c.image.now; cuts = c.cuts.now } };
+
+    ghost use Rattle.code_view.specs.View.{IsCutToFit};
+
+    ghost invariant = { IsCutToFit };
+}
+
+impl<'a> Code<'a> {
+    ghost use Rattle.std.specs.Prelude.{◌≡◌, IsTrue};
+    ghost use Rattle.elf_image.specs.Code.{is_code};
+    ghost use Rattle.jump_table.specs.Table.{table_at};
+    ghost use Rattle.code_view.specs.Cuts.{cut_of, CutsFit};
+    ghost use Rattle.code_view.specs.Flow.{flow_by};
+    ghost use Rattle.code_view.specs.Program.{program_under};
+
+    /// The code of `image` under `cuts`, each of which is one of a table of that image: at least 1, and
+    /// at most as many as the table has entries.
     pub fn new(image: &'a Image, cuts: &'a Cuts) -> Code<'a>
-        ensures program { ⟦<Code<'a> as Chains>⟧.map result ≡ program_without_tables image.now }
+        requires { CutsFit image.now (cut_of cuts.now) }
+        ensures program { ⟦<Code<'a> as Chains>⟧.map result ≡ program_under image.now (cut_of cuts.now) }
+        ensures bytes { result.bytes ≡ image.now }
+        ensures cuts { result.cuts ≡ cuts.now }
     {
         Code { image, cuts }
+    }
+
+    /// The jump table of the jump at the code address `j`, before cuts; `None` exactly where it has none.
+    pub fn table(&self, j: u64) -> Option<Table>
+        requires { IsTrue (is_code self.now.bytes j) }
+        ensures { result ≡ table_at self.now.bytes j }
+    {
+        find_table(self.image, j)
+    }
+
+    /// The flow of the instruction at `a`, which alone has the flow `raw`; `behind` is the address behind
+    /// it.
+    fn flow_by(&self, a: u64, behind: u64, raw: RawFlow) -> Flow
+        requires { IsTrue (is_code self.now.bytes a) }
+        ensures { result ≡ flow_by self.now.bytes behind (cut_of self.now.cuts a) (table_at self.now.bytes a) raw }
+    {
+        match raw {
+            RawFlow::Straight => straight_flow(in_code(self.image, behind)),
+            RawFlow::Branch { target } => Flow::Branch {
+                taken: in_code(self.image, target),
+                fall: in_code(self.image, behind),
+            },
+            RawFlow::Jump { target } => jump_flow(in_code(self.image, target)),
+            RawFlow::Call { target } => {
+                call_flow(in_code(self.image, target), in_code(self.image, behind))
+            }
+            RawFlow::IndirectCall => call_flow(None, in_code(self.image, behind)),
+            RawFlow::Return => Flow::Return,
+            RawFlow::RegisterJump { .. } => table_flow(self.cuts.count(a), self.table(a)),
+            RawFlow::Stop => Flow::Stop,
+        }
     }
 }
 
 impl<'a> Chains for Code<'a> {
-    ghost use Rattle.code_view.specs.Program.{program_without_tables};
+    ghost use Rattle.code_view.specs.FileCode.{program_of};
 
-    ghost map = { λ c. program_without_tables c.image.now };
+    ghost map = { program_of };
 
     fn has(&self, a: u64) -> bool {
         self.image.is_code(a)
     }
 
     fn flow(&self, a: u64) -> Flow {
-        let behind = a + u64::from(insn_at(self.image, a).length);
-        flow_by(self.image, behind, raw_flow(self.image, a))
+        let placed = insn_at(self.image, a);
+        let behind = a + u64::from(placed.length);
+        self.flow_by(a, behind, flow_of(self.image, a, placed.insn))
     }
 
     fn length(&self, a: u64) -> u8 {
         insn_at(self.image, a).length
     }
 
-    fn target(&self, _a: u64, _i: u32) -> u64 {
-        unreachable!()
+    fn target(&self, a: u64, i: u32) -> u64 {
+        prove!(self.image.is_code(a));
+        target_of(self.image, a, i)
     }
 }

@@ -1,8 +1,10 @@
 //! Table cuts: of some jump tables fewer entries are kept than are there.
 
-ghost use Rattle.std.specs.Prelude.{◌≡◌, ◌↔◌, [], IsTrue};
+ghost use Rattle.std.specs.Prelude.{◌≡◌, ◌↔◌, ◌≤◌, IsTrue, OnOk, OnErr};
+ghost use Rattle.std.specs.FinMap as map;
 ghost use Rattle.code_view.specs.Cuts.{cut_of};
 
+use crate::memory::Memory;
 use std::alloc::Global;
 use std::collections::BTreeMap;
 use std::marker::Model;
@@ -15,17 +17,22 @@ pub struct Cuts {
 }
 
 impl Model for Cuts {
-    ghost use Rattle.std.specs.Prelude.{ℕ, List};
+    ghost use Rattle.std.specs.Prelude.{ℕ};
+    ghost use Rattle.std.specs.Ordering.{nat_cmp};
+    ghost use Rattle.std.specs.Coded.{coded_ℕ};
+    ghost use Rattle.std.specs.FinMap as map;
 
-    ghost Value = { List (ℕ × ℕ) };
+    ghost Value = { map.FinMap nat_cmp ℕ };
 
-    ghost view = { λ a. a.counts.entries };
+    ghost coded = { map.code coded_ℕ coded_ℕ };
+
+    ghost view = { λ a. map.from_entries a.counts.entries };
 }
 
 impl Cuts {
     /// No cuts.
     pub fn none(alloc: Global) -> Self
-        ensures { result ≡ [] }
+        ensures { result ≡ map.empty }
     {
         Cuts {
             counts: BTreeMap::new(alloc),
@@ -34,7 +41,7 @@ impl Cuts {
 
     /// Whether no table is cut.
     pub fn is_empty(&self) -> bool
-        ensures { IsTrue result ↔ (self.now ≡ []) }
+        ensures { IsTrue result ↔ (self.now ≡ map.empty) }
     {
         self.counts.is_empty()
     }
@@ -44,5 +51,18 @@ impl Cuts {
         ensures { result ≡ cut_of self.now j }
     {
         self.counts.get(&j).copied()
+    }
+
+    /// Cuts the table of the jump at `j` to `count` entries, at least 1, in place of what its cut was.
+    /// Every other cut stays.
+    ///
+    /// The only error is that memory ran out; then all cuts stay.
+    pub fn put(&mut self, j: u64, count: u32) -> Result<(), Memory>
+        requires { 1 ≤ count }
+        ensures put { OnOk result (self.new ≡ map.insert self.old j count) }
+        ensures unchanged { OnErr result (self.new ≡ self.old) }
+    {
+        self.counts.insert(j, count)?;
+        Ok(())
     }
 }

@@ -1,46 +1,62 @@
 //! The flow of an instruction in its place: what its own flow is once targets outside the code are
 //! dropped.
 
-ghost use Rattle.std.specs.Prelude.{◌≡◌, None};
-ghost use Rattle.code_view.specs.Flow.{flow_by, in_code};
+ghost use Rattle.std.specs.Prelude.{◌≡◌};
+ghost use Rattle.code_view.specs.Flow.{in_code, straight_flow, jump_flow, call_flow, table_flow};
 
 use cfg_model::Flow;
 use elf_image::Image;
-use rv_flow::RawFlow;
+use jump_table::Table;
 
-/// The flow of an instruction that alone has the flow `raw`; `behind` is the address behind it. No jump
-/// table is read.
-pub fn flow_by(image: &Image, behind: u64, raw: RawFlow) -> Flow
-    ensures { result ≡ flow_by image.now behind None None raw }
-{
-    let fall = in_code(image, behind);
-    match raw {
-        RawFlow::Straight => match fall {
-            Some(next) => Flow::Straight { next },
-            None => Flow::Stop,
-        },
-        RawFlow::Branch { target } => Flow::Branch {
-            taken: in_code(image, target),
-            fall,
-        },
-        RawFlow::Jump { target } => match in_code(image, target) {
-            Some(target) => Flow::Jump { target },
-            None => Flow::Unknown,
-        },
-        RawFlow::Call { target } => match in_code(image, target) {
-            Some(target) => Flow::Call { target, fall },
-            None => Flow::IndirectCall { fall },
-        },
-        RawFlow::IndirectCall => Flow::IndirectCall { fall },
-        RawFlow::Return => Flow::Return,
-        RawFlow::RegisterJump { .. } => Flow::Unknown,
-        RawFlow::Stop => Flow::Stop,
-    }
-}
-
-// `a`, where it is a code address.
-fn in_code(image: &Image, a: u64) -> Option<u64>
+/// `a`, where it is a code address.
+pub fn in_code(image: &Image, a: u64) -> Option<u64>
     ensures { result ≡ in_code image.now a }
 {
     if image.is_code(a) { Some(a) } else { None }
+}
+
+/// Straight on to `next`, where there is code, and else a stop.
+pub fn straight_flow(next: Option<u64>) -> Flow
+    ensures { result ≡ straight_flow next }
+{
+    match next {
+        Some(next) => Flow::Straight { next },
+        None => Flow::Stop,
+    }
+}
+
+/// A jump to `target`, where there is code.
+pub fn jump_flow(target: Option<u64>) -> Flow
+    ensures { result ≡ jump_flow target }
+{
+    match target {
+        Some(target) => Flow::Jump { target },
+        None => Flow::Unknown,
+    }
+}
+
+/// A call of `target`, where there is code, that returns to `fall`.
+pub fn call_flow(target: Option<u64>, fall: Option<u64>) -> Flow
+    ensures { result ≡ call_flow target fall }
+{
+    match target {
+        Some(target) => Flow::Call { target, fall },
+        None => Flow::IndirectCall { fall },
+    }
+}
+
+/// A jump through `table`, where there is one, of which `cut` says how many entries are kept.
+pub fn table_flow(cut: Option<u32>, table: Option<Table>) -> Flow
+    ensures { result ≡ table_flow cut table }
+{
+    match table {
+        Some(table) => {
+            let entries = cut.unwrap_or(table.count);
+            Flow::Table {
+                entries,
+                full: entries == table.bound,
+            }
+        }
+        None => Flow::Unknown,
+    }
 }

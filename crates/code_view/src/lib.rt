@@ -6,6 +6,8 @@
 mod code;
 mod cuts;
 mod flow;
+mod memory;
 
 pub use code::Code;
 pub use cuts::Cuts;
+pub use memory::Memory;

@@ -1,0 +1,25 @@
+-- The program that a file's code is, by the file and the cuts that are kept of it.
+use Rattle.std.proofs.Common.{◌≡◌, ℕ, ◌<◌, List, length, sym, ap, ◌∙◌, subst}
+use Rattle.std.specs.FinMap as map
+use Rattle.std.specs.Ordering.{nat_cmp}
+use Rattle.std.proofs.lemmas.Option.{none-some}
+use Rattle.elf_image.specs.Faults.{IsImage}
+use Rattle.jump_table.specs.Table.{table_at}
+use Rattle.cfg_model.specs.Instructions.{IsLawful, targets_at}
+use Rattle.code_view.specs.Cuts.{Counts, cut_of, CutsFit}
+use Rattle.code_view.specs.FileCode.{FileCode, program_of}
+use Rattle.code_view.proofs.Lawful.{program-lawful, IsKeptOf, kept-at}
+
+-- It is lawful where the cuts fit.
+pub lawful-view : (bytes : List ℕ) (cuts : Counts) → IsImage bytes → CutsFit bytes (cut_of cuts) → (code : FileCode) → record { bytes = bytes; cuts = cuts } ≡ code → IsLawful (program_of code)
+lawful-view bytes cuts accepted fit code is = subst (λ c. IsLawful (program_of c)) is (program-lawful bytes accepted (cut_of cuts) fit)
+
+-- Each kept target is that of an entry of the table.
+pub kept-view : (bytes : List ℕ) (cuts : Counts) → CutsFit bytes (cut_of cuts) → (code : FileCode) → record { bytes = bytes; cuts = cuts } ≡ code
+    → (a i : ℕ) → i < length (targets_at (program_of code) a) → IsKeptOf code.bytes (targets_at (program_of code) a) (table_at code.bytes a) i
+kept-view bytes cuts fit code is a i =
+    subst (λ (c : FileCode). i < length (targets_at (program_of c) a) → IsKeptOf c.bytes (targets_at (program_of c) a) (table_at c.bytes a) i) is (kept-at bytes (cut_of cuts) a i fit)
+
+-- Where nothing is cut, the cuts fit any file.
+pub none-fits : (bytes : List ℕ) (cuts : Counts) → cuts ≡ map.empty → CutsFit bytes (cut_of cuts)
+none-fits bytes cuts none j count is = absurd (none-some count (sym (map.get-empty nat_cmp j) ∙ ap (λ c. map.get c j) (sym none) ∙ is))

@@ -1,0 +1,44 @@
+//! The bases of jump tables, in order, and the cut of a table by them.
+
+ghost use Rattle.std.specs.Prelude.{◌≡◌, IsTrue, IfOk, All};
+ghost use Rattle.std.specs.List.Sorted.{IsNonDecreasing};
+ghost use Rattle.elf_image.specs.Code.{is_code};
+ghost use Rattle.table_trim.specs.Bases.{AreBases, CutBy};
+
+use code_view::{Code, Memory};
+use jump_table::Table;
+use std::alloc::Global;
+
+/// The bases of the tables of these jumps, in order.
+pub(crate) fn bases_of(alloc: Global, code: &Code<'_>, jumps: &[u64]) -> Result<Vec<u64>, Memory>
+    requires { All (λ j. IsTrue (is_code code.now.bytes j)) jumps.now }
+    ensures bases { IfOk result (λ bases. AreBases code.now.bytes jumps.now bases.items) }
+    ensures sorted { IfOk result (λ bases. IsNonDecreasing bases.items) }
+{
+    let mut bases = Vec::new(alloc);
+    for &j in jumps {
+        if let Some(table) = code.table(j) {
+            bases.push(table.base)?;
+        }
+    }
+    bases.sort_unstable();
+    Ok(bases)
+}
+
+/// How many entries come before the least base inside the table; `None` where no base lies inside it.
+pub(crate) fn cut_by(bases: &[u64], table: &Table) -> Option<u32>
+    requires { IsNonDecreasing bases.now }
+    ensures { CutBy bases.now table.now result }
+{
+    let start = table.base;
+    let after = bases.partition_point(|base| *base <= start);
+    if after == bases.len() {
+        return None;
+    }
+    let distance = bases[after] - start;
+    if distance < 4 * u64::from(table.count) {
+        Some((distance / 4) as u32)
+    } else {
+        None
+    }
+}

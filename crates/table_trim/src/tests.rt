@@ -1,0 +1,72 @@
+//! Two tables that overlap.
+
+ghost use Rattle.std.specs.Prelude.{IsSome};
+ghost use Rattle.code_view.specs.FileCode.{program_of};
+
+use crate::cuts_of;
+use cfg_model::{Chains, Flow};
+use cfg_vectors::row_file;
+use code_view::{Code, Cuts};
+use elf_image::Image;
+use std::alloc::{AllocFailed, Global};
+use std::test::Fail;
+
+/// The jumps of row 15: one through a table of four entries, and one through a table of two that begins
+/// at the third of them.
+const FIRST: u64 = 0x1001C;
+
+const SECOND: u64 = 0x10048;
+
+/// The kept targets of the jump at `a`.
+fn kept_targets(alloc: Global, code: &Code<'_>, a: u64) -> Result<Vec<u64>, AllocFailed<u64>>
+    requires { IsSome (program_of code.now a) }
+{
+    let mut targets = Vec::new(alloc);
+    if let Flow::Table { entries, .. } = code.flow(a) {
+        for i in 0..entries {
+            targets.push(code.target(a, i))?;
+        }
+    }
+    Ok(targets)
+}
+
+#[test]
+fn cuts_a_table_where_another_begins(rt: HostRuntime) -> Result<(), Fail> {
+    let file = row_file(rt.alloc(), 15, 0)?;
+    let image = Image::parse(rt.alloc(), file)?;
+    let none = Cuts::none(rt.alloc());
+    let code = Code::new(&image, &none);
+    assert!(rt; code.has(FIRST) && code.has(SECOND));
+    let targets = kept_targets(rt.alloc(), &code, FIRST)?;
+    assert_eq!(rt;
+        targets.as_slice(),
+        [0x10020, 0x10020, 0x1004C, 0x1004C].as_slice()
+    );
+    let targets = kept_targets(rt.alloc(), &code, SECOND)?;
+    assert_eq!(rt; targets.as_slice(), [0x10054, 0x10054].as_slice());
+
+    let cuts = cuts_of(rt.alloc(), &code, &[FIRST, SECOND])?;
+    assert!(rt; none.is_empty() && !cuts.is_empty());
+    assert_eq!(rt; cuts.count(FIRST), Some(2));
+    assert_eq!(rt; cuts.count(SECOND), None);
+
+    let code = Code::new(&image, &cuts);
+    assert!(rt; code.has(FIRST) && code.has(SECOND));
+    let targets = kept_targets(rt.alloc(), &code, FIRST)?;
+    assert_eq!(rt; targets.as_slice(), [0x10020, 0x10020].as_slice());
+    assert_eq!(rt;
+        code.flow(FIRST),
+        Flow::Table {
+            entries: 2,
+            full: false
+        }
+    );
+    assert_eq!(rt;
+        code.flow(SECOND),
+        Flow::Table {
+            entries: 2,
+            full: true
+        }
+    );
+    Ok(())
+}
