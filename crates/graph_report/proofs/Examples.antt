@@ -8,7 +8,7 @@ use Rattle.graph_report.specs.declared.kind.ReportKind.TheVariants as reports
 use Rattle.graph_report.specs.Number.{address_digits, hex_digits}
 use Rattle.graph_report.specs.Name.{Names, name_field}
 use Rattle.graph_report.specs.Line.{functions_line, blocks_line, function_line, edge_line}
-use Rattle.graph_report.specs.Report.{report_text, early_text}
+use Rattle.graph_report.specs.Report.{report_text}
 
 -- no address has a name
 abbrev nameless : Names
@@ -46,19 +46,6 @@ one_return_blocks = refl
 one_return_edges : report_text reports.Edges nameless one_return ≡ codes "cfg-report 1\nentry 0000000000010000\nedges 0\nend\n"
 unfolding hex_digits digits
 one_return_edges = refl
-
--- a branch back into its own block: the code 00000013 FFF50513 FE051EE3 00008067 at 10000
-abbrev branch_back : Graph
-branch_back = record {
-  entry = 0x10000;
-  functions = [];
-  blocks = record { start = 0x10000; end = 0x10004; kind = ends.Fall } ∷ record { start = 0x10004; end = 0x1000c; kind = ends.Branch } ∷ record { start = 0x1000c; end = 0x10010; kind = ends.Return } ∷ [];
-  edges = record { from = 0x10000; to = 0x10004; kind = kinds.Fall } ∷ record { from = 0x10004; to = 0x10004; kind = kinds.Taken } ∷ record { from = 0x10004; to = 0x1000c; kind = kinds.Fall } ∷ [];
-}
-
-branch_back_early : early_text branch_back ≡ codes "cfg-report 1\nentry 0000000000010000\nblocks 3\nblock 0000000000010000 0000000000010004 fall\nblock 0000000000010004 000000000001000c branch\nblock 000000000001000c 0000000000010010 return\nedges 3\nedge 0000000000010000 0000000000010004 fall\nedge 0000000000010004 0000000000010004 taken\nedge 0000000000010004 000000000001000c fall\nend\n"
-unfolding hex_digits digits
-branch_back_early = refl
 
 -- two functions with names: a jump to a return, and an instruction that stops
 abbrev two_functions : Graph

@@ -38,7 +38,3 @@ sections reports.Edges names graph = edges_section graph.edges
 -- The report of a graph: the heading, the sections of its kind, and the last line.
 abbrev pub report_text : ReportKind → Names → Graph → List ℕ
 report_text kind names graph = heading graph.entry ++ sections kind names graph ++ end_line
-
--- The report of a graph whose functions are not known: the whole report without its functions.
-abbrev pub early_text : Graph → List ℕ
-early_text graph = heading graph.entry ++ blocks_section graph.blocks ++ edges_section graph.edges ++ end_line

@@ -2,11 +2,18 @@
 
 ghost use Rattle.std.specs.Prelude.{◌≡◌, ◌<◌, ◌++◌, OnOk, codes, decimal};
 ghost use Rattle.graph_report.specs.Number.{hex_digit, address_digits};
-ghost use Rattle.graph_report.specs.Words.{end_word, edge_word};
+ghost use Rattle.graph_report.specs.Words.{status_word, end_word, edge_word};
 
 use crate::memory::Memory;
 use cfg_model::{EdgeKind, EndKind};
 use itoa::Buffer;
+
+/// The word for whether a function may return.
+pub fn status_word(returns: bool) -> &'static [u8]
+    ensures { result.now ≡ status_word returns }
+{
+    if returns { b"may-return" } else { b"no-return" }
+}
 
 /// The word for what a block ends with.
 pub fn end_word(kind: EndKind) -> &'static [u8]
@@ -44,7 +51,7 @@ pub fn edge_word(kind: EdgeKind) -> &'static [u8]
 
 /// The hexadecimal digit of a number below 16, in lower case.
 #[inline]
-fn hex_digit(n: u8) -> u8
+pub fn hex_digit(n: u8) -> u8
     requires { n < 16 }
     ensures { result ≡ hex_digit n }
 {
@@ -83,20 +90,37 @@ pub fn push_address(out: &mut Vec<u8>, address: u64) -> Result<(), Memory>
     Ok(())
 }
 
+/// Appends a space and a word.
+pub fn push_field(out: &mut Vec<u8>, word: &[u8]) -> Result<(), Memory>
+    ensures { OnOk result (out.new.items ≡ out.old.items ++ (codes " " ++ word.now)) }
+{
+    out.push(b' ')?;
+    out.extend_from_slice(word)?;
+    Ok(())
+}
+
+/// Appends a space and a count in decimal.
+pub fn push_number(out: &mut Vec<u8>, count: usize) -> Result<(), Memory>
+    ensures { OnOk result (out.new.items ≡ out.old.items ++ (codes " " ++ decimal count)) }
+{
+    let mut buffer = Buffer::new();
+    push_field(out, buffer.format(count).as_bytes())
+}
+
 /// Appends a space, a count in decimal, and the end of the line.
 pub fn push_count(out: &mut Vec<u8>, count: usize) -> Result<(), Memory>
     ensures { OnOk result (out.new.items ≡ out.old.items ++ (codes " " ++ decimal count ++ codes "\n")) }
 {
-    let mut buffer = Buffer::new();
-    push_word(out, buffer.format(count).as_bytes())
+    push_number(out, count)?;
+    out.push(b'\n')?;
+    Ok(())
 }
 
 /// Appends a space, a word, and the end of the line.
 pub fn push_word(out: &mut Vec<u8>, word: &[u8]) -> Result<(), Memory>
     ensures { OnOk result (out.new.items ≡ out.old.items ++ (codes " " ++ word.now ++ codes "\n")) }
 {
-    out.push(b' ')?;
-    out.extend_from_slice(word)?;
+    push_field(out, word)?;
     out.push(b'\n')?;
     Ok(())
 }

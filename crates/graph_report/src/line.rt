@@ -1,11 +1,16 @@
 //! Each line form, appended to a text that grows.
 
 ghost use Rattle.std.specs.Prelude.{◌≡◌, ◌++◌, OnOk};
-ghost use Rattle.graph_report.specs.Line.{first_line, entry_line, blocks_line, block_line, edges_line, edge_line, end_line};
+ghost use Rattle.std.specs.Option.{option_map};
+ghost use Rattle.graph_report.specs.Line.{first_line, entry_line, functions_line, function_line, in_line, blocks_line, block_line, edges_line, edge_line, end_line};
 
-use crate::field::{edge_word, end_word, push_address, push_count, push_text, push_word};
+use crate::field::{
+    edge_word, end_word, push_address, push_count, push_field, push_number, push_text, push_word,
+    status_word,
+};
 use crate::memory::Memory;
-use cfg_model::{Block, Edge};
+use crate::name::push_name;
+use cfg_model::{Block, Edge, Function};
 
 /// Appends the line that says what the text is.
 pub fn push_first(out: &mut Vec<u8>) -> Result<(), Memory>
@@ -20,6 +25,40 @@ pub fn push_entry(out: &mut Vec<u8>, entry: u64) -> Result<(), Memory>
 {
     push_text(out, b"entry")?;
     push_address(out, entry)?;
+    push_text(out, b"\n")
+}
+
+/// Appends the line that says how many functions follow.
+pub fn push_function_count(out: &mut Vec<u8>, count: usize) -> Result<(), Memory>
+    ensures { OnOk result (out.new.items ≡ out.old.items ++ functions_line count) }
+{
+    push_text(out, b"functions")?;
+    push_count(out, count)
+}
+
+/// Appends the line of a function with this name.
+pub fn push_function(
+    out: &mut Vec<u8>,
+    function: &Function,
+    name: Option<&[u8]>,
+) -> Result<(), Memory>
+    ensures { OnOk result (out.new.items ≡ out.old.items ++ function_line (λ a. option_map (λ s. s.now) name.entry) function.now) }
+{
+    push_text(out, b"function")?;
+    push_address(out, function.entry)?;
+    push_field(out, status_word(function.returns))?;
+    push_number(out, function.body.as_slice().len())?;
+    push_text(out, b" ")?;
+    push_name(out, name)?;
+    push_text(out, b"\n")
+}
+
+/// Appends the line of a block of the function above, which starts at an address.
+pub fn push_in(out: &mut Vec<u8>, block: u64) -> Result<(), Memory>
+    ensures { OnOk result (out.new.items ≡ out.old.items ++ in_line block) }
+{
+    push_text(out, b"in")?;
+    push_address(out, block)?;
     push_text(out, b"\n")
 }
 

@@ -1,203 +1,104 @@
-//! Reports of programs whose blocks and edges are known from outside.
-//!
-//! Each program stands at 10000 in hexadecimal and starts there.
+//! The report of a graph whose parts are known from outside.
 
 use super::*;
-use cfg_model::{Block, Blocks, Edge, EdgeKind, Edges, EndKind, Functions, Graph};
+use cfg_model::{
+    Addresses, Block, Blocks, Edge, EdgeKind, Edges, EndKind, Function, Functions, Graph,
+};
+use elf_image::Image;
+use elf_symbols::seeds;
 use std::alloc::{AllocError, Global};
 use std::test::*;
 
-/// A program's blocks and edges, and its report.
-struct Row {
-    name: &'static str,
-    blocks: &'static [(u64, u64, EndKind)],
-    edges: &'static [(u64, u64, EdgeKind)],
-    text: &'static str,
-}
-
-static ROWS: [Row; 8] = [
-    Row {
-        name: "one return",
-        blocks: &[(0x10000, 0x10004, EndKind::Return)],
-        edges: &[],
-        text: "\
-            cfg-report 1\n\
-            entry 0000000000010000\n\
-            blocks 1\n\
-            block 0000000000010000 0000000000010004 return\n\
-            edges 0\n\
-            end\n",
-    },
-    Row {
-        name: "a branch back into its own block",
-        blocks: &[
-            (0x10000, 0x10004, EndKind::Fall),
-            (0x10004, 0x1000c, EndKind::Branch),
-            (0x1000c, 0x10010, EndKind::Return),
-        ],
-        edges: &[
-            (0x10000, 0x10004, EdgeKind::Fall),
-            (0x10004, 0x10004, EdgeKind::Taken),
-            (0x10004, 0x1000c, EdgeKind::Fall),
-        ],
-        text: "\
-            cfg-report 1\n\
-            entry 0000000000010000\n\
-            blocks 3\n\
-            block 0000000000010000 0000000000010004 fall\n\
-            block 0000000000010004 000000000001000c branch\n\
-            block 000000000001000c 0000000000010010 return\n\
-            edges 3\n\
-            edge 0000000000010000 0000000000010004 fall\n\
-            edge 0000000000010004 0000000000010004 taken\n\
-            edge 0000000000010004 000000000001000c fall\n\
-            end\n",
-    },
-    Row {
-        name: "a function that calls itself",
-        blocks: &[(0x10000, 0x10004, EndKind::Call)],
-        edges: &[(0x10000, 0x10000, EdgeKind::Call)],
-        text: "\
-            cfg-report 1\n\
-            entry 0000000000010000\n\
-            blocks 1\n\
-            block 0000000000010000 0000000000010004 call\n\
-            edges 1\n\
-            edge 0000000000010000 0000000000010000 call\n\
-            end\n",
-    },
-    Row {
-        name: "mutual recursion",
-        blocks: &[
-            (0x10000, 0x10004, EndKind::Branch),
-            (0x10004, 0x10008, EndKind::Call),
-            (0x10008, 0x1000c, EndKind::Return),
-            (0x1000c, 0x10010, EndKind::Call),
-            (0x10010, 0x10014, EndKind::Return),
-        ],
-        edges: &[
-            (0x10000, 0x10004, EdgeKind::Fall),
-            (0x10000, 0x10008, EdgeKind::Taken),
-            (0x10004, 0x10008, EdgeKind::After),
-            (0x10004, 0x1000c, EdgeKind::Call),
-            (0x1000c, 0x10000, EdgeKind::Call),
-            (0x1000c, 0x10010, EdgeKind::After),
-        ],
-        text: "\
-            cfg-report 1\n\
-            entry 0000000000010000\n\
-            blocks 5\n\
-            block 0000000000010000 0000000000010004 branch\n\
-            block 0000000000010004 0000000000010008 call\n\
-            block 0000000000010008 000000000001000c return\n\
-            block 000000000001000c 0000000000010010 call\n\
-            block 0000000000010010 0000000000010014 return\n\
-            edges 6\n\
-            edge 0000000000010000 0000000000010004 fall\n\
-            edge 0000000000010000 0000000000010008 taken\n\
-            edge 0000000000010004 0000000000010008 after\n\
-            edge 0000000000010004 000000000001000c call\n\
-            edge 000000000001000c 0000000000010000 call\n\
-            edge 000000000001000c 0000000000010010 after\n\
-            end\n",
-    },
-    Row {
-        name: "paired jumps out of the code",
-        blocks: &[
-            (0x10000, 0x10008, EndKind::IndirectCall),
-            (0x10008, 0x10010, EndKind::Unknown),
-        ],
-        edges: &[(0x10000, 0x10008, EdgeKind::After)],
-        text: "\
-            cfg-report 1\n\
-            entry 0000000000010000\n\
-            blocks 2\n\
-            block 0000000000010000 0000000000010008 icall\n\
-            block 0000000000010008 0000000000010010 unknown\n\
-            edges 1\n\
-            edge 0000000000010000 0000000000010008 after\n\
-            end\n",
-    },
-    Row {
-        name: "a branch out of the code",
-        blocks: &[
-            (0x10000, 0x10004, EndKind::BranchOut),
-            (0x10004, 0x10008, EndKind::Jump),
-        ],
-        edges: &[
-            (0x10000, 0x10004, EdgeKind::Fall),
-            (0x10004, 0x10004, EdgeKind::Jump),
-        ],
-        text: "\
-            cfg-report 1\n\
-            entry 0000000000010000\n\
-            blocks 2\n\
-            block 0000000000010000 0000000000010004 branch-out\n\
-            block 0000000000010004 0000000000010008 jump\n\
-            edges 2\n\
-            edge 0000000000010000 0000000000010004 fall\n\
-            edge 0000000000010004 0000000000010004 jump\n\
-            end\n",
-    },
-    Row {
-        name: "two overlapping tables",
-        blocks: &[
-            (0x10000, 0x10008, EndKind::Branch),
-            (0x10008, 0x10020, EndKind::TableCut),
-            (0x10020, 0x10024, EndKind::Return),
-            (0x10024, 0x10028, EndKind::Return),
-            (0x10028, 0x10030, EndKind::Branch),
-            (0x10030, 0x1004c, EndKind::Table),
-            (0x10050, 0x10054, EndKind::Return),
-            (0x10054, 0x10058, EndKind::Return),
-        ],
-        edges: &[
-            (0x10000, 0x10008, EdgeKind::Fall),
-            (0x10000, 0x10024, EdgeKind::Taken),
-            (0x10008, 0x10020, EdgeKind::Table),
-            (0x10028, 0x10030, EdgeKind::Fall),
-            (0x10028, 0x10050, EdgeKind::Taken),
-            (0x10030, 0x10054, EdgeKind::Table),
-        ],
-        text: "\
-            cfg-report 1\n\
-            entry 0000000000010000\n\
-            blocks 8\n\
-            block 0000000000010000 0000000000010008 branch\n\
-            block 0000000000010008 0000000000010020 table-cut\n\
-            block 0000000000010020 0000000000010024 return\n\
-            block 0000000000010024 0000000000010028 return\n\
-            block 0000000000010028 0000000000010030 branch\n\
-            block 0000000000010030 000000000001004c table\n\
-            block 0000000000010050 0000000000010054 return\n\
-            block 0000000000010054 0000000000010058 return\n\
-            edges 6\n\
-            edge 0000000000010000 0000000000010008 fall\n\
-            edge 0000000000010000 0000000000010024 taken\n\
-            edge 0000000000010008 0000000000010020 table\n\
-            edge 0000000000010028 0000000000010030 fall\n\
-            edge 0000000000010028 0000000000010050 taken\n\
-            edge 0000000000010030 0000000000010054 table\n\
-            end\n",
-    },
-    Row {
-        name: "one straight instruction",
-        blocks: &[(0x10000, 0x10002, EndKind::Stop)],
-        edges: &[],
-        text: "\
-            cfg-report 1\n\
-            entry 0000000000010000\n\
-            blocks 1\n\
-            block 0000000000010000 0000000000010002 stop\n\
-            edges 0\n\
-            end\n",
-    },
+/// A file of six instructions, each of four bytes: a jump to the next one, a return, a jump by 12
+/// bytes, a return, `ebreak` and a return. The four instructions behind the first are functions with
+/// names: a dash, an `a` and a `b` with a space or a backslash between them, and the byte 80
+/// (hexadecimal).
+const NAMED_FILE: [u8; 480] = [
+    0x7F, 0x45, 0x4C, 0x46, 2, 1, 1, 0, 0, 0, 0, 0, 0, 0, 0, 0, 2, 0, 0xF3, 0, 1, 0, 0, 0, 0, 0, 1,
+    0, 0, 0, 0, 0, 0, 0, 0, 0, 0, 0, 0, 0, 0xE0, 0, 0, 0, 0, 0, 0, 0, 0, 0, 0, 0, 0x40, 0, 0, 0, 0,
+    0, 0x40, 0, 4, 0, 0, 0, 0x6F, 0, 0x40, 0, 0x67, 0x80, 0, 0, 0x6F, 0, 0xC0, 0, 0x67, 0x80, 0, 0,
+    0x73, 0, 0x10, 0, 0x67, 0x80, 0, 0, 0, 0, 0, 0, 0, 0, 0, 0, 0, 0, 0, 0, 0, 0, 0, 0, 0, 0, 0, 0,
+    0, 0, 0, 0, 1, 0, 0, 0, 0x12, 0, 1, 0, 4, 0, 1, 0, 0, 0, 0, 0, 0, 0, 0, 0, 0, 0, 0, 0, 3, 0, 0,
+    0, 0x12, 0, 1, 0, 8, 0, 1, 0, 0, 0, 0, 0, 0, 0, 0, 0, 0, 0, 0, 0, 7, 0, 0, 0, 0x12, 0, 1, 0,
+    0x0C, 0, 1, 0, 0, 0, 0, 0, 0, 0, 0, 0, 0, 0, 0, 0, 0x0B, 0, 0, 0, 0x12, 0, 1, 0, 0x10, 0, 1, 0,
+    0, 0, 0, 0, 0, 0, 0, 0, 0, 0, 0, 0, 0, 0x2D, 0, 0x61, 0x20, 0x62, 0, 0x61, 0x5C, 0x62, 0, 0x80,
+    0, 0, 0, 0, 0, 0, 0, 0, 0, 0, 0, 0, 0, 0, 0, 0, 0, 0, 0, 0, 0, 0, 0, 0, 0, 0, 0, 0, 0, 0, 0, 0,
+    0, 0, 0, 0, 0, 0, 0, 0, 0, 0, 0, 0, 0, 0, 0, 0, 0, 0, 0, 0, 0, 0, 0, 0, 0, 0, 0, 0, 0, 0, 0, 0,
+    0, 0, 0, 0, 0, 0, 0, 0, 1, 0, 0, 0, 6, 0, 0, 0, 0, 0, 0, 0, 0, 0, 1, 0, 0, 0, 0, 0, 0x40, 0, 0,
+    0, 0, 0, 0, 0, 0x18, 0, 0, 0, 0, 0, 0, 0, 0, 0, 0, 0, 0, 0, 0, 0, 4, 0, 0, 0, 0, 0, 0, 0, 0, 0,
+    0, 0, 0, 0, 0, 0, 0, 0, 0, 0, 2, 0, 0, 0, 0, 0, 0, 0, 0, 0, 0, 0, 0, 0, 0, 0, 0, 0, 0, 0, 0x58,
+    0, 0, 0, 0, 0, 0, 0, 0x78, 0, 0, 0, 0, 0, 0, 0, 3, 0, 0, 0, 1, 0, 0, 0, 8, 0, 0, 0, 0, 0, 0, 0,
+    0x18, 0, 0, 0, 0, 0, 0, 0, 0, 0, 0, 0, 3, 0, 0, 0, 0, 0, 0, 0, 0, 0, 0, 0, 0, 0, 0, 0, 0, 0, 0,
+    0, 0xD0, 0, 0, 0, 0, 0, 0, 0, 0x0D, 0, 0, 0, 0, 0, 0, 0, 0, 0, 0, 0, 0, 0, 0, 0, 1, 0, 0, 0, 0,
+    0, 0, 0, 0, 0, 0, 0, 0, 0, 0, 0,
 ];
 
+/// The blocks of that file: start, end, and what they end with.
+const NAMED_BLOCKS: [(u64, u64, EndKind); 6] = [
+    (0x10000, 0x10004, EndKind::Jump),
+    (0x10004, 0x10008, EndKind::Return),
+    (0x10008, 0x1000c, EndKind::Jump),
+    (0x1000c, 0x10010, EndKind::Return),
+    (0x10010, 0x10014, EndKind::Stop),
+    (0x10014, 0x10018, EndKind::Return),
+];
+
+/// The edges of that file.
+const NAMED_EDGES: [(u64, u64, EdgeKind); 2] = [
+    (0x10000, 0x10004, EdgeKind::Tail),
+    (0x10008, 0x10014, EdgeKind::Jump),
+];
+
+/// The functions of that file: entry, whether it may return, and the blocks of its body.
+const NAMED_FUNCTIONS: [(u64, bool, &[u64]); 5] = [
+    (0x10000, true, &[0x10000]),
+    (0x10004, true, &[0x10004]),
+    (0x10008, true, &[0x10008, 0x10014]),
+    (0x1000c, true, &[0x1000c]),
+    (0x10010, false, &[0x10010]),
+];
+
+/// The parts of its reports.
+const HEADING: &str = "\
+    cfg-report 1\n\
+    entry 0000000000010000\n";
+
+const FUNCTIONS: &str = "\
+    functions 5\n\
+    function 0000000000010000 may-return 1 -\n\
+    in 0000000000010000\n\
+    function 0000000000010004 may-return 1 \\x2d\n\
+    in 0000000000010004\n\
+    function 0000000000010008 may-return 2 a\\x20b\n\
+    in 0000000000010008\n\
+    in 0000000000010014\n\
+    function 000000000001000c may-return 1 a\\\\b\n\
+    in 000000000001000c\n\
+    function 0000000000010010 no-return 1 \\x80\n\
+    in 0000000000010010\n";
+
+const BLOCKS: &str = "\
+    blocks 6\n\
+    block 0000000000010000 0000000000010004 jump\n\
+    block 0000000000010004 0000000000010008 return\n\
+    block 0000000000010008 000000000001000c jump\n\
+    block 000000000001000c 0000000000010010 return\n\
+    block 0000000000010010 0000000000010014 stop\n\
+    block 0000000000010014 0000000000010018 return\n";
+
+const EDGES: &str = "\
+    edges 2\n\
+    edge 0000000000010000 0000000000010004 tail\n\
+    edge 0000000000010008 0000000000010014 jump\n";
+
 /// The graph with these blocks and edges, and no functions.
-fn graph_of(alloc: Global, row: &Row) -> Result<Graph, AllocError> {
+fn graph_of(
+    alloc: Global,
+    block_rows: &[(u64, u64, EndKind)],
+    edge_rows: &[(u64, u64, EdgeKind)],
+) -> Result<Graph, AllocError> {
     let mut blocks = Vec::new(alloc);
-    for (start, end, kind) in row.blocks {
+    for (start, end, kind) in block_rows {
         blocks.push(Block {
             start: *start,
             end: *end,
@@ -205,7 +106,7 @@ fn graph_of(alloc: Global, row: &Row) -> Result<Graph, AllocError> {
         })?;
     }
     let mut edges = Vec::new(alloc);
-    for (from, to, kind) in row.edges {
+    for (from, to, kind) in edge_rows {
         edges.push(Edge {
             from: *from,
             to: *to,
@@ -220,12 +121,42 @@ fn graph_of(alloc: Global, row: &Row) -> Result<Graph, AllocError> {
     })
 }
 
+/// The graph of the file with names.
+fn named_graph(alloc: Global) -> Result<Graph, AllocError> {
+    let mut functions = Vec::new(alloc);
+    for (entry, returns, body) in NAMED_FUNCTIONS {
+        functions.push(Function {
+            entry,
+            returns,
+            body: Addresses::from_vec(Vec::from_slice(alloc, body)?),
+        })?;
+    }
+    let graph = graph_of(alloc, &NAMED_BLOCKS, &NAMED_EDGES)?;
+    Ok(Graph {
+        functions: Functions::from_vec(functions),
+        ..graph
+    })
+}
+
 #[test]
-fn early_reports(rt: HostRuntime) -> Result<(), Fail> {
-    for row in &ROWS {
-        let graph = graph_of(rt.alloc(), row)?;
-        let text = early_report(rt.alloc(), &graph)?;
-        assert_eq!(rt; text.as_slice(), row.text.as_bytes(), "{}", row.name);
+fn reports_of_each_kind(rt: HostRuntime) -> Result<(), Fail> {
+    let kinds: [(ReportKind, &[&str]); 4] = [
+        (ReportKind::Graph, &[HEADING, FUNCTIONS, BLOCKS, EDGES]),
+        (ReportKind::Functions, &[HEADING, FUNCTIONS]),
+        (ReportKind::Blocks, &[HEADING, BLOCKS]),
+        (ReportKind::Edges, &[HEADING, EDGES]),
+    ];
+    let image = Image::parse(rt.alloc(), Vec::from_slice(rt.alloc(), &NAMED_FILE)?)?;
+    let seeds = seeds(rt.alloc(), &image)?;
+    let graph = named_graph(rt.alloc())?;
+    for (kind, parts) in kinds {
+        let mut want = Vec::new(rt.alloc());
+        for part in parts {
+            want.extend_from_slice(part.as_bytes())?;
+        }
+        want.extend_from_slice(b"end\n")?;
+        let text = report(rt.alloc(), &image, &seeds, &graph, kind)?;
+        assert_eq!(rt; text.as_slice(), want.as_slice(), "{kind:?}");
     }
     Ok(())
 }
