@@ -1,0 +1,4 @@
+pub mod Command
+pub mod Value
+pub mod Request
+pub mod Given
