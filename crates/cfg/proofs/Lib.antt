@@ -1,3 +1,4 @@
 pub mod Pieces
-pub mod Unbuilt
+pub mod Chains
+pub mod Tables
 pub mod Endings

@@ -1,8 +1,9 @@
 pub mod Words
+pub mod FileGraph
 pub mod Answer
 pub mod Status
 pub mod Refusal
-pub mod Unbuilt
 pub mod Lines
 pub mod Outcome
 pub mod Run
+pub mod Tables

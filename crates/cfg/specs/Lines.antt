@@ -2,7 +2,7 @@
 use Rattle.std.specs.Prelude.{ℕ, List, [], ◌++◌, codes}
 use Rattle.elf_image.specs.FaultNames.{fault_name}
 use Rattle.cfg.specs.declared.refusal.Refusal.{Refusal}
-use Rattle.cfg.specs.declared.refusal.Refusal.TheVariants.{Usage, Malformed, ReadFault, WriteFault, Memory, NotYet}
+use Rattle.cfg.specs.declared.refusal.Refusal.TheVariants.{Usage, Malformed, ReadFault, WriteFault, Memory}
 
 -- What the line says behind the program's name.
 abbrev pub text_of : Refusal → List ℕ
@@ -11,7 +11,6 @@ text_of (Malformed fault) = codes "malformed: "
 text_of ReadFault = codes "read fault"
 text_of WriteFault = codes "write fault"
 text_of Memory = codes "out of memory"
-text_of NotYet = codes "not yet"
 
 -- The name of the fault of a malformed file.
 abbrev pub detail_of : Refusal → List ℕ
@@ -20,7 +19,6 @@ detail_of (Malformed fault) = fault_name fault
 detail_of ReadFault = []
 detail_of WriteFault = []
 detail_of Memory = []
-detail_of NotYet = []
 
 -- The whole line.
 abbrev pub refusal_line : Refusal → List ℕ

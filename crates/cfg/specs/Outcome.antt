@@ -6,14 +6,14 @@ use Rattle.cfg.specs.declared.refusal.Refusal.TheVariants as refusals
 use Rattle.cfg.specs.Answer.{IsRefusedWith}
 
 -- A refusal is true of what was read, where the input tells its bytes; a read fault is true where the
--- input's count rose. No step before the writing answers a write fault.
+-- input's count rose. No step behind the words answers that they were not understood, and none before
+-- the writing answers a write fault.
 abbrev pub IsTrueOf : Option (List ℕ) → Type 0 → Refusal → Type 0
-IsTrueOf told rose refusals.Usage = Unit {0}
+IsTrueOf told rose refusals.Usage = ⊥
 IsTrueOf told rose (refusals.Malformed fault) = IfSome told (λ bytes. IsRefusedWith bytes (refusals.Malformed fault))
 IsTrueOf told rose refusals.ReadFault = rose
 IsTrueOf told rose refusals.WriteFault = ⊥
 IsTrueOf told rose refusals.Memory = Unit {0}
-IsTrueOf told rose refusals.NotYet = IfSome told (λ bytes. IsRefusedWith bytes refusals.NotYet)
 
 -- A refusal that the file's bytes alone decide.
 abbrev pub IsOfBytes : Refusal → Type 0
@@ -22,7 +22,6 @@ IsOfBytes (refusals.Malformed fault) = Unit {0}
 IsOfBytes refusals.ReadFault = ⊥
 IsOfBytes refusals.WriteFault = ⊥
 IsOfBytes refusals.Memory = ⊥
-IsOfBytes refusals.NotYet = Unit {0}
 
 -- The report, or a refusal that the bytes decide.
 abbrev pub IsAnswered : {X : Type 0} → Result X Refusal → Type 0
@@ -36,4 +35,3 @@ IsReadingRefusal rose (refusals.Malformed fault) = fault ≡ TooLarge
 IsReadingRefusal rose refusals.ReadFault = rose
 IsReadingRefusal rose refusals.WriteFault = ⊥
 IsReadingRefusal rose refusals.Memory = Unit {0}
-IsReadingRefusal rose refusals.NotYet = ⊥

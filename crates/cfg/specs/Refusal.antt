@@ -3,6 +3,8 @@ use Rattle.cfg.specs.declared.refusal.Refusal.{Refusal}
 use Rattle.cfg.specs.declared.refusal.Refusal.TheVariants as refusals
 use Rattle.elf_image.specs.declared.fault.ElfError.{ElfError}
 use Rattle.elf_image.specs.declared.fault.ElfError.TheVariants as errors
+use Rattle.cfg_words.specs.declared.error.WordsError.{WordsError}
+use Rattle.cfg_words.specs.declared.error.WordsError.TheVariants as words
 use Rattle.cfg.specs.declared.status.Status.{Status}
 use Rattle.cfg.specs.declared.status.Status.TheVariants as statuses
 
@@ -12,9 +14,21 @@ status_of (refusals.Malformed fault) = statuses.Malformed
 status_of refusals.ReadFault = statuses.ReadFault
 status_of refusals.WriteFault = statuses.WriteFault
 status_of refusals.Memory = statuses.Memory
-status_of refusals.NotYet = statuses.NotYet
 
 -- The refusal that an error of the file's readers is.
 abbrev pub refusal_of : ElfError → Refusal
 refusal_of (errors.Malformed fault) = refusals.Malformed fault
 refusal_of errors.Memory = refusals.Memory
+
+-- The refusal that an error of the words is.
+abbrev pub refusal_of_words : WordsError → Refusal
+refusal_of_words words.Usage = refusals.Usage
+refusal_of_words words.Memory = refusals.Memory
+
+-- Why words make no report: they ask for none, or memory ran out.
+abbrev pub IsOfWords : Type 0 → Refusal → Type 0
+IsOfWords none refusals.Usage = none
+IsOfWords none (refusals.Malformed fault) = ⊥
+IsOfWords none refusals.ReadFault = ⊥
+IsOfWords none refusals.WriteFault = ⊥
+IsOfWords none refusals.Memory = Unit {0}

@@ -4,6 +4,7 @@ use Rattle.elf_image.specs.declared.fault.Fault.{Fault}
 use Rattle.elf_image.specs.Faults.{first_fault}
 use Rattle.cfg_io.specs.Told.{Appends, AppendsPrefix}
 use Rattle.cfg_io.specs.Opened.{Opened, Nothing, Something, told_path}
+use Rattle.graph_report.specs.declared.kind.ReportKind.{ReportKind}
 use Rattle.cfg.specs.declared.status.Status.{Status}
 use Rattle.cfg.specs.declared.status.Status.TheVariants as statuses
 use Rattle.cfg.specs.declared.refusal.Refusal.TheVariants as refusals
@@ -22,15 +23,15 @@ IsAnswer statuses.Malformed = Unit {0}
 IsAnswer statuses.ReadFault = ⊥
 IsAnswer statuses.WriteFault = ⊥
 IsAnswer statuses.Memory = ⊥
-IsAnswer statuses.NotYet = Unit {0}
 
--- A run that gave the answer to these bytes: standard output grew by it.
-abbrev pub HasAnswered : List ℕ → Status → Option (List ℕ) → Option (List ℕ) → Type 0
-HasAnswered bytes status old new = (text : List ℕ) × Answers bytes status text × Appends old text new
+-- A run that gave the answer to these bytes, by the kind of report that is wanted: standard output
+-- grew by it.
+abbrev pub HasAnswered : List ℕ → ReportKind → Status → Option (List ℕ) → Option (List ℕ) → Type 0
+HasAnswered bytes kind status old new = (text : List ℕ) × Answers bytes kind status text × Appends old text new
 
 -- A run whose writing failed: standard output grew by a part, from its front, of the report.
-abbrev pub HasBegunToAnswer : List ℕ → Option (List ℕ) → Option (List ℕ) → Type 0
-HasBegunToAnswer bytes old new = (text : List ℕ) × Answers bytes statuses.Done text × AppendsPrefix old text new
+abbrev pub HasBegunToAnswer : List ℕ → ReportKind → Option (List ℕ) → Option (List ℕ) → Type 0
+HasBegunToAnswer bytes kind old new = (text : List ℕ) × Answers bytes kind statuses.Done text × AppendsPrefix old text new
 
 -- The text that a status puts on standard error, over an input of these bytes where it tells them.
 -- The fault that a malformed file's line names is the file's first.
@@ -41,7 +42,6 @@ pub data ErrorText (bytes : Option (List ℕ)) : Status → List ℕ → Type 0 
   read_fault : ErrorText bytes statuses.ReadFault (refusal_line refusals.ReadFault)
   write_fault : ErrorText bytes statuses.WriteFault (refusal_line refusals.WriteFault)
   memory : ErrorText bytes statuses.Memory (refusal_line refusals.Memory)
-  not_yet : ErrorText bytes statuses.NotYet (refusal_line refusals.NotYet)
 
 -- The input was opened by this path, or nothing was opened.
 abbrev pub OpenedBy : Bool → List ℕ → Opened → Type 0

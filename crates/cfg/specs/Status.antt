@@ -1,7 +1,7 @@
 -- The exit status of each way to end.
 use Rattle.std.specs.Prelude.{ℕ}
 use Rattle.cfg.specs.declared.status.Status.{Status}
-use Rattle.cfg.specs.declared.status.Status.TheVariants.{Done, Usage, Malformed, ReadFault, WriteFault, Memory, NotYet}
+use Rattle.cfg.specs.declared.status.Status.TheVariants.{Done, Usage, Malformed, ReadFault, WriteFault, Memory}
 
 abbrev pub number_of : Status → ℕ
 number_of Done = 0
@@ -10,4 +10,3 @@ number_of Malformed = 2
 number_of ReadFault = 3
 number_of WriteFault = 4
 number_of Memory = 5
-number_of NotYet = 6

@@ -1,14 +1,21 @@
 -- What a list of words asks for.
-use Rattle.std.specs.Prelude.{ℕ, ◌==◌, Bool, false, List, [], ◌∷◌, Option, Some, None, if◌then◌else◌}
+use Rattle.std.specs.Prelude.{ℕ, List, Option, Some, None}
+use Rattle.graph_report.specs.declared.kind.ReportKind.{ReportKind}
+use Rattle.cfg_words.specs.Request.{Asked, of_file, of_made, request_of}
 
--- A word that begins with a dash is an option, and there are none yet.
-abbrev pub is_option : List ℕ → Bool
-is_option [] = false
-is_option (c ∷ word) = c == 45
+-- A report that is asked for: the path of the file, and the kind of report.
+pub record FileReport : Type 0 where
+  pub path : List ℕ
+  pub kind : ReportKind
 
--- The file that the words ask for: the one word behind the program's name, where it is no option.
-abbrev pub file_asked : List (List ℕ) → Option (List ℕ)
-file_asked [] = None
-file_asked (program ∷ []) = None
-file_asked (program ∷ file ∷ []) = if is_option file then None else Some file
-file_asked (program ∷ file ∷ more ∷ words) = None
+-- The report of a file that a request asks for. The summary of a made program is not built yet: words
+-- that ask for it are refused.
+abbrev pub report_in : Option Asked → Option FileReport
+report_in None = None
+report_in (Some (of_file path workers kind)) = Some (record { path = path; kind = kind })
+report_in (Some (of_made n workers)) = None
+
+-- The report that the words ask for. The number of workers decides nothing but whether it is in its
+-- range.
+abbrev pub report_asked : List (List ℕ) → Option FileReport
+report_asked words = report_in (request_of words)

@@ -1,6 +1,7 @@
 //! `cfg FILE`: the control-flow graph of a RISC-V executable.
 //!
 //! - `words`: what the command line asks for. `answer`: from a file's bytes to the text of its report.
+//! - `graph`: the graph of a file, under the cuts of its jump tables.
 //! - `run`: a whole run over any input and any sinks, and what is proved of it.
 //! - `status`, `refusal`: how a run ends, and the line that tells it.
 //! - `gate`: where a test may hold workers, once there are any.
@@ -8,6 +9,7 @@
 
 mod answer;
 mod gate;
+mod graph;
 mod refusal;
 mod run;
 mod status;

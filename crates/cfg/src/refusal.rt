@@ -3,13 +3,14 @@
 ghost use Rattle.std.specs.Prelude.{◌≡◌, IfOk, OnOk, OnErr};
 ghost use Rattle.cfg_io.specs.Fault.{Rose};
 ghost use Rattle.cfg_io.specs.Told.{Appends, AppendsPrefix};
-ghost use Rattle.cfg.specs.Refusal.{status_of, refusal_of};
+ghost use Rattle.cfg.specs.Refusal.{status_of, refusal_of, refusal_of_words};
 ghost use Rattle.cfg.specs.declared.refusal.Refusal.TheVariants as refusals;
 ghost use Rattle.cfg.specs.Lines.{refusal_line, text_of, detail_of};
 ghost use Rattle.cfg.specs.Run.{Tells};
 
 use crate::status::Status;
 use cfg_io::{Failed, Sink, write_whole};
+use cfg_words::WordsError;
 use elf_image::{ElfError, Fault};
 
 /// Why a run wrote no whole report.
@@ -20,7 +21,6 @@ pub enum Refusal {
     ReadFault,
     WriteFault,
     Memory,
-    NotYet,
 }
 
 impl From<ElfError> for Refusal {
@@ -42,11 +42,30 @@ impl From<cfg_model::Memory> for Refusal {
     }
 }
 
+impl From<code_view::Memory> for Refusal {
+    ghost from_gives = { λ _ r. r ≡ refusals.Memory };
+
+    fn from(_: code_view::Memory) -> Self {
+        Refusal::Memory
+    }
+}
+
 impl From<graph_report::Memory> for Refusal {
     ghost from_gives = { λ _ r. r ≡ refusals.Memory };
 
     fn from(_: graph_report::Memory) -> Self {
         Refusal::Memory
+    }
+}
+
+impl From<WordsError> for Refusal {
+    ghost from_gives = { λ e r. r ≡ refusal_of_words e };
+
+    fn from(e: WordsError) -> Self {
+        match e {
+            WordsError::Usage => Refusal::Usage,
+            WordsError::Memory => Refusal::Memory,
+        }
     }
 }
 
@@ -61,7 +80,6 @@ impl Refusal {
             Refusal::ReadFault => Status::ReadFault,
             Refusal::WriteFault => Status::WriteFault,
             Refusal::Memory => Status::Memory,
-            Refusal::NotYet => Status::NotYet,
         }
     }
 
@@ -77,7 +95,6 @@ impl Refusal {
             Refusal::ReadFault => "read fault",
             Refusal::WriteFault => "write fault",
             Refusal::Memory => "out of memory",
-            Refusal::NotYet => "not yet",
         }
     }
 

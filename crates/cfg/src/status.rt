@@ -18,12 +18,10 @@ pub enum Status {
     WriteFault,
     /// Memory ran out.
     Memory,
-    /// The file's code needs what is not built yet.
-    NotYet,
 }
 
 impl Status {
-    /// The exit status, from 0 to 6 in the order of the variants.
+    /// The exit status, from 0 to 5 in the order of the variants.
     pub fn number(&self) -> u8
         ensures { result ≡ number_of self.now }
     {
@@ -34,7 +32,6 @@ impl Status {
             Status::ReadFault => 3,
             Status::WriteFault => 4,
             Status::Memory => 5,
-            Status::NotYet => 6,
         }
     }
 }

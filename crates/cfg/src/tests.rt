@@ -2,6 +2,8 @@
 
 ghost use Rattle.std.specs.Prelude.{◌≡◌, false, IfOk};
 
+mod linked;
+
 use crate::gate::OpenGate;
 use crate::run::run;
 use crate::status::Status;
@@ -11,22 +13,44 @@ use std::alloc::{AllocError, Global};
 use std::process::Abort;
 use std::test::Fail;
 
-// A block of a row, `start end kind`, and an edge, `from to kind`.
+// A function of a row: `entry status name` and the starts of its blocks.
+type FunctionLines<'a> = (u64, &'a str, &'a str, &'a [u64]);
+
+// A block of a row, `start end kind`, or an edge, `from to kind`.
 type Line<'a> = (u64, u64, &'a str);
 
-// A report without functions, line by line as the format's document says.
-fn early_report(alloc: Global, blocks: &[Line], edges: &[Line]) -> Result<String, AllocError> {
+// What a row says of its report.
+struct Expected<'a> {
+    functions: &'a [FunctionLines<'a>],
+    blocks: &'a [Line<'a>],
+    edges: &'a [Line<'a>],
+}
+
+// The report, line by line as the format's document says.
+fn report_text(alloc: Global, row: &Expected) -> Result<String, AllocError> {
     let mut text = String::from_str(alloc, "cfg-report 1\nentry 0000000000010000\n")?;
-    writeln!(text, "blocks {}", blocks.len())?;
-    for (start, end, kind) in blocks {
+    push_functions(&mut text, row.functions)?;
+    writeln!(text, "blocks {}", row.blocks.len())?;
+    for (start, end, kind) in row.blocks {
         writeln!(text, "block {start:016x} {end:016x} {kind}")?;
     }
-    writeln!(text, "edges {}", edges.len())?;
-    for (from, to, kind) in edges {
+    writeln!(text, "edges {}", row.edges.len())?;
+    for (from, to, kind) in row.edges {
         writeln!(text, "edge {from:016x} {to:016x} {kind}")?;
     }
     text.push_str("end\n")?;
     Ok(text)
+}
+
+fn push_functions(text: &mut String, functions: &[FunctionLines]) -> Result<(), AllocError> {
+    writeln!(text, "functions {}", functions.len())?;
+    for (entry, status, name, body) in functions {
+        writeln!(text, "function {entry:016x} {status} {} {name}", body.len())?;
+        for block in *body {
+            writeln!(text, "in {block:016x}")?;
+        }
+    }
+    Ok(())
 }
 
 // What a run left: its status, and what it wrote.
@@ -57,19 +81,24 @@ fn file(alloc: Global, bytes: Vec<u8>) -> Result<MemInput, AllocError>
     Ok(MemInput::new("F".to_string(alloc)?, bytes, 65_536, Vec::new(alloc)))
 }
 
-// The file gives the report of these blocks and edges, and nothing on standard error.
-fn reports(
+// The words and the file give this text, and nothing on standard error.
+fn prints(
     rt: &(impl Abort + AllocGlobal),
+    words: &[&str],
     bytes: Vec<u8>,
-    blocks: &[Line],
-    edges: &[Line],
+    text: &str,
 ) -> Result<(), Fail> {
-    let left = run_on(rt.alloc(), &["F"], file(rt.alloc(), bytes)?)?;
-    let text = early_report(rt.alloc(), blocks, edges)?;
+    let left = run_on(rt.alloc(), words, file(rt.alloc(), bytes)?)?;
     assert_eq!(rt; left.status, Status::Done);
     assert_eq!(rt; left.out.bytes(), text.as_bytes());
     assert_eq!(rt; left.err.bytes(), b"".as_slice());
     Ok(())
+}
+
+// The file gives the report of a row.
+fn reports(rt: &(impl Abort + AllocGlobal), bytes: Vec<u8>, row: &Expected) -> Result<(), Fail> {
+    let text = report_text(rt.alloc(), row)?;
+    prints(rt, &["F"], bytes, text.as_str())
 }
 
 // The file gives this status and this line, and nothing on standard output.
@@ -95,54 +124,113 @@ fn plain_rows(rt: HostRuntime) -> Result<(), Fail> {
     reports(
         &rt,
         row_file(alloc, 1, 0)?,
-        &[(0x10000, 0x10004, "return")],
-        &[],
+        &Expected {
+            functions: &[(0x10000, "may-return", "-", &[0x10000])],
+            blocks: &[(0x10000, 0x10004, "return")],
+            edges: &[],
+        },
     )?;
     reports(
         &rt,
         row_file(alloc, 5, 0)?,
-        &[(0x10000, 0x10004, "return"), (0x10004, 0x10008, "return")],
-        &[],
+        &Expected {
+            functions: &[
+                (0x10000, "may-return", "a", &[0x10000]),
+                (0x10004, "may-return", "c", &[0x10004]),
+            ],
+            blocks: &[(0x10000, 0x10004, "return"), (0x10004, 0x10008, "return")],
+            edges: &[],
+        },
+    )?;
+    reports(
+        &rt,
+        row_file(alloc, 5, 1)?,
+        &Expected {
+            functions: &[(0x10000, "may-return", "\\x2d", &[0x10000])],
+            blocks: &[(0x10000, 0x10004, "return")],
+            edges: &[],
+        },
+    )?;
+    reports(
+        &rt,
+        row_file(alloc, 5, 2)?,
+        &Expected {
+            functions: &[(0x10000, "may-return", "a\\x20b", &[0x10000])],
+            blocks: &[(0x10000, 0x10004, "return")],
+            edges: &[],
+        },
+    )?;
+    reports(
+        &rt,
+        row_file(alloc, 5, 3)?,
+        &Expected {
+            functions: &[(0x10000, "may-return", "a\\\\b", &[0x10000])],
+            blocks: &[(0x10000, 0x10004, "return")],
+            edges: &[],
+        },
     )?;
     reports(
         &rt,
         row_file(alloc, 6, 0)?,
-        &[
-            (0x10000, 0x10004, "fall"),
-            (0x10004, 0x1000c, "branch"),
-            (0x1000c, 0x10010, "return"),
-        ],
-        &[
-            (0x10000, 0x10004, "fall"),
-            (0x10004, 0x10004, "taken"),
-            (0x10004, 0x1000c, "fall"),
-        ],
+        &Expected {
+            functions: &[(0x10000, "may-return", "-", &[0x10000, 0x10004, 0x1000c])],
+            blocks: &[
+                (0x10000, 0x10004, "fall"),
+                (0x10004, 0x1000c, "branch"),
+                (0x1000c, 0x10010, "return"),
+            ],
+            edges: &[
+                (0x10000, 0x10004, "fall"),
+                (0x10004, 0x10004, "taken"),
+                (0x10004, 0x1000c, "fall"),
+            ],
+        },
     )?;
+    Ok(())
+}
+
+#[test]
+fn overlapping_streams(rt: HostRuntime) -> Result<(), Fail> {
+    let alloc = rt.alloc();
     reports(
         &rt,
         row_file(alloc, 7, 0)?,
-        &[
-            (0x10000, 0x10004, "fall"),
-            (0x10002, 0x10004, "fall"),
-            (0x10004, 0x10008, "return"),
-        ],
-        &[(0x10000, 0x10004, "fall"), (0x10002, 0x10004, "fall")],
+        &Expected {
+            functions: &[
+                (0x10000, "may-return", "-", &[0x10000, 0x10004]),
+                (0x10002, "may-return", "two", &[0x10002, 0x10004]),
+            ],
+            blocks: &[
+                (0x10000, 0x10004, "fall"),
+                (0x10002, 0x10004, "fall"),
+                (0x10004, 0x10008, "return"),
+            ],
+            edges: &[(0x10000, 0x10004, "fall"), (0x10002, 0x10004, "fall")],
+        },
     )?;
     reports(
         &rt,
         row_file(alloc, 8, 0)?,
-        &[
-            (0x10000, 0x10004, "fall"),
-            (0x10002, 0x10004, "fall"),
-            (0x10004, 0x10008, "branch"),
-            (0x10008, 0x1000c, "return"),
-        ],
-        &[
-            (0x10000, 0x10004, "fall"),
-            (0x10002, 0x10004, "fall"),
-            (0x10004, 0x10002, "taken"),
-            (0x10004, 0x10008, "fall"),
-        ],
+        &Expected {
+            functions: &[(
+                0x10000,
+                "may-return",
+                "-",
+                &[0x10000, 0x10002, 0x10004, 0x10008],
+            )],
+            blocks: &[
+                (0x10000, 0x10004, "fall"),
+                (0x10002, 0x10004, "fall"),
+                (0x10004, 0x10008, "branch"),
+                (0x10008, 0x1000c, "return"),
+            ],
+            edges: &[
+                (0x10000, 0x10004, "fall"),
+                (0x10002, 0x10004, "fall"),
+                (0x10004, 0x10002, "taken"),
+                (0x10004, 0x10008, "fall"),
+            ],
+        },
     )?;
     Ok(())
 }
@@ -153,87 +241,241 @@ fn call_rows(rt: HostRuntime) -> Result<(), Fail> {
     reports(
         &rt,
         row_file(alloc, 9, 0)?,
-        &[(0x10000, 0x10004, "call")],
-        &[(0x10000, 0x10000, "call")],
+        &Expected {
+            functions: &[(0x10000, "no-return", "-", &[0x10000])],
+            blocks: &[(0x10000, 0x10004, "call")],
+            edges: &[(0x10000, 0x10000, "call")],
+        },
     )?;
     reports(
         &rt,
         row_file(alloc, 10, 0)?,
-        &[
-            (0x10000, 0x10004, "branch"),
-            (0x10004, 0x10008, "call"),
-            (0x10008, 0x1000c, "return"),
-            (0x1000c, 0x10010, "call"),
-            (0x10010, 0x10014, "return"),
-        ],
-        &[
-            (0x10000, 0x10004, "fall"),
-            (0x10000, 0x10008, "taken"),
-            (0x10004, 0x10008, "after"),
-            (0x10004, 0x1000c, "call"),
-            (0x1000c, 0x10000, "call"),
-            (0x1000c, 0x10010, "after"),
-        ],
+        &Expected {
+            functions: &[
+                (0x10000, "may-return", "-", &[0x10000, 0x10004, 0x10008]),
+                (0x1000c, "may-return", "-", &[0x1000c, 0x10010]),
+            ],
+            blocks: &[
+                (0x10000, 0x10004, "branch"),
+                (0x10004, 0x10008, "call"),
+                (0x10008, 0x1000c, "return"),
+                (0x1000c, 0x10010, "call"),
+                (0x10010, 0x10014, "return"),
+            ],
+            edges: &[
+                (0x10000, 0x10004, "fall"),
+                (0x10000, 0x10008, "taken"),
+                (0x10004, 0x10008, "after"),
+                (0x10004, 0x1000c, "call"),
+                (0x1000c, 0x10000, "call"),
+                (0x1000c, 0x10010, "after"),
+            ],
+        },
     )?;
     reports(
         &rt,
         row_file(alloc, 11, 0)?,
-        &[(0x10000, 0x10008, "icall"), (0x10008, 0x10010, "unknown")],
-        &[(0x10000, 0x10008, "after")],
+        &Expected {
+            functions: &[(0x10000, "may-return", "-", &[0x10000, 0x10008])],
+            blocks: &[(0x10000, 0x10008, "icall"), (0x10008, 0x10010, "unknown")],
+            edges: &[(0x10000, 0x10008, "after")],
+        },
     )?;
     reports(
         &rt,
         row_file(alloc, 12, 0)?,
-        &[(0x10000, 0x10004, "branch-out"), (0x10004, 0x10008, "jump")],
-        &[(0x10000, 0x10004, "fall"), (0x10004, 0x10004, "jump")],
+        &Expected {
+            functions: &[(0x10000, "may-return", "-", &[0x10000, 0x10004])],
+            blocks: &[(0x10000, 0x10004, "branch-out"), (0x10004, 0x10008, "jump")],
+            edges: &[(0x10000, 0x10004, "fall"), (0x10004, 0x10004, "jump")],
+        },
     )?;
     Ok(())
 }
 
 #[test]
-fn stop_and_jump_rows(rt: HostRuntime) -> Result<(), Fail> {
+fn table_rows(rt: HostRuntime) -> Result<(), Fail> {
+    let alloc = rt.alloc();
+    reports(
+        &rt,
+        row_file(alloc, 13, 0)?,
+        &Expected {
+            functions: &[(
+                0x10000,
+                "may-return",
+                "-",
+                &[0x10000, 0x10008, 0x10020, 0x10024, 0x10028],
+            )],
+            blocks: &[
+                (0x10000, 0x10008, "branch"),
+                (0x10008, 0x10020, "table"),
+                (0x10020, 0x10024, "return"),
+                (0x10024, 0x10028, "return"),
+                (0x10028, 0x1002c, "return"),
+            ],
+            edges: &[
+                (0x10000, 0x10008, "fall"),
+                (0x10000, 0x10028, "taken"),
+                (0x10008, 0x10020, "table"),
+                (0x10008, 0x10024, "table"),
+            ],
+        },
+    )?;
+    reports(
+        &rt,
+        row_file(alloc, 14, 0)?,
+        &Expected {
+            functions: &[(
+                0x10000,
+                "may-return",
+                "-",
+                &[0x10000, 0x10006, 0x10014, 0x10016],
+            )],
+            blocks: &[
+                (0x10000, 0x10006, "branch"),
+                (0x10006, 0x10014, "table"),
+                (0x10014, 0x10016, "return"),
+                (0x10016, 0x10018, "return"),
+            ],
+            edges: &[
+                (0x10000, 0x10006, "fall"),
+                (0x10000, 0x10016, "taken"),
+                (0x10006, 0x10014, "table"),
+            ],
+        },
+    )?;
+    reports(
+        &rt,
+        row_file(alloc, 15, 0)?,
+        &Expected {
+            functions: &[
+                (
+                    0x10000,
+                    "may-return",
+                    "-",
+                    &[0x10000, 0x10008, 0x10020, 0x10024],
+                ),
+                (
+                    0x10028,
+                    "may-return",
+                    "b",
+                    &[0x10028, 0x10030, 0x10050, 0x10054],
+                ),
+            ],
+            blocks: &[
+                (0x10000, 0x10008, "branch"),
+                (0x10008, 0x10020, "table-cut"),
+                (0x10020, 0x10024, "return"),
+                (0x10024, 0x10028, "return"),
+                (0x10028, 0x10030, "branch"),
+                (0x10030, 0x1004c, "table"),
+                (0x10050, 0x10054, "return"),
+                (0x10054, 0x10058, "return"),
+            ],
+            edges: &[
+                (0x10000, 0x10008, "fall"),
+                (0x10000, 0x10024, "taken"),
+                (0x10008, 0x10020, "table"),
+                (0x10028, 0x10030, "fall"),
+                (0x10028, 0x10050, "taken"),
+                (0x10030, 0x10054, "table"),
+            ],
+        },
+    )?;
+    Ok(())
+}
+
+#[test]
+fn stop_and_tail_rows(rt: HostRuntime) -> Result<(), Fail> {
     let alloc = rt.alloc();
     reports(
         &rt,
         row_file(alloc, 16, 0)?,
-        &[(0x10000, 0x10002, "stop")],
-        &[],
+        &Expected {
+            functions: &[(0x10000, "no-return", "-", &[0x10000])],
+            blocks: &[(0x10000, 0x10002, "stop")],
+            edges: &[],
+        },
     )?;
     reports(
         &rt,
         row_file(alloc, 16, 1)?,
-        &[(0x10000, 0x10002, "stop")],
-        &[],
+        &Expected {
+            functions: &[(0x10000, "no-return", "-", &[0x10000])],
+            blocks: &[(0x10000, 0x10002, "stop")],
+            edges: &[],
+        },
     )?;
     reports(
         &rt,
         row_file(alloc, 16, 2)?,
-        &[(0x10000, 0x10004, "stop")],
-        &[],
+        &Expected {
+            functions: &[(0x10000, "no-return", "-", &[0x10000])],
+            blocks: &[(0x10000, 0x10004, "stop")],
+            edges: &[],
+        },
     )?;
     reports(
         &rt,
         row_file(alloc, 16, 3)?,
-        &[(0x10000, 0x10002, "stop")],
-        &[],
+        &Expected {
+            functions: &[(0x10000, "no-return", "-", &[0x10000])],
+            blocks: &[(0x10000, 0x10002, "stop")],
+            edges: &[],
+        },
     )?;
     reports(
         &rt,
         row_file(alloc, 17, 0)?,
-        &[
-            (0x10000, 0x10004, "branch"),
-            (0x10004, 0x10008, "jump"),
-            (0x10008, 0x1000c, "return"),
-            (0x1000c, 0x10010, "jump"),
-        ],
-        &[
-            (0x10000, 0x10004, "fall"),
-            (0x10000, 0x10008, "taken"),
-            (0x10004, 0x10000, "jump"),
-            (0x1000c, 0x10000, "jump"),
-        ],
+        &Expected {
+            functions: &[
+                (0x10000, "may-return", "-", &[0x10000, 0x10004, 0x10008]),
+                (0x1000c, "may-return", "g", &[0x1000c]),
+            ],
+            blocks: &[
+                (0x10000, 0x10004, "branch"),
+                (0x10004, 0x10008, "jump"),
+                (0x10008, 0x1000c, "return"),
+                (0x1000c, 0x10010, "jump"),
+            ],
+            edges: &[
+                (0x10000, 0x10004, "fall"),
+                (0x10000, 0x10008, "taken"),
+                (0x10004, 0x10000, "jump"),
+                (0x1000c, 0x10000, "tail"),
+            ],
+        },
     )?;
     Ok(())
+}
+
+#[test]
+fn report_kinds(rt: HostRuntime) -> Result<(), Fail> {
+    let alloc = rt.alloc();
+    let head = "cfg-report 1\nentry 0000000000010000\n";
+    let functions = "functions 1\nfunction 0000000000010000 may-return 1 -\nin 0000000000010000\n";
+    let blocks = "blocks 1\nblock 0000000000010000 0000000000010004 return\n";
+    let one = |kind: &str, sections: &str| -> Result<(), Fail> {
+        let text = format!(in alloc; "{head}{sections}end\n")?;
+        prints(
+            &rt,
+            &["--report", kind, "F"],
+            row_file(alloc, 1, 0)?,
+            text.as_str(),
+        )
+    };
+    one("functions", functions)?;
+    one("blocks", blocks)?;
+    one("edges", "edges 0\n")?;
+    let all = format!(in alloc; "{functions}{blocks}edges 0\n")?;
+    one("graph", all.as_str())?;
+    let text = format!(in alloc; "{head}{functions}{blocks}edges 0\nend\n")?;
+    prints(
+        &rt,
+        &["--workers", "064", "F"],
+        row_file(alloc, 1, 0)?,
+        text.as_str(),
+    )
 }
 
 #[test]
@@ -265,14 +507,6 @@ fn refused_files(rt: HostRuntime) -> Result<(), Fail> {
         file(alloc, cut)?,
         Status::Malformed,
         "cfg: malformed: SectionTable\n",
-    )?;
-    let table = row_file(alloc, 13, 0)?;
-    refuses(
-        &rt,
-        &["F"],
-        file(alloc, table)?,
-        Status::NotYet,
-        "cfg: not yet\n",
     )
 }
 
@@ -280,27 +514,24 @@ fn refused_files(rt: HostRuntime) -> Result<(), Fail> {
 fn refused_words(rt: HostRuntime) -> Result<(), Fail> {
     let alloc = rt.alloc();
     let usage = "cfg: usage: cfg [--workers N] [--report KIND] FILE | cfg [--workers N] --make N\n";
-    refuses(
-        &rt,
+    let lists: [&[&str]; 12] = [
         &[],
-        file(alloc, row_file(alloc, 1, 0)?)?,
-        Status::Usage,
-        usage,
-    )?;
-    refuses(
-        &rt,
         &["-F"],
-        file(alloc, row_file(alloc, 1, 0)?)?,
-        Status::Usage,
-        usage,
-    )?;
-    refuses(
-        &rt,
         &["F", "F"],
-        file(alloc, row_file(alloc, 1, 0)?)?,
-        Status::Usage,
-        usage,
-    )?;
+        &["--workers", "0", "F"],
+        &["--workers", "65", "F"],
+        &["--workers", "+4", "F"],
+        &["--report", "all", "F"],
+        &["F", "--make", "4"],
+        &["--make", "3"],
+        &["--make", "4", "--report", "graph"],
+        &["--colour", "F"],
+        &["--help"],
+    ];
+    for words in lists {
+        let input = file(alloc, row_file(alloc, 1, 0)?)?;
+        refuses(&rt, words, input, Status::Usage, usage)?;
+    }
     refuses(
         &rt,
         &["G"],

@@ -1,22 +1,33 @@
 //! What the words of the command line ask for.
 
-ghost use Rattle.std.specs.Prelude.{◌≡◌, map, string_bytes, Option};
-ghost use Rattle.std.specs.Option.{option_map};
-ghost use Rattle.cfg.specs.Words.{file_asked, is_option};
+ghost use Rattle.std.specs.Prelude.{◌≡◌, map, string_bytes, Some, None, IfOk, IfErr};
+ghost use Rattle.cfg.specs.Words.{FileReport, report_asked};
+ghost use Rattle.cfg.specs.Refusal.{IsOfWords};
 
-/// The path of the file that the words ask for: that of the one word behind the program's name, where
-/// it does not begin with a dash.
-pub fn file_asked(words: &[String]) -> Option<&str>
-    ensures { option_map (λ path. path.now) result ≡ file_asked (map (λ w. string_bytes w) words.now) }
-{
-    match words {
-        [_, file] if !is_option(file.as_str()) => Some(file.as_str()),
-        _ => None,
-    }
+use crate::refusal::Refusal;
+use cfg_words::{Request, request};
+use graph_report::ReportKind;
+use std::alloc::Global;
+
+/// A report of a file that is asked for.
+#[derive(Debug, Drop)]
+pub struct FileReport {
+    /// The path of the file.
+    pub path: String,
+    /// Which part of the graph is reported.
+    pub kind: ReportKind,
 }
 
-fn is_option(word: &str) -> bool
-    ensures { result ≡ is_option word.now }
+/// The report that the words ask for, the program's name first.
+///
+/// The summary of a made program is not built yet, so words that ask for it are refused.
+pub fn report_asked(alloc: Global, words: &[String]) -> Result<FileReport, Refusal>
+    ensures asked { IfOk result (λ r. report_asked (map (λ w. string_bytes w) words.now)
+        ≡ Some (record { path = string_bytes r.path; kind = r.kind })) }
+    ensures refused { IfErr result (IsOfWords (report_asked (map (λ w. string_bytes w) words.now) ≡ None)) }
 {
-    word.as_bytes().first() == Some(&b'-')
+    match request(alloc, words)? {
+        Request::File { path, kind, .. } => Ok(FileReport { path, kind }),
+        Request::Make { .. } => Err(Refusal::Usage),
+    }
 }

@@ -1,19 +1,20 @@
-use Rattle.std.proofs.Common.{◌≡◌, sym, ◌∙◌, subst, true, false, Bool, List, ℕ, None}
+use Rattle.std.proofs.Common.{◌≡◌, sym, subst, List, ℕ, None}
 use Rattle.elf_image.specs.Faults.{first_fault}
+use Rattle.elf_image.specs.Seeds.{seed_name}
+use Rattle.graph_report.specs.Report.{report_text}
 use Rattle.cfg.specs.declared.status.Status.TheVariants.{Done}
-use Rattle.cfg.specs.Answer.{Answers, ReachesUnbuilt, IsGraphOf}
+use Rattle.cfg.specs.Answer.{Answers}
+use Rattle.cfg.specs.FileGraph.{IsGraphOf}
 use Rattle.cfg.proofs.answer.report_of.Goals as goal
 
 pub returns-clause-done : goal.returns-clause-done
 returns-clause-done c =
     let bytes = c.args.bytes.items in
+    let kind = c.args.kind in
+    let graph = c.in_ok-graph.graph in
     let same : c.in_ok-image.image ≡ bytes = c.in_ok-image.ensures.ok in
-    let none : ReachesUnbuilt c.in_ok-image.image → ⊥ = λ reached. false-true (sym c.if-reaches_unbuilt.false ∙ c.reaches_unbuilt.ensures.1 reached) in
-    subst (λ (text : List ℕ). Answers bytes Done text) (sym c.in_ok-early_report.ensures.text)
-    (Answers.done {graph = c.in_ok-graph.graph}
+    subst (λ (text : List ℕ). Answers bytes kind Done text) (sym c.in_ok-report.ensures.text)
+    (subst (λ (b : List ℕ). Answers bytes kind Done (report_text kind (seed_name b) graph)) (sym same)
+    (Answers.done {graph = graph}
     (subst (λ (b : List ℕ). first_fault b ≡ None) same c.in_ok-seeds.ensures.accepted)
-    (subst (λ (b : List ℕ). ReachesUnbuilt b → ⊥) same none)
-    (subst (λ (b : List ℕ). IsGraphOf b c.in_ok-graph.graph) same c.in_ok-graph.ensures))
-  where
-    false-true : ◌≡◌ {A = Bool} false true → ⊥
-    false-true e = cc
+    (subst (λ (b : List ℕ). IsGraphOf b graph) same c.in_ok-graph.ensures.graph)))
