@@ -1,0 +1,27 @@
+-- The chains of a test's program.
+use Rattle.std.proofs.Common.{◌≡◌, ℕ, Bool, true, false, not, eqb, refl, subst, sym, ap, ◌∙◌}
+use Rattle.std.specs.Prelude.{Option, Some, None}
+use Rattle.std.specs.Option.{option_eq}
+use Rattle.std.proofs.lemmas.Bool.{eqb-true}
+use Rattle.cfg_model.specs.Chain.{OnChain}
+use Rattle.cfg_model.specs.State.{EndMap, IsNear, near_at}
+use Rattle.cfg_model.proofs.StateReads.{one_value}
+use Rattle.core_state.specs.Sample.{row_23}
+
+pub from_0 : OnChain row_23 0x10000 0x10004
+from_0 = OnChain.on refl OnChain.here
+
+pub from_2 : OnChain row_23 0x10002 0x10004
+from_2 = OnChain.on refl OnChain.here
+
+pub near_0 : (ends : EndMap) → near_at ends 0x10004 ≡ Some 0x10000 → (p : ℕ) → IsNear ends 0x10004 p → OnChain row_23 p 0x10004
+near_0 ends is p near = subst (λ q. OnChain row_23 q 0x10004) (one_value 0x10000 p (sym is ∙ near)) from_0
+
+-- what a test of an answer says of it
+pub answer_is : (o : Option ℕ) (x : ℕ) (differs : Bool) → differs ≡ not (option_eq eqb o (Some x)) → differs ≡ false → o ≡ Some x
+answer_is None x differs e same = cc
+answer_is (Some y) x differs e same = ap Some (eqb-true y x (twice (eqb y x) (sym e ∙ same)))
+  where
+    twice : (b : Bool) → not b ≡ false → b ≡ true
+    twice true e = refl
+    twice false e = cc

@@ -1,0 +1,12 @@
+use Rattle.std.proofs.Common.{sym, ◌∙◌}
+use Rattle.core_state.proofs.RowChains.{from_0, near_0, answer_is}
+use Rattle.core_state.proofs.tests.arrive_first.Goals as goal
+
+pub arrive-requires-clause-arriving : goal.arrive-requires-clause-arriving
+arrive-requires-clause-arriving g c κs = from_0
+
+pub arrive-requires-2-clause-arriving : goal.arrive-requires-2-clause-arriving
+arrive-requires-2-clause-arriving g c κs = from_0
+
+pub arrive-requires-2-clause-near : goal.arrive-requires-2-clause-near
+arrive-requires-2-clause-near g c κs = near_0 _ (sym c.near.ensures ∙ answer_is _ _ _ c.ne.ensures c.if-ne.false)

@@ -1,0 +1,10 @@
+pub mod Least
+pub mod Answer
+pub mod Untold
+pub mod Reads
+pub mod Joined
+pub mod Leads
+pub mod Walk
+pub mod Sample
+pub mod Place
+pub mod Work

@@ -1,0 +1,61 @@
+-- What a place that a builder works on tells: what it knows, and what becomes of its maps where it
+-- tells them.
+use Rattle.std.specs.Prelude.{◌≡◌, ◌<◌, ℕ, List, [], ◌∷◌, Option, Some, None}
+use Rattle.std.specs.Option.{ForSome}
+use Rattle.cfg_model.specs.Instructions.{InstructionMap}
+use Rattle.cfg_model.specs.State.{BuilderState, IsNear, near_at}
+use Rattle.cfg_model.specs.Event.{Event, Steps}
+use Rattle.cfg_model.specs.Fact.{Fact}
+use Rattle.cfg_model.specs.Brought.{facts_of}
+use Rattle.cfg_model.specs.Reason.{May}
+use Rattle.cfg_model.specs.Kept.{IsKept}
+use Rattle.cfg_model.specs.Shard.{shard_of}
+use Rattle.core_state.specs.declared.answer.Arrival.{Arrival}
+use Rattle.core_state.specs.declared.answer.Arrival.TheVariants.{First, Same, Split}
+use Rattle.core_state.specs.declared.answer.ShardKind.{ShardKind}
+use Rattle.core_state.specs.declared.answer.PlaceEnd.{PlaceEnd}
+use Rattle.core_state.specs.declared.answer.PlaceEnd.TheVariants.{Busy, Memory}
+use Rattle.core_state.specs.Answer.{arrival_of}
+
+-- Where the maps are told, they are kept.
+abbrev pub AreKept : InstructionMap → List ℕ → Option BuilderState → Type 0
+AreKept map seeds maps = ForSome maps (IsKept map seeds)
+
+-- Where the maps are told, they go from one state to another as R says. Whether they are told never
+-- changes.
+abbrev pub WhereTold : (BuilderState → BuilderState → Type 0) → Option BuilderState → Option BuilderState → Type 0
+WhereTold R None new = new ≡ None
+WhereTold R (Some old) new = (state : BuilderState) × (new ≡ Some state) × R old state
+
+-- Where the maps are told, they allowed the event and made its step.
+abbrev pub Makes : InstructionMap → List ℕ → Event → Option BuilderState → Option BuilderState → Type 0
+Makes map seeds event = WhereTold (λ old new. May map seeds old event × Steps map old event new)
+
+-- All these facts are known.
+abbrev pub AreKnown : (Fact → Type 0) → List Fact → Type 0
+AreKnown Known [] = Unit {0}
+AreKnown Known (fact ∷ facts) = Known fact × AreKnown Known facts
+
+-- What the event brings is known.
+abbrev pub Brings : Event → (Fact → Type 0) → Type 0
+Brings event Known = AreKnown Known (facts_of event)
+
+-- What was known is known.
+abbrev pub Remembers : (Fact → Type 0) → (Fact → Type 0) → Type 0
+Remembers Before After = (fact : Fact) → Before fact → After fact
+
+-- The start that is near at an end after s arrived there.
+abbrev pub near_after : ℕ → Arrival → ℕ
+near_after s First = s
+near_after s Same = s
+near_after s (Split near first second) = near
+
+-- Where the maps are told, the arrival is the one that they answer: by the starts that were and are
+-- near at k.
+abbrev pub IsArrival : ℕ → ℕ → Option BuilderState → Option BuilderState → Arrival → Type 0
+IsArrival k s before after arrival = (old new : BuilderState) → before ≡ Some old → after ≡ Some new → (m : ℕ) → IsNear new.ends k m → arrival ≡ arrival_of s (near_at old.ends k) m
+
+-- A refusal for want of a shard names the one of the key, and comes only where the count rose.
+abbrev pub IsBusyAt : ShardKind → ℕ → ℕ → ℕ → PlaceEnd → Type 0
+IsBusyAt kind key before after (Busy k shard) = (k ≡ kind) × (shard ≡ shard_of key) × (before < after)
+IsBusyAt kind key before after Memory = Unit {0}

@@ -1,0 +1,16 @@
+-- The program of a test.
+use Rattle.std.specs.Prelude.{ℕ, List, [], ◌∷◌, ◌++◌, true}
+use Rattle.cfg_model.specs.declared.flow.Flow.TheVariants.{Table}
+use Rattle.cfg_model.specs.Instructions.{Instruction, InstructionMap}
+use Rattle.cfg_model.proofs.Rows.{placed, row_8_code}
+
+-- A table jump to the first instruction of row 8.
+abbrev pub table_jump : Instruction
+table_jump = record { bytes = 4; flow = Table 1 true; targets = 0x10000 ∷ [] }
+
+-- Row 8's code, and the table jump, to which nothing leads.
+abbrev pub row_23_code : List (ℕ × Instruction)
+row_23_code = row_8_code ++ (0x20000, table_jump) ∷ []
+
+abbrev pub row_23 : InstructionMap
+row_23 = placed row_23_code

@@ -1,0 +1,104 @@
+//! A walk along the chains of a program, in the hands of one worker.
+
+ghost use Rattle.std.specs.Prelude.{◌≡◌, ◌≢◌, ℕ, ◌<◌, ◌≤◌, IsSome};
+ghost use Rattle.cfg_model.specs.Chain.{GoesOnTo, OnChain};
+ghost use Rattle.cfg_model.specs.Instructions.{IsLawful};
+ghost use Rattle.cfg_model.specs.Meeting.{IsMeeting};
+
+use cfg_model::{Chains, Flow};
+
+/// A program as a walk along its chains sees it. A [`Chains`] value is walked [`Along`].
+///
+/// It need not be shared between threads. So a method of a trait can pass it on that was handed a
+/// `Chains` value of any type.
+pub(crate) trait Walk {
+    ghost use Rattle.std.specs.Prelude.{◌↔◌, IsTrue, IsSome, IfSome, IfNone};
+    ghost use Rattle.cfg_model.specs.Chain.{GoesOnTo, IsTerminator};
+    ghost use Rattle.cfg_model.specs.Instructions.{InstructionMap, IsLawful};
+
+    /// The instructions, by address.
+    ghost map: { Self → InstructionMap };
+
+    /// Whether an instruction stands at `a`.
+    fn stands(&self, a: u64) -> bool
+        ensures { IsTrue result ↔ IsSome (map self.now a) };
+
+    /// The address behind the instruction at `k`, where it goes straight on.
+    fn behind(&self, k: u64) -> Option<u64>
+        requires { IsSome (map self.now k) }
+        ensures lawful { IsLawful (map self.now) }
+        ensures onward { IfSome result (GoesOnTo (map self.now) k) }
+        ensures ends { IfNone result (IsTerminator (map self.now) k) };
+}
+
+/// A program, to be walked along its chains.
+#[derive(Clone, Copy)]
+pub(crate) struct Along<'a, C>(pub(crate) &'a C);
+
+impl<C: Chains> Walk for Along<'_, C> {
+    ghost map = { λ walk. C.map walk.0.now };
+
+    fn stands(&self, a: u64) -> bool {
+        self.0.has(a)
+    }
+
+    fn behind(&self, k: u64) -> Option<u64> {
+        match self.0.flow(k) {
+            Flow::Straight { next } => Some(next),
+            _ => None,
+        }
+    }
+}
+
+/// The first address that is on the chains of both `p` and `q`, where both lead to `k`. It takes
+/// time linear in the two chains up to `k`.
+pub(crate) fn meet_along<W: Walk>(walk: &W, p: u64, q: u64, k: u64) -> u64
+    requires first { IsSome (W.map walk.now p) }
+    requires second { IsSome (W.map walk.now q) }
+    requires first_leads { OnChain (W.map walk.now) p k }
+    requires second_leads { OnChain (W.map walk.now) q k }
+    ensures { IsMeeting (W.map walk.now) p q result }
+{
+    let mut a = p;
+    let mut b = climb(walk, q, p);
+    while a != b {
+        a = towards(walk, a, k);
+        b = climb(walk, b, a);
+    }
+    a
+}
+
+/// The last address on the chain of `s` that does not lie above `k`, or `s` where that one does.
+fn climb<W: Walk>(walk: &W, s: u64, k: u64) -> u64
+    requires { IsSome (W.map walk.now s) }
+    ensures lawful { IsLawful (W.map walk.now) }
+    ensures known { IsSome (W.map walk.now result) }
+    ensures on_chain { OnChain (W.map walk.now) s result }
+    ensures ahead { (x : ℕ) → k ≤ x → OnChain (W.map walk.now) s x → OnChain (W.map walk.now) result x }
+    ensures found { OnChain (W.map walk.now) s k → result ≡ k }
+{
+    let mut at = s;
+    while let Some(next) = walk.behind(at) {
+        if next > k {
+            break;
+        }
+        at = next;
+    }
+    at
+}
+
+/// The address behind `a` on the way to `k`.
+fn towards<W: Walk>(walk: &W, a: u64, k: u64) -> u64
+    requires start { IsSome (W.map walk.now a) }
+    requires leads { OnChain (W.map walk.now) a k }
+    requires apart { a ≢ k }
+    ensures known { IsSome (W.map walk.now result) }
+    ensures onward { GoesOnTo (W.map walk.now) a result }
+    ensures leads { OnChain (W.map walk.now) result k }
+    ensures above { a < result }
+{
+    match walk.behind(a) {
+        Some(next) => next,
+        None => k,
+    }
+}

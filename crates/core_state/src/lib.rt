@@ -1,0 +1,46 @@
+//! The state that builders of a control-flow graph share, as data: the starts, ends and terminators of
+//! blocks that are known so far, and the nine changes of them.
+//!
+//! - [`shard()`]: the shard that an address belongs to, of 64.
+//! - [`starts`], [`ends`], [`terms`]: one shard of each of the three maps.
+//! - [`state`]: all shards, as one state.
+//! - [`left`]: the work that is left in a state.
+//! - [`laws`]: that events keep the state, and that their order does not matter.
+//! - [`place`]: what a builder works on, told or not.
+//! - [`answer`]: what changes answer, and how shards and work are named.
+#![tactic(auto)]
+
+ghost use Rattle.std.specs.Prelude.{◌≡◌};
+ghost use Rattle.cfg_model.specs.Shard.{shard_of};
+
+mod along;
+pub mod answer;
+pub mod ends;
+pub mod laws;
+pub mod left;
+pub mod memory;
+pub mod place;
+pub mod starts;
+pub mod state;
+mod state_place;
+pub mod terms;
+#[cfg(test)]
+mod tests;
+mod walk;
+
+pub use answer::{Arrival, Name, PlaceEnd, ShardKind, WorkKind};
+pub use ends::Ends;
+pub use laws::{confluence, events_keep_the_state, what_is_known_is_true, what_was_seen_is_known};
+pub use memory::Memory;
+pub use place::{Job, Place};
+pub use starts::Starts;
+pub use state::State;
+pub use terms::Terms;
+
+/// The number of the shard that the address `a` belongs to: the lines of 64 bytes go to 64 shards in
+/// turn.
+pub fn shard(a: u64) -> u32
+    ensures { result ≡ shard_of a }
+{
+    (a / 64 % 64) as u32
+}

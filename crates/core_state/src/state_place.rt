@@ -1,0 +1,80 @@
+//! A whole state as a place. It tells its maps, and none of its shards is ever in other hands.
+
+use crate::along::Along;
+use crate::answer::{Arrival, Name, PlaceEnd};
+use crate::place::{Job, Place};
+use crate::state::State;
+use cfg_model::{Chains, Waiter};
+
+impl<J: Job> Place<J> for State {
+    ghost use Rattle.std.specs.Prelude.{Some};
+    ghost use Rattle.cfg_model.specs.Fact.{Holds};
+    ghost use Rattle.cfg_model.specs.State.{BuilderState};
+    ghost use Rattle.std.proofs.Common.{refl, sym, subst};
+    ghost use Rattle.std.proofs.lemmas.Option.{same_Some};
+    ghost use Rattle.cfg_model.proofs.SoundLaws.{kept_is_sound, sound_facts_hold};
+
+    ghost busies = { λ _. 0 };
+
+    ghost knows = { λ state. Holds J.map state };
+
+    ghost maps = { λ state. Some state };
+
+    fn want(&mut self, s: u64) -> Result<bool, PlaceEnd> {
+        Ok(State::want(self, s)?)
+    }
+
+    fn parsed(&mut self, s: u64) -> Result<(), PlaceEnd> {
+        State::parsed(self, s);
+        Ok(())
+    }
+
+    fn arrive<C: Chains>(&mut self, code: &C, k: u64, s: u64) -> Result<Arrival, PlaceEnd> {
+        Ok(self.arrive_along(&Along(code), k, s)?)
+    }
+
+    fn settle(&mut self, k: u64, x: u64) -> Result<(), PlaceEnd> {
+        State::settle(self, k, x);
+        Ok(())
+    }
+
+    fn term(&mut self, k: u64) -> Result<bool, PlaceEnd> {
+        Ok(State::term(self, k)?)
+    }
+
+    fn wait(&mut self, k: u64, w: Waiter) -> Result<bool, PlaceEnd> {
+        Ok(State::wait(self, k, w)?)
+    }
+
+    fn returned(&mut self, k: u64) -> Result<bool, PlaceEnd> {
+        Ok(State::returned(self, k))
+    }
+
+    fn told(&mut self, k: u64, w: Waiter) -> Result<(), PlaceEnd> {
+        State::told(self, k, w);
+        Ok(())
+    }
+
+    fn edges_done(&mut self, k: u64) -> Result<(), PlaceEnd> {
+        State::edges_done(self, k);
+        Ok(())
+    }
+
+    fn near(&mut self, k: u64) -> Result<Option<u64>, PlaceEnd> {
+        Ok(State::near(self, k))
+    }
+
+    fn moved(&mut self, k: u64) -> Result<Option<u64>, PlaceEnd> {
+        Ok(State::moved(self, k))
+    }
+
+    fn untold(&mut self, k: u64) -> Result<Option<Waiter>, PlaceEnd> {
+        Ok(State::untold(self, k))
+    }
+
+    fn found(&mut self, _name: Name) {}
+
+    ghost sound = { λ state kept fact. sound_facts_hold J.map J.seeds state fact (kept_is_sound J.map J.seeds state (kept state refl)) };
+
+    ghost exact = { λ place state told fact. (subst (λ (s : BuilderState). Holds J.map s fact) (same_Some place state told), subst (λ (s : BuilderState). Holds J.map s fact) (sym (same_Some place state told))) };
+}

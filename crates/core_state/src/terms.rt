@@ -1,0 +1,238 @@
+//! A shard of the terminators.
+
+ghost use Rattle.std.specs.Prelude.{◌≡◌, ◌↔◌, false, not, IsTrue, IsSome, Some, OnOk, OnErr, IfOk};
+ghost use Rattle.std.specs.FinMap as maps;
+ghost use Rattle.cfg_model.specs.Waiter.{waiter_cmp};
+ghost use Rattle.cfg_model.specs.State.{IsEntered, IsReturned, WaitsAt};
+ghost use Rattle.cfg_model.specs.Event.{new_entry, with_terminator, with_changed, entry_with_waiter, entry_with_told, entry_with_return, entry_with_done};
+ghost use Rattle.core_state.specs.Least.{IsLeastBy};
+ghost use Rattle.core_state.specs.Reads.{done_at, returned_at, IsNextToTell};
+
+use crate::memory::Memory;
+use crate::walk::{Keys, least_above};
+use cfg_model::Waiter;
+use std::alloc::Global;
+use std::collections::{BTreeMap, BTreeSet};
+use std::marker::Model;
+
+/// The terminators in one shard, by their address.
+#[derive(Drop)]
+pub struct Terms {
+    alloc: Global,
+    terms: BTreeMap<u64, Terminator>,
+}
+
+impl Model for Terms {
+    ghost use Rattle.std.specs.FinMap as maps;
+    ghost use Rattle.cfg_model.specs.State.{TerminatorMap};
+    ghost use Rattle.cfg_model.specs.StateCode.{coded_terminators};
+
+    ghost Value = { TerminatorMap };
+
+    ghost coded = { coded_terminators };
+
+    ghost view = { λ t. maps.from_entries t.terms.entries };
+}
+
+impl Terms {
+    /// A shard without terminators. It takes no memory before a terminator is added.
+    pub fn empty(alloc: Global) -> Self
+        ensures { result ≡ maps.empty }
+    {
+        Terms {
+            alloc,
+            terms: BTreeMap::new(alloc),
+        }
+    }
+
+    /// Enters `k` as a terminator, where it is none. Answers whether it is new; [`Memory`] where memory
+    /// ran out, and then nothing has changed.
+    pub fn term(&mut self, k: u64) -> Result<bool, Memory>
+        ensures entered { OnOk result (self.new ≡ with_terminator self.old k) }
+        ensures answer { IfOk result (λ new. IsTrue new ↔ ¬ IsEntered self.old k) }
+        ensures unchanged { OnErr result (self.new ≡ self.old) }
+    {
+        if self.terms.contains_key(&k) {
+            return Ok(false);
+        }
+        self.terms.insert(k, Terminator::new(self.alloc))?;
+        Ok(true)
+    }
+
+    /// Makes `w` wait at the terminator `k`, untold, where it does not wait there yet. Answers whether
+    /// it is new there; [`Memory`] where memory ran out, and then nothing has changed.
+    pub fn wait(&mut self, k: u64, w: Waiter) -> Result<bool, Memory>
+        requires { IsEntered self.old k }
+        ensures waits { OnOk result (self.new ≡ with_changed self.old k (entry_with_waiter w)) }
+        ensures answer { IfOk result (λ new. IsTrue new ↔ ¬ WaitsAt self.old k w) }
+        ensures unchanged { OnErr result (self.new ≡ self.old) }
+    {
+        let Some(term) = self.terms.get_mut(&k) else {
+            return Ok(false);
+        };
+        term.wait(w)
+    }
+
+    /// Notes that the terminator `k` returns. Answers whether that is new.
+    pub fn returned(&mut self, k: u64) -> bool
+        requires { IsEntered self.old k }
+        ensures returned { self.new ≡ with_changed self.old k entry_with_return }
+        ensures answer { IsTrue result ↔ ¬ IsReturned self.old k }
+    {
+        let Some(term) = self.terms.get_mut(&k) else {
+            return false;
+        };
+        term.set_returned()
+    }
+
+    /// Notes that `w` was told that the terminator `k`, at which it waits, returns.
+    pub fn told(&mut self, k: u64, w: Waiter)
+        requires { WaitsAt self.old k w }
+        ensures { self.new ≡ with_changed self.old k (entry_with_told w) }
+    {
+        if let Some(term) = self.terms.get_mut(&k) {
+            term.tell(w);
+        }
+    }
+
+    /// Notes that the ways on of the terminator `k` are dealt with.
+    pub fn edges_done(&mut self, k: u64)
+        requires { IsEntered self.old k }
+        ensures { self.new ≡ with_changed self.old k entry_with_done }
+    {
+        if let Some(term) = self.terms.get_mut(&k) {
+            term.set_done();
+        }
+    }
+
+    /// Whether the ways on of the terminator `k` are dealt with; `None` exactly where `k` is not entered.
+    pub fn done(&self, k: u64) -> Option<bool>
+        ensures { result ≡ done_at self.now k }
+    {
+        let term = self.terms.get(&k)?;
+        Some(term.done)
+    }
+
+    /// Whether the terminator `k` is known to return; `None` exactly where `k` is not entered.
+    pub fn has_returned(&self, k: u64) -> Option<bool>
+        ensures { result ≡ returned_at self.now k }
+    {
+        let term = self.terms.get(&k)?;
+        Some(term.returned)
+    }
+
+    /// The first waiter that is to be told that `k` returns: the one with the least terminator, and
+    /// `Follow` before `Release`. `None` exactly where `k` is not known to return or no waiter is left
+    /// to be told.
+    pub fn untold(&self, k: u64) -> Option<Waiter>
+        ensures { IsNextToTell self.now k result }
+    {
+        let term = self.terms.get(&k)?;
+        term.next_to_tell()
+    }
+}
+
+impl Keys for Terms {
+    ghost has = { λ s k. maps.contains_key s k };
+
+    fn after(&self, a: Option<u64>) -> Option<u64> {
+        least_above(&self.terms, a)
+    }
+}
+
+/// What is known of a terminator. The untold waiters are kept beside all waiters, so that the next one
+/// to tell is found at once.
+#[derive(Drop)]
+struct Terminator {
+    done: bool,
+    returned: bool,
+    waiters: BTreeMap<Waiter, bool>,
+    untold: BTreeSet<Waiter>,
+}
+
+impl Model for Terminator {
+    ghost use Rattle.std.specs.FinMap as maps;
+    ghost use Rattle.std.specs.FinSet as sets;
+    ghost use Rattle.cfg_model.specs.State.{TerminatorEntry};
+    ghost use Rattle.cfg_model.specs.StateCode.{coded_terminator_entry};
+    ghost use Rattle.core_state.specs.Untold.{AreUntold};
+
+    ghost Value = { TerminatorEntry };
+
+    ghost coded = { coded_terminator_entry };
+
+    ghost view = { λ t. record { done = t.done; returned = t.returned; waiters = maps.from_entries t.waiters.entries } };
+
+    ghost invariant = { λ t. AreUntold (sets.from_list t.untold.keys) (maps.from_entries t.waiters.entries) };
+}
+
+impl Terminator {
+    /// A terminator of which nothing is known.
+    fn new(alloc: Global) -> Self
+        ensures { result ≡ new_entry }
+    {
+        Terminator {
+            done: false,
+            returned: false,
+            waiters: BTreeMap::new(alloc),
+            untold: BTreeSet::new(alloc),
+        }
+    }
+
+    /// Makes `w` wait, untold, where it does not wait yet: it joins both the waiters and the untold
+    /// ones, or neither. Answers whether it is new.
+    fn wait(&mut self, w: Waiter) -> Result<bool, Memory>
+        ensures waits { OnOk result (self.new ≡ entry_with_waiter w self.old) }
+        ensures answer { IfOk result (λ new. IsTrue new ↔ ¬ IsSome (maps.get self.old.waiters w)) }
+        ensures unchanged { OnErr result (self.new ≡ self.old) }
+    {
+        if self.waiters.contains_key(&w) {
+            return Ok(false);
+        }
+        self.waiters.insert(w, false)?;
+        if self.untold.insert(w).is_err() {
+            self.waiters.remove(&w);
+            return Err(Memory);
+        }
+        Ok(true)
+    }
+
+    /// Notes that it returns. Answers whether that is new.
+    fn set_returned(&mut self) -> bool
+        ensures returned { self.new ≡ entry_with_return self.old }
+        ensures answer { result ≡ not self.old.returned }
+    {
+        let new = !self.returned;
+        self.returned = true;
+        new
+    }
+
+    /// Notes that `w` was told.
+    fn tell(&mut self, w: Waiter)
+        requires { IsSome (maps.get self.old.waiters w) }
+        ensures { self.new ≡ entry_with_told w self.old }
+    {
+        if let Some(told) = self.waiters.get_mut(&w) {
+            *told = true;
+            self.untold.remove(&w);
+        }
+    }
+
+    /// Notes that its ways on are dealt with.
+    fn set_done(&mut self)
+        ensures { self.new ≡ entry_with_done self.old }
+    {
+        self.done = true;
+    }
+
+    /// The first untold waiter, where it is known to return.
+    fn next_to_tell(&self) -> Option<Waiter>
+        ensures { IsLeastBy waiter_cmp (λ w. IsTrue self.now.returned × (maps.get self.now.waiters w ≡ Some false)) result }
+    {
+        if self.returned {
+            self.untold.first().copied()
+        } else {
+            None
+        }
+    }
+}

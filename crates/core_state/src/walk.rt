@@ -1,0 +1,93 @@
+//! Walks over the keys of all shards of one kind, in their order.
+
+ghost use Rattle.std.specs.Prelude.{◌≡◌, ◌/◌, ◌<◌, ◌^◌, IsTrue, IsSome, MatchOption, length};
+ghost use Rattle.std.specs.Ordering.{nat_cmp};
+ghost use Rattle.std.specs.BTreeMap as tree;
+ghost use Rattle.core_state.specs.Least.{IsLeast, IsAbove};
+ghost use Rattle.core_state.specs.Walk.{IsKey, HaveOwn, lesser_of, is_in_line};
+
+use std::collections::BTreeMap;
+use std::ops::Bound;
+
+/// A shard, as the keys that it has.
+pub(crate) trait Keys {
+    ghost use Rattle.std.specs.Prelude.{ℕ, Bool, IsTrue};
+    ghost use Rattle.core_state.specs.Least.{IsLeast, IsAbove};
+
+    /// Whether it has a key.
+    ghost has: { Self → ℕ → Bool };
+
+    /// The least key above `a`, or the least of all where there is no `a`.
+    fn after(&self, a: Option<u64>) -> Option<u64>
+        ensures { IsLeast (λ k. IsTrue (has self.now k) × IsAbove a k) result };
+}
+
+/// The least key above `a`, or the least of all where there is no `a`, of a map.
+pub(crate) fn least_above<V>(map: &BTreeMap<u64, V>, a: Option<u64>) -> Option<u64>
+    ensures { IsLeast (λ k. IsSome (tree.get nat_cmp map.now k) × IsAbove a k) result }
+{
+    match a {
+        Some(a) => {
+            let (key, _) = map.range((Bound::Excluded(a), Bound::Unbounded)).next()?;
+            Some(*key)
+        }
+        None => {
+            let (key, _) = map.first_key_value()?;
+            Some(*key)
+        }
+    }
+}
+
+/// The least key above `a`, or the least of all where there is no `a`, of 64 shards.
+///
+/// Lines of 64 bytes belong to the shards in turn, so the shards are asked in the order of the lines
+/// from that of `a` on. A shard whose next key lies in the very line that it is asked for has the
+/// least one of all.
+pub(crate) fn key_after<S: Keys>(shards: &[S], a: Option<u64>) -> Option<u64>
+    requires count { length shards.now ≡ 64 }
+    requires own { HaveOwn S.has shards.now }
+    ensures { IsLeast (λ k. IsKey S.has shards.now k × IsAbove a k) result }
+{
+    let line = line_of(a);
+    let mut least = None;
+    for j in 0..64 {
+        let key = shards[((line + j) % 64) as usize].after(a);
+        if lies_in(key, line + j) {
+            return key;
+        }
+        least = lesser(least, key);
+    }
+    least
+}
+
+/// The number of the line of 64 bytes that `a` lies in; the first one where there is no `a`.
+fn line_of(a: Option<u64>) -> u64
+    ensures line { MatchOption a (result ≡ 0) (λ a. result ≡ a / 64) }
+    ensures small { result < 2 ^ 58 }
+{
+    match a {
+        Some(a) => a / 64,
+        None => 0,
+    }
+}
+
+/// Whether there is a key, and it lies in that line.
+fn lies_in(key: Option<u64>, line: u64) -> bool
+    ensures { result ≡ is_in_line key line }
+{
+    match key {
+        Some(key) => key / 64 == line,
+        None => false,
+    }
+}
+
+/// The lesser of two keys, either of which may be none.
+fn lesser(x: Option<u64>, y: Option<u64>) -> Option<u64>
+    ensures { result ≡ lesser_of x y }
+{
+    match (x, y) {
+        (Some(x), Some(y)) => Some(x.min(y)),
+        (Some(x), None) => Some(x),
+        (None, y) => y,
+    }
+}
