@@ -1,0 +1,26 @@
+use Rattle.cfg_model.specs.Event.{Event}
+use Rattle.work_ops.proofs.GoingOn.{changes, reads, goes_on}
+use Rattle.work_ops.proofs.EndsTold.{ends_call, ends_then, ends_same, term_leaves, parsed_leaves}
+use Rattle.work_ops.proofs.parse.parse_up_to.Goals as goal
+
+pub returns-in_err-term-clause-went : goal.returns-in_err-term-clause-went
+returns-in_err-term-clause-went g c =
+    (changes _ _ _ _ _ c.term.result (Event.Terminator c.args.k) _ _ c.term.ensures.step c.term.ensures.refused c.term.ensures.kept c.term.ensures.remembers c.term.ensures.counted)
+
+pub returns-clause-went : goal.returns-clause-went
+returns-clause-went g c =
+    (goes_on _ _ _ _ _ _ _ _
+    (changes _ _ _ _ _ c.term.result (Event.Terminator c.args.k) _ _ c.term.ensures.step c.term.ensures.refused c.term.ensures.kept c.term.ensures.remembers c.term.ensures.counted)
+    (goes_on _ _ _ _ _ _ _ _
+    (reads _ _ _ _ _ _ _ c.found.ensures.same c.term.ensures.kept c.found.ensures.remembers c.found.ensures.counted)
+    (changes _ _ _ _ _ c.parsed.result (Event.Parsed c.args.s) _ _ c.parsed.ensures.step c.parsed.ensures.refused c.parsed.ensures.kept c.parsed.ensures.remembers c.parsed.ensures.counted)))
+
+pub returns-in_err-term-clause-ends : goal.returns-in_err-term-clause-ends
+returns-in_err-term-clause-ends g c = ends_call g.J.Job.map g.J.Job.seeds c.term.result (Event.Terminator c.args.k) (term_leaves g.J.Job.map c.args.k) _ _ c.term.ensures.step c.term.ensures.refused
+
+pub returns-clause-ends : goal.returns-clause-ends
+returns-clause-ends g c =
+    ends_then _ _ _
+    (ends_call g.J.Job.map g.J.Job.seeds c.term.result (Event.Terminator c.args.k) (term_leaves g.J.Job.map c.args.k) _ _ c.term.ensures.step c.term.ensures.refused)
+    (ends_then _ _ _ (ends_same _ _ c.found.ensures.same)
+    (ends_call g.J.Job.map g.J.Job.seeds c.parsed.result (Event.Parsed c.args.s) (parsed_leaves g.J.Job.map c.args.s) _ _ c.parsed.ensures.step c.parsed.ensures.refused))

@@ -1,0 +1,58 @@
+use Rattle.std.proofs.Common.{subst}
+use Rattle.core_state.specs.declared.answer.Arrival.{Arrival}
+use Rattle.cfg_model.specs.Event.{Event}
+use Rattle.cfg_model.specs.Fact.{Fact}
+use Rattle.cfg_model.specs.Reason.{WantReason}
+use Rattle.core_state.specs.Place.{near_after}
+use Rattle.std.proofs.Common.{sym, ap, ◌∙◌}
+use Rattle.std.proofs.lemmas.Result.{on_ok_weaker}
+use Rattle.cfg_model.specs.State.{EndMap, BuilderState, IsNear, IsStart}
+use Rattle.work_ops.proofs.GoingOn.{changes, reads, goes_on}
+use Rattle.work_ops.proofs.EndsTold.{ends_back, arrived}
+use Rattle.work_ops.proofs.parts.arrive_at.Goals as goal
+
+pub returns-in_err-near-clause-went : goal.returns-in_err-near-clause-went
+returns-in_err-near-clause-went g c =
+    changes _ _ _ _ _ c.arrive.result (Event.Arrive c.args.k c.args.s) _ _ c.arrive.ensures.step c.arrive.ensures.refused c.arrive.ensures.kept c.arrive.ensures.remembers c.arrive.ensures.counted
+
+pub start-requires-clause-reason : goal.start-requires-clause-reason
+start-requires-clause-reason g c =
+    WantReason.stands
+    (c.found.ensures.remembers _
+    (subst (λ (a : Arrival). g.P.Place.knows c.arrive.new.self (Fact.Anchored (near_after c.args.s a) c.args.k)) c.in-Split.is c.in_ok-near.ensures.near))
+
+pub returns-in-Split-clause-went : goal.returns-in-Split-clause-went
+returns-in-Split-clause-went g c =
+    goes_on _ _ _ _ _ _ _ _
+    (changes _ _ _ _ _ c.arrive.result (Event.Arrive c.args.k c.args.s) _ _ c.arrive.ensures.step c.arrive.ensures.refused c.arrive.ensures.kept c.arrive.ensures.remembers c.arrive.ensures.counted)
+    (goes_on _ _ _ _ _ _ _ _
+    (reads _ _ _ _ _ _ _ c.found.ensures.same c.arrive.ensures.kept c.found.ensures.remembers c.found.ensures.counted)
+    c.start.ensures.went)
+
+pub returns-in-Split-clause-near : goal.returns-in-Split-clause-near
+returns-in-Split-clause-near g c =
+    on_ok_weaker c.start.result
+    (λ started state told near at.
+    let before = ends_back _ _ state c.start.ensures.ends told in
+    let same = arrived g.J.Job.map g.J.Job.seeds c.args.k c.args.s _ _ c.in_ok-near.field-0 before.0 c.in_ok-near.ensures.step c.in_ok-near.ensures.answer (sym c.found.ensures.same ∙ before.1) near
+    (subst (λ (ends : EndMap). IsNear ends c.args.k near) before.2 at) in
+    subst (IsStart state.starts) (sym (ap (near_after c.args.s) c.in-Split.is) ∙ same) ((g.met.P.Place.exact c.start.new.place state told (Fact.Start c.in-Split.near)).0 started))
+    c.start.ensures.start
+
+pub returns-in-First-clause-went : goal.returns-in-First-clause-went
+returns-in-First-clause-went g c = changes _ _ _ _ _ c.arrive.result (Event.Arrive c.args.k c.args.s) _ _ c.arrive.ensures.step c.arrive.ensures.refused c.arrive.ensures.kept c.arrive.ensures.remembers c.arrive.ensures.counted
+
+pub returns-in-First-clause-near : goal.returns-in-First-clause-near
+returns-in-First-clause-near g c state told near at =
+    let same = arrived g.J.Job.map g.J.Job.seeds c.args.k c.args.s _ _ c.in_ok-near.field-0 state c.in_ok-near.ensures.step c.in_ok-near.ensures.answer told near at in
+    subst (IsStart state.starts) (sym (ap (near_after c.args.s) c.in-First.is) ∙ same)
+    ((g.met.P.Place.exact c.arrive.new.self state told (Fact.Start c.args.s)).0 (c.arrive.ensures.remembers _ c.requires.reason.start))
+
+pub returns-in-Same-clause-went : goal.returns-in-Same-clause-went
+returns-in-Same-clause-went g c = changes _ _ _ _ _ c.arrive.result (Event.Arrive c.args.k c.args.s) _ _ c.arrive.ensures.step c.arrive.ensures.refused c.arrive.ensures.kept c.arrive.ensures.remembers c.arrive.ensures.counted
+
+pub returns-in-Same-clause-near : goal.returns-in-Same-clause-near
+returns-in-Same-clause-near g c state told near at =
+    let same = arrived g.J.Job.map g.J.Job.seeds c.args.k c.args.s _ _ c.in_ok-near.field-0 state c.in_ok-near.ensures.step c.in_ok-near.ensures.answer told near at in
+    subst (IsStart state.starts) (sym (ap (near_after c.args.s) c.in-Same.is) ∙ same)
+    ((g.met.P.Place.exact c.arrive.new.self state told (Fact.Start c.args.s)).0 (c.arrive.ensures.remembers _ c.requires.reason.start))

@@ -1,0 +1,56 @@
+-- What an operation makes of the place that it works on.
+use Rattle.std.specs.Prelude.{◌≡◌, ℕ, ◌<◌, ◌≤◌, List, Option, MatchOption}
+use Rattle.std.specs.Option.{ForSome}
+use Rattle.cfg_model.specs.declared.state.Waiter.{Waiter}
+use Rattle.cfg_model.specs.Instructions.{InstructionMap}
+use Rattle.cfg_model.specs.State.{BuilderState, IsStart, IsNear, IsMoved, IsTold}
+use Rattle.cfg_model.specs.Chain.{IsTerminatorOf}
+use Rattle.cfg_model.specs.Event.{Event}
+use Rattle.cfg_model.specs.Fact.{Fact}
+use Rattle.cfg_model.specs.Run.{IsRun}
+use Rattle.core_state.specs.declared.answer.PlaceEnd.{PlaceEnd}
+use Rattle.core_state.specs.declared.answer.PlaceEnd.TheVariants.{Busy, Memory}
+use Rattle.core_state.specs.Least.{IsLeast}
+use Rattle.core_state.specs.Reads.{IsNextToTell}
+use Rattle.core_state.specs.Place.{AreKept, WhereTold, Remembers}
+
+-- Where the maps are told, allowed events lead from one state to the other.
+abbrev pub Runs : InstructionMap → List ℕ → Option BuilderState → Option BuilderState → Type 0
+Runs map seeds = WhereTold (λ old new. (events : List Event) × IsRun map seeds old events new)
+
+-- A refusal for want of a shard comes only where the count rose.
+abbrev pub RoseIfBusy : ℕ → ℕ → PlaceEnd → Type 0
+RoseIfBusy before after (Busy kind shard) = before < after
+RoseIfBusy before after Memory = Unit {0}
+
+-- What holds of a place that was worked on, whatever came of the work: its maps changed by allowed
+-- events alone and are kept, it knows what it knew, and its count of shards in other hands did not fall.
+pub record Went {X : Type 0} (map : InstructionMap) (seeds : List ℕ) (maps : X → Option BuilderState) (knows : X → Fact → Type 0) (busies : X → ℕ) (old new : X) : Type 0 where
+  pub run : Runs map seeds (maps old) (maps new)
+  pub kept : AreKept map seeds (maps new)
+  pub remembers : Remembers (knows old) (knows new)
+  pub counted : busies old ≤ busies new
+
+-- The address that is near at the end k is a start.
+abbrev pub NearIsStart : ℕ → BuilderState → Type 0
+NearIsStart k state = (near : ℕ) → IsNear state.ends k near → IsStart state.starts near
+
+-- The address that is near at the terminator of the chain of s is a start.
+abbrev pub EndsInStart : InstructionMap → ℕ → BuilderState → Type 0
+EndsInStart map s state = (k : ℕ) → IsTerminatorOf map s k → NearIsStart k state
+
+-- Where the maps are told, the ends are as they were.
+abbrev pub SameEnds : Option BuilderState → Option BuilderState → Type 0
+SameEnds = WhereTold (λ old new. new.ends ≡ old.ends)
+
+-- The least displaced start of k is displaced there no longer; where there was none, nothing changed.
+abbrev pub PlacesFirst : ℕ → BuilderState → BuilderState → Type 0
+PlacesFirst k old new = (first : Option ℕ) × IsLeast (IsMoved old.ends k) first × MatchOption first (new ≡ old) (λ x. ¬ IsMoved new.ends k x)
+
+-- The next waiter of k that was to be told was told; where there was none, nothing changed.
+abbrev pub TellsNext : ℕ → BuilderState → BuilderState → Type 0
+TellsNext k old new = (next : Option Waiter) × IsNextToTell old.terminators k next × MatchOption next (new ≡ old) (λ w. IsTold new.terminators k w)
+
+-- Where the maps are told, x is not displaced at k.
+abbrev pub IsMovedNoMore : ℕ → ℕ → Option BuilderState → Type 0
+IsMovedNoMore k x maps = ForSome maps (λ state. ¬ IsMoved state.ends k x)

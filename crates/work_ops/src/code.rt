@@ -1,0 +1,43 @@
+//! What the code of a job tells of it.
+
+ghost use Rattle.std.specs.Prelude.{◌≡◌, ◌<◌, IsSome, Some, length, slice_get};
+ghost use Rattle.cfg_model.specs.Instructions.{IsLawful, flow_at, targets_at};
+ghost use Rattle.cfg_model.specs.Chain.{IsTerminatorOf};
+
+use cfg_model::{Chains, Flow, term};
+use core_state::Job;
+
+/// The code tells that its map is lawful, by whatever it answers.
+pub(crate) fn ask<J: Job, C: Chains>(code: &C, a: u64)
+    requires { C.map code.now ≡ J.map }
+    ensures { IsLawful J.map }
+{
+    code.has(a);
+}
+
+/// The terminator of the chain of `s`.
+pub(crate) fn end_of<J: Job, C: Chains>(code: &C, s: u64) -> u64
+    requires code { C.map code.now ≡ J.map }
+    requires stands { IsSome (J.map s) }
+    ensures { IsTerminatorOf J.map s result }
+{
+    term(code, s)
+}
+
+/// The flow of the instruction at `k`.
+pub(crate) fn flow_of<J: Job, C: Chains>(code: &C, k: u64) -> Flow
+    requires code { C.map code.now ≡ J.map }
+    requires stands { IsSome (J.map k) }
+    ensures { flow_at J.map k ≡ Some result }
+{
+    code.flow(k)
+}
+
+/// Kept target number `i` of the table jump at `k`.
+pub(crate) fn target_of<J: Job, C: Chains>(code: &C, k: u64, i: u32) -> u64
+    requires code { C.map code.now ≡ J.map }
+    requires within { i < length (targets_at J.map k) }
+    ensures { slice_get (targets_at J.map k) i ≡ Some result }
+{
+    code.target(k, i)
+}

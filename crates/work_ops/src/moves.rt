@@ -1,0 +1,113 @@
+//! Placing a start that was displaced by a split.
+
+ghost use Rattle.std.specs.Prelude.{◌≡◌, ◌≢◌, ◌≤◌, ◌↔◌, OnOk, IfErr, IsSome, IsTrue};
+ghost use Rattle.cfg_model.specs.Instructions.{IsLawful};
+ghost use Rattle.cfg_model.specs.Chain.{OnChain, GoesOnTo};
+ghost use Rattle.cfg_model.specs.Reach.{AreSeeds};
+ghost use Rattle.cfg_model.specs.Fact.{Fact};
+ghost use Rattle.cfg_model.specs.Reason.{SettleReason};
+ghost use Rattle.core_state.specs.Place.{AreKept, WhereTold, Remembers};
+ghost use Rattle.work_ops.specs.Going.{Runs, RoseIfBusy, Went, PlacesFirst, IsMovedNoMore};
+
+use crate::code::ask;
+use crate::parts::{arrive_at, start};
+use cfg_model::Chains;
+use cfg_model::chain::{before, on_chain};
+use core_state::{Job, Name, Place, PlaceEnd, WorkKind};
+
+/// Places the least displaced start of the end `k`: it and the start that is near at `k` are made
+/// starts, the first one arrives at the address just before the other on its own chain, and only then
+/// does it leave `k`. More displaced starts may be left.
+pub fn move_op<J: Job, P: Place<J>, C: Chains>(
+    place: &mut P,
+    code: &C,
+    k: u64,
+) -> Result<(), PlaceEnd>
+    requires code { C.map code.now ≡ J.map }
+    requires seeds { AreSeeds J.map J.seeds }
+    requires kept { AreKept J.map J.seeds (P.maps place.old) }
+    ensures run { Runs J.map J.seeds (P.maps place.old) (P.maps place.new) }
+    ensures kept { AreKept J.map J.seeds (P.maps place.new) }
+    ensures remembers { Remembers (P.knows place.old) (P.knows place.new) }
+    ensures counted { P.busies place.old ≤ P.busies place.new }
+    ensures busy { IfErr result (RoseIfBusy (P.busies place.old) (P.busies place.new)) }
+    ensures moved { OnOk result (WhereTold (PlacesFirst k) (P.maps place.old) (P.maps place.new)) }
+{
+    ask::<J, C>(code, k);
+    let Some(x) = place.moved(k)? else {
+        return Ok(());
+    };
+    let Some(p) = place.near(k)? else {
+        return Ok(());
+    };
+    if x == p || !leads::<J, C>(code, x, p) {
+        return Ok(());
+    }
+    place_before::<J, P, C>(place, code, k, x, p)
+}
+
+/// Whether `p` is on the chain of `x`.
+fn leads<J: Job, C: Chains>(code: &C, x: u64, p: u64) -> bool
+    requires code { C.map code.now ≡ J.map }
+    requires stands { IsSome (J.map x) }
+    ensures { IsTrue result ↔ OnChain J.map x p }
+{
+    on_chain(code, x, p)
+}
+
+/// The address just before `p` on the chain of `x`.
+fn just_before<J: Job, C: Chains>(code: &C, x: u64, p: u64) -> u64
+    requires code { C.map code.now ≡ J.map }
+    requires stands { IsSome (J.map x) }
+    requires leads { OnChain J.map x p }
+    requires apart { x ≢ p }
+    ensures on_chain { OnChain J.map x result }
+    ensures onward { GoesOnTo J.map result p }
+{
+    before(code, x, p)
+}
+
+/// Lets `x` arrive just before `p` on its chain, and then leave the end `k`, at which `p` is near.
+fn place_before<J: Job, P: Place<J>, C: Chains>(
+    place: &mut P,
+    code: &C,
+    k: u64,
+    x: u64,
+    p: u64,
+) -> Result<(), PlaceEnd>
+    requires code { C.map code.now ≡ J.map }
+    requires seeds { AreSeeds J.map J.seeds }
+    requires lawful { IsLawful J.map }
+    requires kept { AreKept J.map J.seeds (P.maps place.old) }
+    requires moved { P.knows place.old (Fact.Anchored x k) }
+    requires near { P.knows place.old (Fact.Anchored p k) }
+    requires end { P.knows place.old (Fact.End k) }
+    requires leads { OnChain J.map x p }
+    requires apart { x ≢ p }
+    ensures went { Went J.map J.seeds P.maps P.knows P.busies place.old place.new }
+    ensures busy { IfErr result (RoseIfBusy (P.busies place.old) (P.busies place.new)) }
+    ensures moved { OnOk result (IsMovedNoMore k x (P.maps place.new)) }
+{
+    start::<J, P>(place, x)?;
+    start::<J, P>(place, p)?;
+    let at = just_before::<J, C>(code, x, p);
+    arrive_at::<J, P, C>(place, code, at, x)?;
+    leave::<J, P>(place, k, x)
+}
+
+/// Lets `x` leave the end `k`. More displaced starts may be left there.
+fn leave<J: Job, P: Place<J>>(place: &mut P, k: u64, x: u64) -> Result<(), PlaceEnd>
+    requires lawful { IsLawful J.map }
+    requires kept { AreKept J.map J.seeds (P.maps place.old) }
+    requires reason { SettleReason J.map (P.knows place.old) k x }
+    ensures went { Went J.map J.seeds P.maps P.knows P.busies place.old place.new }
+    ensures busy { IfErr result (RoseIfBusy (P.busies place.old) (P.busies place.new)) }
+    ensures moved { OnOk result (IsMovedNoMore k x (P.maps place.new)) }
+{
+    place.settle(k, x)?;
+    place.found(Name {
+        kind: WorkKind::Move,
+        key: k,
+    });
+    Ok(())
+}

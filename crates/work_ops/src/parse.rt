@@ -1,0 +1,60 @@
+//! Following a start's chain to its end.
+
+ghost use Rattle.std.specs.Prelude.{◌≡◌, ◌≤◌, OnOk, IfErr};
+ghost use Rattle.std.specs.Option.{ForSome};
+ghost use Rattle.cfg_model.specs.Instructions.{IsLawful};
+ghost use Rattle.cfg_model.specs.Chain.{IsTerminatorOf};
+ghost use Rattle.cfg_model.specs.Reach.{AreSeeds};
+ghost use Rattle.cfg_model.specs.Fact.{Fact};
+ghost use Rattle.core_state.specs.Place.{AreKept, Remembers};
+ghost use Rattle.work_ops.specs.Going.{Runs, RoseIfBusy, Went, EndsInStart, SameEnds};
+
+use crate::code::{ask, end_of};
+use crate::parts::arrive_at;
+use cfg_model::Chains;
+use core_state::{Job, Name, Place, PlaceEnd, WorkKind};
+
+/// Follows the chain of the start `s`: it arrives at its terminator, the terminator is entered, and
+/// `s` is parsed. The edges of the terminator have to be followed then, in any case.
+pub fn parse_op<J: Job, P: Place<J>, C: Chains>(
+    place: &mut P,
+    code: &C,
+    s: u64,
+) -> Result<(), PlaceEnd>
+    requires code { C.map code.now ≡ J.map }
+    requires seeds { AreSeeds J.map J.seeds }
+    requires kept { AreKept J.map J.seeds (P.maps place.old) }
+    requires start { P.knows place.old (Fact.Start s) }
+    ensures run { Runs J.map J.seeds (P.maps place.old) (P.maps place.new) }
+    ensures kept { AreKept J.map J.seeds (P.maps place.new) }
+    ensures remembers { Remembers (P.knows place.old) (P.knows place.new) }
+    ensures counted { P.busies place.old ≤ P.busies place.new }
+    ensures busy { IfErr result (RoseIfBusy (P.busies place.old) (P.busies place.new)) }
+    ensures done { OnOk result (P.knows place.new (Fact.Parsed s)) }
+    ensures near { OnOk result (ForSome (P.maps place.new) (EndsInStart J.map s)) }
+{
+    ask::<J, C>(code, s);
+    let k = end_of::<J, C>(code, s);
+    arrive_at::<J, P, C>(place, code, k, s)?;
+    parse_up_to::<J, P>(place, s, k)
+}
+
+/// Enters the terminator `k` of the chain of `s`, and notes that `s` is parsed.
+fn parse_up_to<J: Job, P: Place<J>>(place: &mut P, s: u64, k: u64) -> Result<(), PlaceEnd>
+    requires lawful { IsLawful J.map }
+    requires kept { AreKept J.map J.seeds (P.maps place.old) }
+    requires start { P.knows place.old (Fact.Start s) }
+    requires ends { IsTerminatorOf J.map s k }
+    requires anchored { P.knows place.old (Fact.Anchored s k) }
+    ensures went { Went J.map J.seeds P.maps P.knows P.busies place.old place.new }
+    ensures busy { IfErr result (RoseIfBusy (P.busies place.old) (P.busies place.new)) }
+    ensures done { OnOk result (P.knows place.new (Fact.Parsed s)) }
+    ensures ends { SameEnds (P.maps place.old) (P.maps place.new) }
+{
+    place.term(k)?;
+    place.found(Name {
+        kind: WorkKind::Edges,
+        key: k,
+    });
+    place.parsed(s)
+}

@@ -1,0 +1,115 @@
+//! The parts that operations are made of: a change, and the work that it makes.
+
+ghost use Rattle.std.specs.Prelude.{◌≡◌, ◌≤◌, OnOk, IfErr};
+ghost use Rattle.std.specs.Option.{ForSome};
+ghost use Rattle.cfg_model.specs.Instructions.{IsLawful};
+ghost use Rattle.cfg_model.specs.Event.{Event};
+ghost use Rattle.cfg_model.specs.Fact.{Fact};
+ghost use Rattle.cfg_model.specs.Reason.{Reason};
+ghost use Rattle.core_state.specs.Place.{AreKept};
+ghost use Rattle.work_ops.specs.Going.{Went, RoseIfBusy, NearIsStart, SameEnds};
+
+use cfg_model::{Chains, Waiter};
+use core_state::{Arrival, Job, Name, Place, PlaceEnd, WorkKind};
+
+/// Passes on work, where it is new.
+pub(crate) fn pass_on<J: Job, P: Place<J>>(place: &mut P, new: bool, kind: WorkKind, key: u64)
+    requires { AreKept J.map J.seeds (P.maps place.old) }
+    ensures went { Went J.map J.seeds P.maps P.knows P.busies place.old place.new }
+    ensures same { P.maps place.new ≡ P.maps place.old }
+{
+    if new {
+        place.found(Name { kind, key });
+    }
+}
+
+/// Makes `s` a start. A new one has to be parsed.
+pub(crate) fn start<J: Job, P: Place<J>>(place: &mut P, s: u64) -> Result<(), PlaceEnd>
+    requires lawful { IsLawful J.map }
+    requires kept { AreKept J.map J.seeds (P.maps place.old) }
+    requires reason { Reason J.map J.seeds (P.knows place.old) (Event.Want s) }
+    ensures went { Went J.map J.seeds P.maps P.knows P.busies place.old place.new }
+    ensures busy { IfErr result (RoseIfBusy (P.busies place.old) (P.busies place.new)) }
+    ensures start { OnOk result (P.knows place.new (Fact.Start s)) }
+    ensures ends { SameEnds (P.maps place.old) (P.maps place.new) }
+{
+    let new = place.want(s)?;
+    pass_on::<J, P>(place, new, WorkKind::Parse, s);
+    Ok(())
+}
+
+/// Enters `k` as a terminator. The edges of a new one have to be followed.
+pub(crate) fn enter<J: Job, P: Place<J>>(place: &mut P, k: u64) -> Result<(), PlaceEnd>
+    requires lawful { IsLawful J.map }
+    requires kept { AreKept J.map J.seeds (P.maps place.old) }
+    requires reason { Reason J.map J.seeds (P.knows place.old) (Event.Terminator k) }
+    ensures went { Went J.map J.seeds P.maps P.knows P.busies place.old place.new }
+    ensures busy { IfErr result (RoseIfBusy (P.busies place.old) (P.busies place.new)) }
+    ensures entered { OnOk result (P.knows place.new (Fact.Terminator k)) }
+{
+    let new = place.term(k)?;
+    pass_on::<J, P>(place, new, WorkKind::Edges, k);
+    Ok(())
+}
+
+/// Makes `w` wait at `k`. A new waiter may have to be told.
+pub(crate) fn place_wait<J: Job, P: Place<J>>(
+    place: &mut P,
+    k: u64,
+    w: Waiter,
+) -> Result<(), PlaceEnd>
+    requires lawful { IsLawful J.map }
+    requires kept { AreKept J.map J.seeds (P.maps place.old) }
+    requires reason { Reason J.map J.seeds (P.knows place.old) (Event.Wait k w) }
+    ensures went { Went J.map J.seeds P.maps P.knows P.busies place.old place.new }
+    ensures busy { IfErr result (RoseIfBusy (P.busies place.old) (P.busies place.new)) }
+    ensures waits { OnOk result (P.knows place.new (Fact.Waits k w)) }
+{
+    let new = place.wait(k, w)?;
+    pass_on::<J, P>(place, new, WorkKind::Tell, k);
+    Ok(())
+}
+
+/// Notes that `k` returns. Where that is new, its waiters have to be told.
+pub(crate) fn note_return<J: Job, P: Place<J>>(place: &mut P, k: u64) -> Result<(), PlaceEnd>
+    requires lawful { IsLawful J.map }
+    requires kept { AreKept J.map J.seeds (P.maps place.old) }
+    requires reason { Reason J.map J.seeds (P.knows place.old) (Event.Returned k) }
+    ensures went { Went J.map J.seeds P.maps P.knows P.busies place.old place.new }
+    ensures busy { IfErr result (RoseIfBusy (P.busies place.old) (P.busies place.new)) }
+    ensures returned { OnOk result (P.knows place.new (Fact.Returned k)) }
+{
+    let new = place.returned(k)?;
+    pass_on::<J, P>(place, new, WorkKind::Tell, k);
+    Ok(())
+}
+
+/// Lets `s` arrive at `k`, and makes the start that is near there then a start. After a split, the
+/// displaced starts have to be placed.
+pub(crate) fn arrive_at<J: Job, P: Place<J>, C: Chains>(
+    place: &mut P,
+    code: &C,
+    k: u64,
+    s: u64,
+) -> Result<(), PlaceEnd>
+    requires code { C.map code.now ≡ J.map }
+    requires lawful { IsLawful J.map }
+    requires kept { AreKept J.map J.seeds (P.maps place.old) }
+    requires reason { Reason J.map J.seeds (P.knows place.old) (Event.Arrive k s) }
+    ensures went { Went J.map J.seeds P.maps P.knows P.busies place.old place.new }
+    ensures busy { IfErr result (RoseIfBusy (P.busies place.old) (P.busies place.new)) }
+    ensures anchored { OnOk result (P.knows place.new (Fact.Anchored s k)) }
+    ensures near { OnOk result (ForSome (P.maps place.new) (NearIsStart k)) }
+{
+    match place.arrive(code, k, s)? {
+        Arrival::Split { near, .. } => {
+            place.found(Name {
+                kind: WorkKind::Move,
+                key: k,
+            });
+            start::<J, P>(place, near)
+        }
+        Arrival::First => Ok(()),
+        Arrival::Same => Ok(()),
+    }
+}

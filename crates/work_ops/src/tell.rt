@@ -1,0 +1,151 @@
+//! Telling a waiter that a terminator returns.
+
+ghost use Rattle.std.specs.Prelude.{◌≡◌, ◌≤◌, OnOk, IfErr, Some};
+ghost use Rattle.cfg_model.specs.Instructions.{IsLawful};
+ghost use Rattle.cfg_model.specs.Reach.{AreSeeds};
+ghost use Rattle.cfg_model.specs.Fact.{Fact};
+ghost use Rattle.cfg_model.specs.Reason.{EffectStands, IsReleased};
+ghost use Rattle.cfg_model.specs.Waiter.{released};
+ghost use Rattle.core_state.specs.Place.{AreKept, WhereTold, Remembers};
+ghost use Rattle.work_ops.specs.Going.{Runs, RoseIfBusy, Went, TellsNext};
+ghost use Rattle.work_ops.specs.Done.{IsFreed};
+
+use crate::code::{ask, end_of, flow_of};
+use crate::parts::{enter, note_return, place_wait, start};
+use cfg_model::{Chains, Flow, WaitKind, Waiter};
+use core_state::{Job, Name, Place, PlaceEnd, WorkKind};
+
+/// Gives one untold waiter of the returning terminator `k` what it waits for, and notes that it was
+/// told. More waiters may be left.
+pub fn tell_op<J: Job, P: Place<J>, C: Chains>(
+    place: &mut P,
+    code: &C,
+    k: u64,
+) -> Result<(), PlaceEnd>
+    requires code { C.map code.now ≡ J.map }
+    requires seeds { AreSeeds J.map J.seeds }
+    requires kept { AreKept J.map J.seeds (P.maps place.old) }
+    ensures run { Runs J.map J.seeds (P.maps place.old) (P.maps place.new) }
+    ensures kept { AreKept J.map J.seeds (P.maps place.new) }
+    ensures remembers { Remembers (P.knows place.old) (P.knows place.new) }
+    ensures counted { P.busies place.old ≤ P.busies place.new }
+    ensures busy { IfErr result (RoseIfBusy (P.busies place.old) (P.busies place.new)) }
+    ensures told { OnOk result (WhereTold (TellsNext k) (P.maps place.old) (P.maps place.new)) }
+{
+    ask::<J, C>(code, k);
+    match place.untold(k)? {
+        Some(w) => tell::<J, P, C>(place, code, k, w),
+        None => Ok(()),
+    }
+}
+
+/// Gives the waiter `w` of `k` what it waits for, and notes that it was told.
+fn tell<J: Job, P: Place<J>, C: Chains>(
+    place: &mut P,
+    code: &C,
+    k: u64,
+    w: Waiter,
+) -> Result<(), PlaceEnd>
+    requires code { C.map code.now ≡ J.map }
+    requires seeds { AreSeeds J.map J.seeds }
+    requires lawful { IsLawful J.map }
+    requires kept { AreKept J.map J.seeds (P.maps place.old) }
+    requires waits { P.knows place.old (Fact.Waits k w) }
+    requires returned { P.knows place.old (Fact.Returned k) }
+    requires waiter { P.knows place.old (Fact.Terminator w.terminator) }
+    ensures went { Went J.map J.seeds P.maps P.knows P.busies place.old place.new }
+    ensures busy { IfErr result (RoseIfBusy (P.busies place.old) (P.busies place.new)) }
+    ensures told { OnOk result (P.knows place.new (Fact.Told k w)) }
+{
+    give::<J, P, C>(place, code, k, w)?;
+    place.told(k, w)?;
+    place.found(Name {
+        kind: WorkKind::Tell,
+        key: k,
+    });
+    Ok(())
+}
+
+/// Gives the waiter `w` of `k` what it waits for: one that follows returns, a call is released.
+fn give<J: Job, P: Place<J>, C: Chains>(
+    place: &mut P,
+    code: &C,
+    k: u64,
+    w: Waiter,
+) -> Result<(), PlaceEnd>
+    requires code { C.map code.now ≡ J.map }
+    requires seeds { AreSeeds J.map J.seeds }
+    requires lawful { IsLawful J.map }
+    requires kept { AreKept J.map J.seeds (P.maps place.old) }
+    requires waits { P.knows place.old (Fact.Waits k w) }
+    requires returned { P.knows place.old (Fact.Returned k) }
+    requires waiter { P.knows place.old (Fact.Terminator w.terminator) }
+    ensures went { Went J.map J.seeds P.maps P.knows P.busies place.old place.new }
+    ensures busy { IfErr result (RoseIfBusy (P.busies place.old) (P.busies place.new)) }
+    ensures given { OnOk result (EffectStands J.map (P.knows place.new) w.terminator w.kind) }
+{
+    match w.kind {
+        WaitKind::Follow => note_return::<J, P>(place, w.terminator),
+        WaitKind::Release => release::<J, P, C>(place, code, k, w.terminator),
+    }
+}
+
+/// Releases the call at `call`, whose target's chain ends at the returning terminator `k`.
+fn release<J: Job, P: Place<J>, C: Chains>(
+    place: &mut P,
+    code: &C,
+    k: u64,
+    call: u64,
+) -> Result<(), PlaceEnd>
+    requires code { C.map code.now ≡ J.map }
+    requires seeds { AreSeeds J.map J.seeds }
+    requires lawful { IsLawful J.map }
+    requires kept { AreKept J.map J.seeds (P.maps place.old) }
+    requires waits { P.knows place.old (Fact.Waits k (released call)) }
+    requires returned { P.knows place.old (Fact.Returned k) }
+    requires waiter { P.knows place.old (Fact.Terminator call) }
+    ensures went { Went J.map J.seeds P.maps P.knows P.busies place.old place.new }
+    ensures busy { IfErr result (RoseIfBusy (P.busies place.old) (P.busies place.new)) }
+    ensures released { OnOk result (IsReleased J.map (P.knows place.new) call) }
+{
+    match flow_of::<J, C>(code, call) {
+        Flow::Call {
+            fall: Some(fall),
+            ..
+        } => go_past::<J, P, C>(place, code, k, call, fall),
+        _ => Ok(()),
+    }
+}
+
+/// Goes past the call at `call` to its fall, which the return of `k` frees: the fall is a start, and the
+/// call follows the end of its chain.
+fn go_past<J: Job, P: Place<J>, C: Chains>(
+    place: &mut P,
+    code: &C,
+    k: u64,
+    call: u64,
+    fall: u64,
+) -> Result<(), PlaceEnd>
+    requires code { C.map code.now ≡ J.map }
+    requires seeds { AreSeeds J.map J.seeds }
+    requires lawful { IsLawful J.map }
+    requires kept { AreKept J.map J.seeds (P.maps place.old) }
+    requires freed { IsFreed J.map k call fall }
+    requires returned { P.knows place.old (Fact.Returned k) }
+    requires waiter { P.knows place.old (Fact.Terminator call) }
+    ensures went { Went J.map J.seeds P.maps P.knows P.busies place.old place.new }
+    ensures busy { IfErr result (RoseIfBusy (P.busies place.old) (P.busies place.new)) }
+    ensures released { OnOk result (IsReleased J.map (P.knows place.new) call) }
+{
+    start::<J, P>(place, fall)?;
+    let end = end_of::<J, C>(code, fall);
+    enter::<J, P>(place, end)?;
+    place_wait::<J, P>(
+        place,
+        end,
+        Waiter {
+            terminator: call,
+            kind: WaitKind::Follow,
+        },
+    )
+}
