@@ -1,0 +1,5 @@
+pub mod Closed
+pub mod WaysOn
+pub mod Starts
+pub mod Read
+pub mod Whole

@@ -1,0 +1,68 @@
+-- What the ends of a closed state show are the blocks and edges of the program.
+use Rattle.std.proofs.Common.{ℕ, ◌⊎◌, List, [], refl, ⊎_elim}
+use Rattle.std.specs.List.{AllPairs, Contains}
+use Rattle.std.specs.Prelude.{◌↔◌}
+use Rattle.cfg_model.specs.declared.graph.Block.{Block}
+use Rattle.cfg_model.specs.declared.graph.Edge.{Edge}
+use Rattle.cfg_model.specs.Instructions.{InstructionMap, IsLawful}
+use Rattle.cfg_model.specs.Block.{IsBlock}
+use Rattle.cfg_model.specs.Edge.{IsEdge}
+use Rattle.cfg_model.specs.Gains.{Gains}
+use Rattle.cfg_model.specs.Graph.{BlockBefore, EdgeBefore, IsOutline}
+use Rattle.cfg_model.specs.Listing.{Lists}
+use Rattle.cfg_model.specs.Kept.{IsClosed}
+use Rattle.cfg_model.specs.State.{BuilderState, HasEnd}
+use Rattle.cfg_model.proofs.ClosedLaws.{closed_shows_graph}
+use Rattle.cfg_model.proofs.Outline.Lists.{Contains-none}
+use Rattle.finaliser.specs.Shown.{IsShownBlock, IsShownEdge}
+use Rattle.finaliser.proofs.Closed.{near_has, none_reached}
+
+-- a list that gained what holds, put in order, lists what it is the same as
+lists_all : {X : Type 0} (Before : X → X → Type 0) (P Q : X → Type 0) (found xs : List X) → ((x : X) → P x ↔ Q x) → Gains [] found P → AllPairs Before xs → ((x : X) → Contains xs x ↔ Contains found x) → Lists Before Q xs
+lists_all Before P Q found xs is gains ordered same = record {
+  in_order = ordered;
+  sound = λ x c. ⊎_elim (λ none. absurd (Contains-none x none)) (λ p. (is x).0 p) (gains.nothing_else x ((same x).0 c));
+  complete = λ x q. (same x).1 (gains.added x ((is x).1 q));
+}
+
+module _ (map : InstructionMap) (seeds : List ℕ) (state : BuilderState) (closed : IsClosed map seeds state) where
+  -- in a lawful program
+
+  module _ (lawful : IsLawful map) where
+    block_is : (block : Block) → IsShownBlock map state block ↔ IsBlock map seeds block
+    block_is block =
+        let shows = closed_shows_graph map seeds lawful state closed in (
+          λ shown. let is = (shows.blocks block.start shown.0).0 shown.1 in (shown.0, record { leader = is.0; last = is.1; ends = shown.2.ends; kind = shown.2.kind }),
+          λ is. (is.0, (shows.blocks block.start is.0).1 (is.1.leader, is.1.last), record { start = refl; ends = is.1.ends; kind = is.1.kind }),
+        )
+
+    edge_is : (edge : Edge) → IsShownEdge map state edge ↔ IsEdge map seeds edge
+    edge_is edge =
+        let shows = closed_shows_graph map seeds lawful state closed in (
+          λ shown. let is = (shows.blocks edge.from shown.0).0 shown.1 in record { last = shown.0; from = is.0; ends = is.1; leads = shown.2 },
+          λ is. (is.last, (shows.blocks edge.from is.last).1 (is.from, is.ends), is.leads),
+        )
+
+  -- and where there are no ends
+
+  module _ (none : (k : ℕ) → ¬ HasEnd state.ends k) where
+    no_block : (block : Block) → IsShownBlock map state block ↔ IsBlock map seeds block
+    no_block block = (
+      λ shown. absurd (none shown.0 (near_has state shown.0 block.start shown.1)),
+      λ is. absurd (none_reached map seeds state closed none is.1.leader.reached),
+    )
+
+    no_edge : (edge : Edge) → IsShownEdge map state edge ↔ IsEdge map seeds edge
+    no_edge edge = (
+      λ shown. absurd (none shown.0 (near_has state shown.0 edge.from shown.1)),
+      λ is. absurd (none_reached map seeds state closed none is.from.reached),
+    )
+
+  pub outline_shown : IsLawful map ⊎ ((k : ℕ) → ¬ HasEnd state.ends k) → (found blocks : List Block) (ways edges : List Edge)
+      → Gains [] found (IsShownBlock map state) → AllPairs BlockBefore blocks → ((block : Block) → Contains blocks block ↔ Contains found block)
+      → Gains [] ways (IsShownEdge map state) → AllPairs EdgeBefore edges → ((edge : Edge) → Contains edges edge ↔ Contains ways edge)
+      → IsOutline map seeds blocks edges
+  outline_shown sure found blocks ways edges all_blocks in_order same_blocks all_edges rising same_edges = record {
+    all_blocks = lists_all BlockBefore (IsShownBlock map state) (IsBlock map seeds) found blocks (λ block. ⊎_elim (λ lawful. block_is lawful block) (λ none. no_block none block) sure) all_blocks in_order same_blocks;
+    all_edges = lists_all EdgeBefore (IsShownEdge map state) (IsEdge map seeds) ways edges (λ edge. ⊎_elim (λ lawful. edge_is lawful edge) (λ none. no_edge none edge) sure) all_edges rising same_edges;
+  }

@@ -1,0 +1,85 @@
+//! The blocks and edges that a closed state shows.
+
+ghost use Rattle.std.specs.Prelude.{◌⊎◌, ℕ, List, [], AllPairs, IfOk};
+ghost use Rattle.cfg_model.specs.Gains.{Gains};
+ghost use Rattle.cfg_model.specs.Graph.{IsOutline};
+ghost use Rattle.cfg_model.specs.Instructions.{IsLawful};
+ghost use Rattle.cfg_model.specs.Kept.{IsClosed};
+ghost use Rattle.cfg_model.specs.State.{HasEnd, IsNear};
+ghost use Rattle.finaliser.specs.Closed.{IsClosedFromSome};
+ghost use Rattle.finaliser.specs.Shown.{IsShownBlock, IsShownEdge, StartApart};
+
+use crate::blocks::{block_of, by_start};
+use crate::edges::{add_edges, in_order};
+use crate::memory::Memory;
+use cfg_model::{Block, Blocks, Chains, Edge, Edges};
+use core_state::State;
+use std::alloc::Global;
+
+/// The basic blocks of a program and the edges between them, before tail calls are told from other
+/// jumps.
+#[derive(Drop)]
+pub struct Outline {
+    /// The blocks, by where they start.
+    pub blocks: Blocks,
+    /// The edges, by the start of the block that they leave, then of the block that they enter, then by
+    /// kind.
+    pub edges: Edges,
+}
+
+/// The basic blocks of the program `code`, and the edges between them, from the closed state of its
+/// builder alone: neither the seeds nor anything else that is reached is looked at. [`Memory`] where
+/// memory ran out.
+///
+/// It goes once over the ends of the state and looks at the last instruction of each block, and at the
+/// chain of each call's target. The rest of the time goes into sorting.
+pub fn blocks_and_edges<C: Chains>(
+    alloc: Global,
+    code: &C,
+    state: &State,
+) -> Result<Outline, Memory>
+    requires closed { IsClosedFromSome (C.map code.now) state.now }
+    ensures outline { IfOk result (λ outline. (seeds : List ℕ) → IsClosed (C.map code.now) seeds state.now → IsOutline (C.map code.now) seeds outline.blocks outline.edges) }
+{
+    let (blocks, edges) = read_ends(alloc, code, state)?;
+    Ok(Outline {
+        blocks: Blocks::from_vec(by_start(blocks)),
+        edges: Edges::from_vec(in_order(edges)),
+    })
+}
+
+/// The blocks that end at the ends of the state, in the order of these, and the edges from there. An edge
+/// may stand there more than once.
+fn read_ends<C: Chains>(
+    alloc: Global,
+    code: &C,
+    state: &State,
+) -> Result<(Vec<Block>, Vec<Edge>), Memory>
+    requires closed { IsClosedFromSome (C.map code.now) state.now }
+    ensures lawful { IfOk result (λ _. IsLawful (C.map code.now) ⊎ ((k : ℕ) → ¬ HasEnd state.now.ends k)) }
+    ensures blocks { IfOk result (λ o. Gains [] o.0.items (IsShownBlock (C.map code.now) state.now)) }
+    ensures apart { IfOk result (λ o. AllPairs StartApart o.0.items) }
+    ensures edges { IfOk result (λ o. Gains [] o.1.items (IsShownEdge (C.map code.now) state.now)) }
+{
+    let mut blocks = Vec::new(alloc);
+    let mut edges = Vec::new(alloc);
+    let mut at = None;
+    while let Some(k) = state.end_after(at) {
+        let s = start_at(state, k);
+        add_edges(code, state, s, k, &mut edges)?;
+        blocks.push(block_of(code, s, k))?;
+        at = Some(k);
+    }
+    Ok((blocks, edges))
+}
+
+/// The start of the block that ends at `k`.
+fn start_at(state: &State, k: u64) -> u64
+    requires { HasEnd state.now.ends k }
+    ensures { IsNear state.now.ends k result }
+{
+    match state.near(k) {
+        Some(s) => s,
+        None => unreachable!(),
+    }
+}
