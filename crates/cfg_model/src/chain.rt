@@ -1,9 +1,9 @@
 //! Places on chains.
 
 ghost use Rattle.std.specs.Prelude.{◌≡◌, ◌≢◌, ◌↔◌, ℕ, ◌<◌, ◌≤◌, IsTrue, IsSome, IfSome, IfNone};
-ghost use Rattle.cfg_model.specs.Chain.{GoesOnTo, IsTerminator, IsTerminatorOf, OnChain};
-ghost use Rattle.cfg_model.specs.Instructions.{IsLawful};
-ghost use Rattle.cfg_model.specs.Meeting.{IsMeeting};
+ghost use Rattle.cfg_model.specs.Program.Chain.{GoesOnTo, IsTerminator, IsTerminatorOf, OnChain};
+ghost use Rattle.cfg_model.specs.Program.Instructions.{IsLawful};
+ghost use Rattle.cfg_model.specs.Program.Meeting.{IsMeeting};
 
 use crate::flow::{Chains, Flow};
 

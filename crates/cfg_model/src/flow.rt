@@ -44,10 +44,10 @@ pub enum Flow {
 }
 
 /// A program: a finite map from the addresses of its instructions to their length, their flow and,
-/// for a table jump, the kept targets. The map is lawful: see `specs/Instructions.antt`.
+/// for a table jump, the kept targets. The map is lawful: see `specs/Program/Instructions.antt`.
 pub trait Chains: Sync {
     ghost use Rattle.std.specs.Prelude.{◌≡◌, ◌<◌, ◌↔◌, IsTrue, IsSome, Some, slice_get, length};
-    ghost use Rattle.cfg_model.specs.Instructions.{InstructionMap, IsLawful, flow_at, length_at, targets_at};
+    ghost use Rattle.cfg_model.specs.Program.Instructions.{InstructionMap, IsLawful, flow_at, length_at, targets_at};
 
     /// The instructions, by address.
     ghost map: { Self → InstructionMap };

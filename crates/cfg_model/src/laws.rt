@@ -1,7 +1,8 @@
 //! Laws of the definitions, as contracts of functions that do nothing.
 
-ghost use Rattle.cfg_model.specs.Cover.{NoEndIsMissed};
-ghost use Rattle.cfg_model.specs.Unique.{GraphIsUnique, OutlineIsUnique, BlockIsUnique, FunctionIsUnique};
+ghost use Rattle.cfg_model.specs.Program.Cuts.{CutsAreUnique};
+ghost use Rattle.cfg_model.specs.Graph.Joined.{EdgesJoinBlocks, EntriesStartBlocks, BodiesListBlocks};
+ghost use Rattle.cfg_model.specs.Graph.Unique.{GraphIsUnique, OutlineIsUnique, BlockIsUnique, FunctionIsUnique};
 
 /// A program has one graph: what the definitions say of a graph determines it, with its order.
 pub fn one_graph()
@@ -11,7 +12,15 @@ pub fn one_graph()
     ensures function { FunctionIsUnique }
 {}
 
-/// Every reached instruction that ends a chain is the last one of a block.
-pub fn no_end_is_missed()
-    ensures { NoEndIsMissed }
+/// A program has one map of table cuts: what the definition says of cuts determines them.
+pub fn one_map_of_cuts()
+    ensures { CutsAreUnique }
+{}
+
+/// Whatever a graph names by the address of a block is a block of that graph: both ends of every edge,
+/// the entry of every function, and what its body lists.
+pub fn parts_are_blocks()
+    ensures edges { EdgesJoinBlocks }
+    ensures entries { EntriesStartBlocks }
+    ensures bodies { BodiesListBlocks }
 {}

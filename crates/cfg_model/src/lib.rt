@@ -5,9 +5,12 @@
 //! - [`chain`]: places on chains.
 //! - [`graph`]: functions, basic blocks and edges as plain data, and their lists.
 //! - [`laws`]: laws of these definitions, above all that a program has one graph.
+//! - [`outline`]: blocks and edges, read off the last instruction of a block.
 //! - [`state`]: what a builder notes of a start and of a terminator that waits.
-//! - `specs/`: chains, return status, reachable addresses, leaders, blocks, edges, functions and
-//!   the graph of a program, as definitions on the map alone.
+//! - `specs/Program`: chains, successors, return status, reachable addresses and table cuts, as
+//!   definitions on the map alone.
+//! - `specs/Graph`: leaders, blocks, edges, functions and the graph of a program.
+//! - `specs/Builder`: what a builder of the graph keeps, what it may do, and what stays true.
 #![tactic(auto)]
 
 pub mod chain;
@@ -15,7 +18,7 @@ pub mod flow;
 pub mod graph;
 pub mod laws;
 pub mod memory;
-pub mod plain;
+pub mod outline;
 pub mod state;
 
 pub use chain::{before, meet, on_chain, term};
@@ -23,7 +26,7 @@ pub use flow::{Chains, Flow};
 pub use graph::{
     Addresses, Block, Blocks, Edge, EdgeKind, Edges, EndKind, Function, Functions, Graph,
 };
-pub use laws::{no_end_is_missed, one_graph};
+pub use laws::{one_graph, one_map_of_cuts, parts_are_blocks};
 pub use memory::Memory;
-pub use plain::plain_graph;
+pub use outline::{add_edges, block_of, edges_in_order};
 pub use state::{Mark, WaitKind, Waiter};

@@ -1,7 +1,7 @@
 //! What a builder notes of a start and of a terminator that waits, as plain data.
 //!
 //! The state that these stand in, its events and its invariant are definitions alone: see
-//! `specs/State.antt`, `specs/Event.antt` and `specs/Kept.antt`.
+//! `specs/Builder`.
 
 /// How far a builder has come with a start, the address of a block's first instruction.
 #[derive(Clone, Copy, Debug, PartialEq, Eq)]

@@ -3,7 +3,7 @@
 //! and all seeds.
 #![tactic(auto)]
 
-ghost use Rattle.cfg_model.specs.StateLaws.{MeetingIsUnique, StepIsUnique, AllowedEventSteps, ReasonsSuffice, EventsKeepBlocks, StartsAreNearOnce};
+ghost use Rattle.cfg_model.specs.Builder.Laws.{MeetingIsUnique, StepIsUnique, AllowedEventSteps, ReasonsSuffice, EventsKeepBlocks, StartsAreNearOnce};
 
 /// Two chains meet at one address at most. So it is settled which start is near after a split, and which
 /// ones are displaced.

@@ -3,7 +3,7 @@
 //! and all seeds, and speaks of all nine events.
 #![tactic(auto)]
 
-ghost use Rattle.cfg_model.specs.StateLaws.{EventsKeepStatus, FactsLast, ReasonsLast, AllowedStaysAllowed, OwnShardStaysBacked, OtherShardsStay, OtherShardsStayBacked, KeptIsBacked, ClosedShowsGraph};
+ghost use Rattle.cfg_model.specs.Builder.Laws.{EventsKeepStatus, FactsLast, ReasonsLast, AllowedStaysAllowed, OwnShardStaysBacked, OtherShardsStay, OtherShardsStayBacked, KeptIsBacked, StepsStayInShard, PartsAreShown, FactsReadBack, ReasonsGrow, ClosedShowsGraph};
 
 /// Each allowed event keeps what the invariant says of return status: what is marked as returning returns,
 /// and waits, terminators that are dealt with and waiters that were told still have the reason to be. The
@@ -29,6 +29,17 @@ pub fn shards_stay_backed()
     ensures own { OwnShardStaysBacked }
     ensures same { OtherShardsStay }
     ensures others { OtherShardsStayBacked }
+{}
+
+/// The entries of one shard by themselves are a state: an event of the whole is the same event of its own
+/// shard alone; what a shard shows, the whole shows; what the whole shows of a shard's own entries, the
+/// shard shows; and a reason by what a part shows is one by what the whole shows. Whoever looks at one
+/// shard at a time relies on it.
+pub fn a_shard_is_a_state()
+    ensures steps { StepsStayInShard }
+    ensures shown { PartsAreShown }
+    ensures back { FactsReadBack }
+    ensures reasons { ReasonsGrow }
 {}
 
 /// A closed state shows exactly the graph: the leaders, the first and last addresses of the blocks, the

@@ -1,5 +1,5 @@
-use Rattle.cfg_model.proofs.StepLaws.{step_is_unique}
-use Rattle.cfg_model.proofs.MeetingLaws.{allowed_event_steps}
+use Rattle.split_laws.proofs.StepLaws.{step_is_unique}
+use Rattle.split_laws.proofs.MeetingLaws.{allowed_event_steps}
 use Rattle.split_laws.proofs.a_step_is_determined.Goals as goal
 
 pub returns : goal.returns

@@ -1,4 +1,4 @@
-use Rattle.cfg_model.proofs.StepLaws.{meeting_is_unique}
+use Rattle.split_laws.proofs.StepLaws.{meeting_is_unique}
 use Rattle.split_laws.proofs.chains_meet_once.Goals as goal
 
 pub returns : goal.returns

@@ -1,4 +1,4 @@
-use Rattle.cfg_model.proofs.AllowedLaws as laws
+use Rattle.split_laws.proofs.AllowedLaws as laws
 use Rattle.split_laws.proofs.reasons_suffice.Goals as goal
 
 pub returns : goal.returns

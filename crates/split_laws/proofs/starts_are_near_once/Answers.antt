@@ -1,4 +1,4 @@
-use Rattle.cfg_model.proofs.SettledLaws as laws
+use Rattle.split_laws.proofs.SettledLaws as laws
 use Rattle.split_laws.proofs.starts_are_near_once.Goals as goal
 
 pub returns : goal.returns

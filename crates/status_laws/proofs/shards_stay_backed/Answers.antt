@@ -1,4 +1,4 @@
-use Rattle.cfg_model.proofs.ShardLaws.{kept_is_backed, own_shard_stays_backed, other_shards_stay, other_shards_stay_backed}
+use Rattle.status_laws.proofs.ShardLaws.{kept_is_backed, own_shard_stays_backed, other_shards_stay, other_shards_stay_backed}
 use Rattle.status_laws.proofs.shards_stay_backed.Goals as goal
 
 pub returns : goal.returns

@@ -1,5 +1,5 @@
-use Rattle.cfg_model.specs.Chain.{OnChain}
-use Rattle.cfg_model.proofs.ChainSteps.{chain_step}
+use Rattle.cfg_model.specs.Program.Chain.{OnChain}
+use Rattle.cfg_model.proofs.Program.ChainSteps.{chain_step}
 use Rattle.cfg_model.proofs.chain.before.Goals as goal
 
 pub loop-next-init : goal.loop-next-init

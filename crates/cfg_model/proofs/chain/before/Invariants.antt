@@ -1,5 +1,5 @@
 use Rattle.std.proofs.Common.{◌-◌, ◌^◌, IsSome}
-use Rattle.cfg_model.specs.Chain.{OnChain, GoesOnTo}
+use Rattle.cfg_model.specs.Program.Chain.{OnChain, GoesOnTo}
 use Rattle.cfg_model.proofs.chain.before.Given as goal
 
 -- at is on the chain, right before next, which leads to m

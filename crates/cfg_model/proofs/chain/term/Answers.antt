@@ -1,6 +1,6 @@
-use Rattle.cfg_model.specs.Chain.{OnChain}
-use Rattle.cfg_model.proofs.ChainSteps.{chain_step}
-use Rattle.cfg_model.proofs.Outline.Runs.{goes_up}
+use Rattle.cfg_model.specs.Program.Chain.{OnChain}
+use Rattle.cfg_model.proofs.Program.ChainSteps.{chain_step}
+use Rattle.cfg_model.proofs.Graphs.Runs.{goes_up}
 use Rattle.cfg_model.proofs.chain.term.Goals as goal
 
 pub loop-next-init : goal.loop-next-init

@@ -1,5 +1,5 @@
 use Rattle.std.proofs.Common.{◌-◌, ◌^◌, IsSome}
-use Rattle.cfg_model.specs.Chain.{OnChain}
+use Rattle.cfg_model.specs.Program.Chain.{OnChain}
 use Rattle.cfg_model.proofs.chain.term.Given as goal
 
 -- k is on the chain, and is the address of an instruction

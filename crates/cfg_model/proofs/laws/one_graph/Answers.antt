@@ -1,5 +1,5 @@
-use Rattle.cfg_model.proofs.Outline.Graphs.{one_graph, one_outline, function_unique}
-use Rattle.cfg_model.proofs.Outline.OneBlock.{block_unique}
+use Rattle.cfg_model.proofs.Graphs.OneGraph.{one_graph, one_outline, function_unique}
+use Rattle.cfg_model.proofs.Graphs.OneBlock.{block_unique}
 use Rattle.cfg_model.proofs.laws.one_graph.Goals as goal
 
 pub returns : goal.returns

@@ -1,0 +1,101 @@
+-- The edges of a block, by the flow of its last instruction.
+use Rattle.std.proofs.Common.{◌≡◌, ℕ, ◌⊎◌, List, Option, Some, None, refl, sym, ap, ◌∙◌, subst, inl, inr, ⊎_elim}
+use Rattle.std.specs.List.{Contains}
+use Rattle.cfg_model.specs.declared.flow.Flow.{Flow}
+use Rattle.cfg_model.specs.declared.flow.Flow.TheVariants.{Straight, Branch, Jump, Call, IndirectCall, Table, Return, Unknown, Stop}
+use Rattle.cfg_model.specs.declared.graph.Edge.{Edge}
+use Rattle.cfg_model.specs.declared.graph.EdgeKind.{EdgeKind}
+use Rattle.cfg_model.specs.declared.graph.EdgeKind.TheVariants as kinds
+use Rattle.cfg_model.specs.Program.Instructions.{InstructionMap, flow_at, targets_at}
+use Rattle.cfg_model.specs.Program.Successors.{IsCall}
+use Rattle.cfg_model.specs.Graph.Edge.{LeadsTo, Leaves}
+use Rattle.cfg_model.specs.Graph.Listing.{Gains}
+use Rattle.cfg_model.specs.Inner.Ways.{edge_to, IsEdgeTo}
+use Rattle.cfg_model.proofs.Graphs.Gaining.{Gains-same, Gains-none}
+
+module _ (map : InstructionMap) (MayReturn : ℕ → Type 0) (s k : ℕ) where
+  -- the edges from s that a flow at k gives
+  abbrev pub By : Option Flow → Edge → Type 0
+  By None edge = ⊥
+  By (Some (Straight next)) edge = edge ≡ edge_to s kinds.Fall next
+  By (Some (Branch taken fall)) edge = IsEdgeTo s kinds.Taken taken edge ⊎ IsEdgeTo s kinds.Fall fall edge
+  By (Some (Jump target)) edge = edge ≡ edge_to s kinds.Jump target
+  By (Some (Call target fall)) edge = (edge ≡ edge_to s kinds.Call target) ⊎ (MayReturn target × IsEdgeTo s kinds.After fall edge)
+  By (Some (IndirectCall fall)) edge = IsEdgeTo s kinds.After fall edge
+  By (Some (Table entries full)) edge = (to : ℕ) × Contains (targets_at map k) to × (edge ≡ edge_to s kinds.Table to)
+  By (Some Return) edge = ⊥
+  By (Some Unknown) edge = ⊥
+  By (Some Stop) edge = ⊥
+
+  -- each of them leaves s by a way on from k
+
+  leads_as : (to : ℕ) (kind : EdgeKind) (edge : Edge) → edge ≡ edge_to s kind to → LeadsTo map MayReturn k to kind → Leaves map MayReturn s k edge
+  leads_as to kind edge is leads = subst (Leaves map MayReturn s k) (sym is) (record { from = refl; leads = leads })
+
+  leads_some : (o : Option ℕ) (kind : EdgeKind) (edge : Edge) → ((to : ℕ) → o ≡ Some to → LeadsTo map MayReturn k to kind) → IsEdgeTo s kind o edge → Leaves map MayReturn s k edge
+  leads_some None kind edge leads h = absurd h
+  leads_some (Some to) kind edge leads h = leads_as to kind edge h (leads to refl)
+
+  branch_leads : (taken fall : Option ℕ) (edge : Edge) → flow_at map k ≡ Some (Branch taken fall) → IsEdgeTo s kinds.Taken taken edge ⊎ IsEdgeTo s kinds.Fall fall edge → Leaves map MayReturn s k edge
+  branch_leads taken fall edge h way =
+      ⊎_elim
+      (λ t. leads_some taken kinds.Taken edge (λ to e. LeadsTo.taken (h ∙ ap (λ o. Some (Branch o fall)) e)) t)
+      (λ f. leads_some fall kinds.Fall edge (λ to e. LeadsTo.not_taken (h ∙ ap (λ o. Some (Branch taken o)) e)) f)
+      way
+
+  call_leads : (target : ℕ) (fall : Option ℕ) (edge : Edge) → IsCall map k target fall → (edge ≡ edge_to s kinds.Call target) ⊎ (MayReturn target × IsEdgeTo s kinds.After fall edge) → Leaves map MayReturn s k edge
+  call_leads target fall edge h way =
+      ⊎_elim
+      (λ is. leads_as target kinds.Call edge is (LeadsTo.call h))
+      (λ past. leads_some fall kinds.After edge (λ to e. LeadsTo.after_call (h ∙ ap (λ o. Some (Call target o)) e) past.0) past.1)
+      way
+
+  by_leaves : (edge : Edge) (o : Option Flow) → flow_at map k ≡ o → By o edge → Leaves map MayReturn s k edge
+  by_leaves edge None h way = absurd way
+  by_leaves edge (Some (Straight next)) h way = leads_as next kinds.Fall edge way (LeadsTo.straight h)
+  by_leaves edge (Some (Branch taken fall)) h way = branch_leads taken fall edge h way
+  by_leaves edge (Some (Jump target)) h way = leads_as target kinds.Jump edge way (LeadsTo.jump h)
+  by_leaves edge (Some (Call target fall)) h way = call_leads target fall edge h way
+  by_leaves edge (Some (IndirectCall fall)) h way = leads_some fall kinds.After edge (λ to e. LeadsTo.after_indirect (h ∙ ap (λ o. Some (IndirectCall o)) e)) way
+  by_leaves edge (Some (Table entries full)) h way = leads_as way.0 kinds.Table edge way.2 (LeadsTo.table h way.1)
+  by_leaves edge (Some Return) h way = absurd way
+  by_leaves edge (Some Unknown) h way = absurd way
+  by_leaves edge (Some Stop) h way = absurd way
+
+-- and there are no others
+
+by_at : (map : InstructionMap) (MayReturn : ℕ → Type 0) (s k : ℕ) (o : Option Flow) (edge : Edge) (flow : Flow) → flow_at map k ≡ o → flow_at map k ≡ Some flow → By map MayReturn s k (Some flow) edge → By map MayReturn s k o edge
+by_at map MayReturn s k o edge flow at h way = subst (λ (x : Option Flow). By map MayReturn s k x edge) (sym h ∙ at) way
+
+way_by : (map : InstructionMap) (MayReturn : ℕ → Type 0) (s : ℕ) (o : Option Flow) {k to : ℕ} {kind : EdgeKind} → flow_at map k ≡ o → LeadsTo map MayReturn k to kind → By map MayReturn s k o (edge_to s kind to)
+way_by map MayReturn s o at (LeadsTo.straight {k = k} {to = to} h) = by_at map MayReturn s k o (edge_to s kinds.Fall to) (Straight to) at h refl
+way_by map MayReturn s o at (LeadsTo.not_taken {k = k} {to = to} {taken = taken} h) = by_at map MayReturn s k o (edge_to s kinds.Fall to) (Branch taken (Some to)) at h (inr refl)
+way_by map MayReturn s o at (LeadsTo.taken {k = k} {to = to} {fall = fall} h) = by_at map MayReturn s k o (edge_to s kinds.Taken to) (Branch (Some to) fall) at h (inl refl)
+way_by map MayReturn s o at (LeadsTo.jump {k = k} {to = to} h) = by_at map MayReturn s k o (edge_to s kinds.Jump to) (Jump to) at h refl
+way_by map MayReturn s o at (LeadsTo.call {k = k} {to = to} {fall = fall} h) = by_at map MayReturn s k o (edge_to s kinds.Call to) (Call to fall) at h (inl refl)
+way_by map MayReturn s o at (LeadsTo.after_indirect {k = k} {to = to} h) = by_at map MayReturn s k o (edge_to s kinds.After to) (IndirectCall (Some to)) at h refl
+way_by map MayReturn s o at (LeadsTo.after_call {k = k} {target = target} {to = to} h back) = by_at map MayReturn s k o (edge_to s kinds.After to) (Call target (Some to)) at h (inr (back, refl))
+way_by map MayReturn s o at (LeadsTo.table {k = k} {to = to} {entries = entries} {full = full} h c) = by_at map MayReturn s k o (edge_to s kinds.Table to) (Table entries full) at h (to, c, refl)
+
+leaves_by : (map : InstructionMap) (MayReturn : ℕ → Type 0) (s k : ℕ) (o : Option Flow) → flow_at map k ≡ o → (edge : Edge) → Leaves map MayReturn s k edge → By map MayReturn s k o edge
+leaves_by map MayReturn s k o at edge leaves = subst (λ from. By map MayReturn s k o (record { from = from; to = edge.to; kind = edge.kind })) (sym leaves.from) (way_by map MayReturn s o at leaves.leads)
+
+-- so a list that gains the edges of the flow gains those that leave
+pub gains_by : (map : InstructionMap) (MayReturn : ℕ → Type 0) (s k : ℕ) (o : Option Flow) (old new : List Edge) → flow_at map k ≡ o → Gains old new (By map MayReturn s k o) → Gains old new (Leaves map MayReturn s k)
+gains_by map MayReturn s k o old new at gains = Gains-same old new (By map MayReturn s k o) (Leaves map MayReturn s k) (λ edge way. by_leaves map MayReturn s k edge o at way) (λ edge leaves. leaves_by map MayReturn s k o at edge leaves) gains
+
+-- and one of a flow that leads nowhere gains none
+pub gains_none : (map : InstructionMap) (MayReturn : ℕ → Type 0) (s k : ℕ) (o : Option Flow) (edges : List Edge) → flow_at map k ≡ o → ((edge : Edge) → By map MayReturn s k o edge → ⊥) → Gains edges edges (Leaves map MayReturn s k)
+gains_none map MayReturn s k o edges at none = Gains-none edges (Leaves map MayReturn s k) (λ edge leaves. none edge (leaves_by map MayReturn s k o at edge leaves))
+
+-- where the same callees return, the same edges leave
+
+pub leads_same : {map : InstructionMap} {Back Other : ℕ → Type 0} {k to : ℕ} {kind : EdgeKind} → ((target : ℕ) (fall : Option ℕ) → IsCall map k target fall → Back target → Other target) → LeadsTo map Back k to kind → LeadsTo map Other k to kind
+leads_same same (LeadsTo.straight h) = LeadsTo.straight h
+leads_same same (LeadsTo.not_taken h) = LeadsTo.not_taken h
+leads_same same (LeadsTo.taken h) = LeadsTo.taken h
+leads_same same (LeadsTo.jump h) = LeadsTo.jump h
+leads_same same (LeadsTo.call h) = LeadsTo.call h
+leads_same same (LeadsTo.after_indirect h) = LeadsTo.after_indirect h
+leads_same same (LeadsTo.after_call {target = target} {to = to} h back) = LeadsTo.after_call h (same target (Some to) h back)
+leads_same same (LeadsTo.table h c) = LeadsTo.table h c

@@ -1,0 +1,71 @@
+-- Facts: what may be known of a builder's state and stays true whatever else happens to it.
+use Rattle.std.specs.Prelude.{ℕ, List, Option, IsSome}
+use Rattle.cfg_model.specs.declared.state.WaitKind.{WaitKind}
+use Rattle.cfg_model.specs.declared.state.WaitKind.TheVariants.{Follow, Release}
+use Rattle.cfg_model.specs.declared.state.Waiter.{Waiter}
+use Rattle.cfg_model.specs.Program.Instructions.{InstructionMap}
+use Rattle.cfg_model.specs.Program.Chain.{OnChain, IsTerminator}
+use Rattle.cfg_model.specs.Program.Successors.{IsCall}
+use Rattle.cfg_model.specs.Program.Status.{Returns}
+use Rattle.cfg_model.specs.Program.Reach.{Reached}
+use Rattle.cfg_model.specs.Graph.Leader.{IsLeader}
+use Rattle.cfg_model.specs.Builder.Waits.{Depends}
+use Rattle.cfg_model.specs.Builder.State.{BuilderState, IsStart, IsParsed, IsAnchored, HasEnd, IsEntered, WaitsAt, IsReturned, IsTold, IsDone}
+
+-- Start: s is a start. Parsed: s is a parsed start. Anchored: s is anchored at or before k.
+-- End: k has an entry among the ends. Terminator: k is entered as a terminator.
+-- Waits: w waits at k. Returned: k is known to return. Told: w was told that k returns.
+-- Done: the ways on of k are dealt with.
+pub data Fact : Type 0 where
+  Start : (s : ℕ) → Fact
+  Parsed : (s : ℕ) → Fact
+  Anchored : (s k : ℕ) → Fact
+  End : (k : ℕ) → Fact
+  Terminator : (k : ℕ) → Fact
+  Waits : (k : ℕ) (w : Waiter) → Fact
+  Returned : (k : ℕ) → Fact
+  Told : (k : ℕ) (w : Waiter) → Fact
+  Done : (k : ℕ) → Fact
+
+-- The fact holds of the state.
+abbrev pub Holds : InstructionMap → BuilderState → Fact → Type 0
+Holds map state (Start s) = IsStart state.starts s
+Holds map state (Parsed s) = IsParsed state.starts s
+Holds map state (Anchored s k) = IsAnchored map state.ends s k
+Holds map state (End k) = HasEnd state.ends k
+Holds map state (Terminator k) = IsEntered state.terminators k
+Holds map state (Waits k w) = WaitsAt state.terminators k w
+Holds map state (Returned k) = IsReturned state.terminators k
+Holds map state (Told k w) = IsTold state.terminators k w
+Holds map state (Done k) = IsDone state.terminators k
+
+-- k is a reachable instruction that ends a chain.
+pub record IsReachedTerminator (map : InstructionMap) (seeds : List ℕ) (k : ℕ) : Type 0 where
+  pub reached : Reached map seeds k
+  pub ends : IsTerminator map k
+
+-- Where this terminator is a call and follows another one, the call's target is such. Of a terminator
+-- that is no call, or waits to be released, it says nothing.
+abbrev pub WhereCallFollows : InstructionMap → (ℕ → Type 0) → ℕ → WaitKind → Type 0
+WhereCallFollows map Such terminator Follow =
+    (target : ℕ) (fall : Option ℕ) → IsCall map terminator target fall → Such target
+WhereCallFollows map Such terminator Release = Unit {0}
+
+-- What a wait says of the program alone: w depends on k and is a reachable terminator, and a call
+-- that follows has a target that returns.
+pub record IsSoundWait (map : InstructionMap) (seeds : List ℕ) (k : ℕ) (w : Waiter) : Type 0 where
+  pub depends : Depends map k w
+  pub waiter : IsReachedTerminator map seeds w.terminator
+  pub callee : WhereCallFollows map (Returns map) w.terminator w.kind
+
+-- What a fact says of the program alone, whatever the state: it is true of the least closure.
+abbrev pub IsSoundFact : InstructionMap → List ℕ → Fact → Type 0
+IsSoundFact map seeds (Start s) = IsLeader map seeds s
+IsSoundFact map seeds (Parsed s) = IsLeader map seeds s
+IsSoundFact map seeds (Anchored s k) = IsLeader map seeds s × OnChain map s k
+IsSoundFact map seeds (End k) = IsSome (map k)
+IsSoundFact map seeds (Terminator k) = IsReachedTerminator map seeds k
+IsSoundFact map seeds (Waits k w) = IsSoundWait map seeds k w
+IsSoundFact map seeds (Returned k) = Returns map k
+IsSoundFact map seeds (Told k w) = IsSoundWait map seeds k w
+IsSoundFact map seeds (Done k) = IsReachedTerminator map seeds k

@@ -1,0 +1,50 @@
+-- How the return of one terminator hangs on that of another, and what a terminator asks for.
+use Rattle.std.specs.Prelude.{ℕ, Option, Some}
+use Rattle.cfg_model.specs.declared.state.WaitKind.{WaitKind}
+use Rattle.cfg_model.specs.declared.state.WaitKind.TheVariants.{Follow, Release}
+use Rattle.cfg_model.specs.declared.state.Waiter.{Waiter}
+use Rattle.cfg_model.specs.Builder.Waiter.{follower, released}
+use Rattle.cfg_model.specs.Program.Instructions.{InstructionMap}
+use Rattle.cfg_model.specs.Program.Chain.{IsTerminator, IsTerminatorOf}
+use Rattle.cfg_model.specs.Program.Successors.{IsSuccessor, IsCall}
+
+-- The terminator at this address returns if the one at k does, as far as its ways on decide: k ends
+-- the chain of a successor of it, or of the fall where it is a call (return status of Meng et al.,
+-- PPoPP 2021; a call needs besides that its target returns).
+pub data FollowsFrom (map : InstructionMap) (k terminator : ℕ) : Type 0 where
+  onward : {to : ℕ} → IsTerminator map terminator → IsSuccessor map terminator to
+      → IsTerminatorOf map to k → FollowsFrom map k terminator
+  past_call : {target fall : ℕ} → IsCall map terminator target (Some fall)
+      → IsTerminatorOf map fall k → FollowsFrom map k terminator
+
+-- The terminator at this address is a call with a fall, and k ends the chain of its target, so that
+-- the return of k frees the fall (call fall-through edges of Meng et al.).
+pub record IsReleasedBy (map : InstructionMap) (k terminator : ℕ) : Type 0 where
+  pub target : ℕ
+  pub fall : ℕ
+  pub call : IsCall map terminator target (Some fall)
+  pub callee : IsTerminatorOf map target k
+
+-- What it is for a terminator to depend on k, by the kind of its wait.
+abbrev pub DependsAs : InstructionMap → ℕ → ℕ → WaitKind → Type 0
+DependsAs map k terminator Follow = FollowsFrom map k terminator
+DependsAs map k terminator Release = IsReleasedBy map k terminator
+
+-- The waiter depends on k.
+abbrev pub Depends : InstructionMap → ℕ → Waiter → Type 0
+Depends map k w = DependsAs map k w.terminator w.kind
+
+-- The targets of a terminator: the addresses that become starts on account of it alone. They are its
+-- successors, and the target of a call. (The fall of a call waits for the target's return.)
+pub data IsTarget (map : InstructionMap) (terminator to : ℕ) : Type 0 where
+  onward : IsSuccessor map terminator to → IsTarget map terminator to
+  called : {fall : Option ℕ} → IsCall map terminator to fall → IsTarget map terminator to
+
+-- The waits of a terminator: it follows the end of each successor's chain, and a call with a fall is
+-- released at the end of its target's chain. (The follower of a call's fall is placed when the call
+-- is released.)
+pub data IsWait (map : InstructionMap) (terminator : ℕ) : ℕ → Waiter → Type 0 where
+  follow : {to k : ℕ} → IsSuccessor map terminator to → IsTerminatorOf map to k
+      → IsWait map terminator k (follower terminator)
+  release : {target fall k : ℕ} → IsCall map terminator target (Some fall)
+      → IsTerminatorOf map target k → IsWait map terminator k (released terminator)

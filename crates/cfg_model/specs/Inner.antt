@@ -1,0 +1,2 @@
+-- Words that contracts of private functions cite; no definition stands on them.
+pub mod Ways

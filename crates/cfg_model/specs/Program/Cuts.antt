@@ -1,0 +1,46 @@
+-- Table cuts: how many entries of a jump table are kept where another jump table begins inside it.
+use Rattle.std.specs.Prelude.{◌≡◌, ◌↔◌, ℕ, ◌+◌, ◌-◌, ◌*◌, ◌/◌, ◌<◌, ◌≤◌, List, Option, Some}
+use Rattle.cfg_model.specs.Program.Instructions.{InstructionMap}
+use Rattle.cfg_model.specs.Program.Reach.{Reached}
+
+-- Where a jump table lies: its base, and its number of entries of four bytes.
+pub record Extent : Type 0 where
+  pub base : ℕ
+  pub count : ℕ
+
+-- The jump tables, by the address of their jump.
+abbrev pub Tables : Type 0
+Tables = ℕ → Option Extent
+
+-- b is the base of the jump table of a jump that counts, strictly inside this one.
+pub record IsBaseInside (tables : Tables) (IsCounted : ℕ → Type 0) (table : Extent) (b : ℕ) : Type 0 where
+  pub jump : ℕ
+  pub counts : IsCounted jump
+  pub other : Extent
+  pub at_jump : tables jump ≡ Some other
+  pub base : other.base ≡ b
+  pub above : table.base < b
+  pub below : b < table.base + 4 * table.count
+
+-- The jump table of j is cut to this many entries: up to the least base of another one inside it.
+-- The jumps that count are those reached where none is cut (this project's profile).
+pub record IsCutTo (tables : Tables) (IsCounted : ℕ → Type 0) (j kept : ℕ) : Type 0 where
+  pub counts : IsCounted j
+  pub table : Extent
+  pub at_jump : tables j ≡ Some table
+  pub base : ℕ
+  pub inside : IsBaseInside tables IsCounted table base
+  pub least : (b : ℕ) → IsBaseInside tables IsCounted table b → base ≤ b
+  pub entries : kept ≡ (base - table.base) / 4
+
+-- These are the cuts of the jump tables: for each jump the number of entries kept, where it is cut.
+abbrev pub AreCuts : Tables → (ℕ → Type 0) → (ℕ → Option ℕ) → Type 0
+AreCuts tables IsCounted cuts =
+    (j kept : ℕ) → (cuts j ≡ Some kept) ↔ IsCutTo tables IsCounted j kept
+
+-- The cuts of jump tables are determined, where the jumps that are reached in a program count.
+abbrev pub CutsAreUnique : Type 0
+CutsAreUnique =
+    (tables : Tables) (map : InstructionMap) (seeds : List ℕ) (cuts others : ℕ → Option ℕ)
+    → AreCuts tables (Reached map seeds) cuts → AreCuts tables (Reached map seeds) others
+    → cuts ≡ others

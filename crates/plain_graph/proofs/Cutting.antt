@@ -1,0 +1,3 @@
+-- Lemmas on leaders, blocks and edges.
+pub mod Leaders
+pub mod Blocks

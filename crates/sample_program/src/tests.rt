@@ -1,0 +1,55 @@
+//! The worked programs, asked as the programs that they are.
+
+use crate::{Sample, cut_table, row_6, row_8, row_9, row_10, row_12, row_17, table_jump};
+use cfg_model::{Chains, Flow, before, meet, on_chain, term};
+
+/// Where instructions stand in each of the programs, and which of them are seeds.
+#[test]
+fn instructions(rt: HostRuntime) {
+    let programs: [(Sample, &[u64], &[u64]); 8] = [
+        (row_6(), &[0, 4, 8, 12], &[0]),
+        (row_8(), &[0, 2, 4, 8], &[0]),
+        (row_9(), &[0, 4], &[0]),
+        (row_10(), &[0, 4, 8, 12, 16], &[0]),
+        (row_12(), &[0, 4], &[0]),
+        (row_17(), &[0, 4, 8, 12], &[0, 12]),
+        (table_jump(), &[0, 2, 4], &[0]),
+        (cut_table(), &[0, 2, 4], &[0]),
+    ];
+    for (code, addresses, seeds) in &programs {
+        assert_eq!(rt; code.seeds(), *seeds);
+        for a in 0..24 {
+            assert_eq!(rt; code.has(a), addresses.contains(&a), "at {a}");
+        }
+    }
+}
+
+/// The flow and the length of an instruction, and the targets of a table jump.
+#[test]
+fn one_instruction(rt: HostRuntime) {
+    let table = Flow::Table {
+        entries: 2,
+        full: true,
+    };
+    let code = Sample {
+        slots: &[Some((2, table)), None, Some((4, Flow::Return))],
+        targets: &[2, 0],
+        seeds: &[0],
+    };
+    assert_eq!(rt; code.flow(0), table);
+    assert_eq!(rt; code.length(2), 4);
+    assert_eq!(rt; code.target(0, 1), 0);
+}
+
+/// Places on the chains of two streams of instructions that meet at 4.
+#[test]
+fn places_on_chains(rt: HostRuntime) {
+    let code = row_8();
+    assert!(rt; code.has(0) && code.has(2) && code.has(4));
+    assert!(rt; on_chain(&code, 0, 4));
+    assert!(rt; on_chain(&code, 2, 4));
+    assert!(rt; !on_chain(&code, 4, 2));
+    assert_eq!(rt; term(&code, 0), 4);
+    assert_eq!(rt; before(&code, 2, 4), 2);
+    assert_eq!(rt; meet(&code, 0, 2, 4), 4);
+}

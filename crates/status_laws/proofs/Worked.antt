@@ -1,0 +1,2 @@
+-- Facts by computation on the worked rows.
+pub mod SelfCallClosed
