@@ -1,5 +1,5 @@
--- What the worked rows give of their files. All numbers but those of rows and parts are written in hexadecimal, and in
--- the order in which they lie in memory.
+-- What the worked rows give of their files. All numbers but those of rows and parts are written in
+-- hexadecimal, and in the order in which they lie in memory.
 use Rattle.std.specs.Prelude.{◌≡◌, ◌≤◌, ◌==◌, ◌⊎◌, ℕ, List, [], ◌∷◌, codes, if◌then◌else◌}
 use Rattle.elf_maker.specs.declared.parts.Parts.{Parts}
 use Rattle.elf_maker.specs.declared.parts.MadeSymbol.{MadeSymbol}
@@ -15,9 +15,11 @@ abbrev pub numbered : {X : Type 0} → X → List (ℕ × X) → ℕ → X
 numbered last [] n = last
 numbered last (e ∷ es) n = if e.0 == n then e.1 else numbered last es n
 
--- the code of the first parts of row 16: an instruction of 16 bits, the first half of one of 32 bits, and `unimp`
+-- the code of the first parts of row 16: an instruction of 16 bits, the first half of one of 32
+-- bits, and `unimp`
 abbrev pub row_16_table : List (ℕ × List ℕ)
-row_16_table = (0, halves (0x0001 ∷ [])) ∷ (1, halves (0x0013 ∷ [])) ∷ (2, words (0xC0001073 ∷ [])) ∷ []
+row_16_table =
+    (0, halves (0x0001 ∷ [])) ∷ (1, halves (0x0013 ∷ [])) ∷ (2, words (0xC0001073 ∷ [])) ∷ []
 
 -- the code of its last part, a word of zero bits
 abbrev pub row_16_last : List ℕ
@@ -65,7 +67,8 @@ abbrev pub row_5_table : List (ℕ × List MadeSymbol)
 row_5_table = (
   0,
   record { name = codes "b"; address = 0x10000 } ∷ record { name = codes "a"; address = 0x10000 }
-      ∷ record { name = codes "odd"; address = 0x10001 } ∷ record { name = codes "c"; address = 0x10004 } ∷ [],
+      ∷ record { name = codes "odd"; address = 0x10001 }
+      ∷ record { name = codes "c"; address = 0x10004 } ∷ [],
 )
     ∷ (1, record { name = codes "-"; address = 0x10000 } ∷ [])
     ∷ (2, record { name = codes "a b"; address = 0x10000 } ∷ [])

@@ -26,7 +26,8 @@ fn one_symbol(alloc: Global, name: &[u8], address: u64) -> Result<Vec<MadeSymbol
     Ok(symbols)
 }
 
-/// The symbols of the first part of row 5: two at one address, one at an odd address and one at another.
+/// The symbols of the first part of row 5: two at one address, one at an odd address and one at
+/// another.
 #[tactic(auto, unfolding(crate::specs::Rows::row_symbols))]
 fn four_symbols(alloc: Global) -> Result<Vec<MadeSymbol>, Memory>
     ensures { IfOk result (λ ss. ss.items ≡ row_symbols 5 0) }

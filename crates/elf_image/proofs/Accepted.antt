@@ -12,7 +12,7 @@ use Rattle.elf_image.specs.Code.{is_code, is_even, code_section_of}
 use Rattle.elf_image.specs.ReadOnly.{data_section_of}
 use Rattle.elf_image.specs.FaultTests.{is_too_large, is_short, has_no_sections, is_out_of_file, is_wrapping, has_section_out_of_file, has_wrapping_section, has_entry_outside_code}
 use Rattle.elf_image.specs.Faults.{has_fault, first_among, image_faults, first_image_fault, IsImage}
-use Rattle.elf_image.specs.Found.{IsFoundAt}
+use Rattle.elf_image.specs.Inner.Found.{IsFoundAt}
 use Rattle.elf_image.proofs.Finds.{find-cases, any-contained}
 use Rattle.elf_image.proofs.FirstFault.{none-at}
 use Rattle.elf_image.proofs.LaidOut.{holds-true}

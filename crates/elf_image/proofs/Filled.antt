@@ -7,8 +7,8 @@ use Rattle.std.proofs.lemmas.Bool.Decides.{nat_tests}
 use Rattle.elf_image.specs.declared.section.Section.{Section}
 use Rattle.elf_image.specs.Sections.{holds_bytes}
 use Rattle.elf_image.specs.FaultTests.{any_pair, shares_address}
-use Rattle.elf_image.specs.Spans.{FindsSame}
-use Rattle.elf_image.specs.Layout.{FindsAmong}
+use Rattle.elf_image.specs.Inner.AddressIndex.{FindsSame}
+use Rattle.elf_image.specs.Inner.Layout.{FindsAmong}
 use Rattle.elf_image.proofs.Finds.{find-filter}
 
 -- what has a byte is not empty

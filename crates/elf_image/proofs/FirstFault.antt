@@ -8,7 +8,7 @@ use Rattle.elf_image.specs.declared.fault.Fault.{Fault}
 use Rattle.elf_image.specs.declared.fault.Fault.TheVariants.{Short, SectionTable}
 use Rattle.elf_image.specs.FaultTests.{is_short}
 use Rattle.elf_image.specs.Faults.{has_fault, first_among, image_faults, symbol_faults, first_image_fault, first_symbol_fault, first_fault}
-use Rattle.elf_image.specs.Passes.{ident_faults, header_faults, table_faults, section_faults, code_faults}
+use Rattle.elf_image.specs.Inner.Passes.{ident_faults, header_faults, table_faults, section_faults, code_faults}
 
 -- the faults of the header and the two tables
 abbrev pub file_faults : List Fault

@@ -11,7 +11,7 @@ use Rattle.std.proofs.lemmas.List.Sorted.{IsNonDecreasingBy-from_all_adjacent, A
 use Rattle.elf_image.specs.declared.section.Section.{Section}
 use Rattle.elf_image.specs.Sections.{holds_bytes}
 use Rattle.elf_image.specs.FaultTests.{any_pair, shares_address}
-use Rattle.elf_image.specs.Spans.{IsLaidOut, HasOverhang, FindsSame}
+use Rattle.elf_image.specs.Inner.AddressIndex.{IsLaidOut, HasOverhang, FindsSame}
 use Rattle.elf_image.proofs.Finds.{find-at, find-none, find-permutation}
 use Rattle.elf_image.proofs.Pairs.{any_pair-at, pair-from_any_pair, any_pair-permutation}
 

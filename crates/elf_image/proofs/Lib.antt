@@ -1,4 +1,4 @@
-mod Examples
+mod Worked
 pub mod Ranges
 pub mod Finds
 pub mod Pairs

@@ -1,5 +1,6 @@
--- Code addresses and the instruction bytes at them: this project's profile. Instructions stand at even addresses
--- (RISC-V Unprivileged ISA 20240411, "Base Instruction-Length Encoding": parcels of 16 bits).
+-- Code addresses and the instruction bytes at them: this project's profile. Instructions stand at
+-- even addresses (RISC-V Unprivileged ISA 20240411, "Base Instruction-Length Encoding": parcels of
+-- 16 bits).
 use Rattle.std.specs.Prelude.{ℕ, ◌%◌, ◌==◌, ◌&&◌, Bool, List, is_some, if◌then◌else◌}
 use Rattle.std.specs.List.{find}
 use Rattle.std.specs.Option.{option_map, option_and_then}

@@ -1,6 +1,6 @@
--- What is wrong with a file, as twenty tests on its bytes. Each stands for itself; their order is in `Faults`.
--- The fields are those of the System V ABI (ELF-64); which values are wanted is this project's profile.
--- A sum here has no upper limit, so an offset plus a size never wraps.
+-- What is wrong with a file, as twenty tests on its bytes. Each stands for itself; their order is
+-- in `Faults`. The fields are those of the System V ABI (ELF-64); which values are wanted is this
+-- project's profile. A sum here has no upper limit, so an offset plus a size never wraps.
 use Rattle.std.specs.Prelude.{ℕ, ◌+◌, ◌-◌, ◌*◌, ◌^◌, ◌%◌, ◌==◌, ◌&&◌, ◌||◌, nat_lt, not, min, max, Bool, false, List, [], ◌∷◌, length, drop, slice_index}
 use Rattle.std.specs.List.{list_any, filter}
 use Rattle.std.specs.Option.{option_map_or}
@@ -37,15 +37,16 @@ has_wrong_data bytes = not (header.data_encoding bytes == 1)
 
 -- 6. no EV_CURRENT
 unfoldable pub has_wrong_version : List ℕ → Bool
-has_wrong_version bytes = not (header.ident_version bytes == 1) || not (header.file_version bytes == 1)
+has_wrong_version bytes =
+    not (header.ident_version bytes == 1) || not (header.file_version bytes == 1)
 
 -- 7. no EM_RISCV (RISC-V psABI, "ELF Object Files")
 unfoldable pub has_wrong_machine : List ℕ → Bool
 has_wrong_machine bytes = not (header.machine bytes == 243)
 
--- 8. no ET_EXEC
+-- 8. neither ET_EXEC nor ET_DYN, the type of a position-independent executable
 unfoldable pub has_wrong_type : List ℕ → Bool
-has_wrong_type bytes = not (header.file_type bytes == 2)
+has_wrong_type bytes = not (header.file_type bytes == 2 || header.file_type bytes == 3)
 
 -- 9. the header does not have the size of an Elf64_Ehdr
 unfoldable pub has_wrong_header_size : List ℕ → Bool
@@ -68,7 +69,8 @@ has_no_sections bytes = header.section_count bytes == 0
 -- 13. the section headers are no Elf64_Shdrs, or their table leaves the file
 unfoldable pub has_bad_section_table : List ℕ → Bool
 has_bad_section_table bytes =
-    not (header.section_header_size bytes == 64) || leaves_file (length bytes) (header.section_table_offset bytes) (64 * header.section_count bytes)
+    not (header.section_header_size bytes == 64)
+    || leaves_file (length bytes) (header.section_table_offset bytes) (64 * header.section_count bytes)
 
 -- 14. a section that has bytes in the file (it is neither SHT_NULL nor SHT_NOBITS) leaves the file
 abbrev pub is_out_of_file : ℕ → Section → Bool
@@ -91,9 +93,11 @@ is_odd_code s = is_code_section s && not (is_even s.address)
 unfoldable pub has_odd_code : List ℕ → Bool
 has_odd_code bytes = list_any is_odd_code (sections bytes)
 
--- 17. two code sections share an address: the greater of their starts is below the lesser of their ends
+-- 17. two code sections share an address: the greater of their starts is below the lesser of their
+-- ends
 abbrev pub shares_address : Section → Section → Bool
-shares_address s t = nat_lt (max s.address t.address) (min (s.address + s.size) (t.address + t.size))
+shares_address s t =
+    nat_lt (max s.address t.address) (min (s.address + s.size) (t.address + t.size))
 
 -- some element and a later one stand in R
 abbrev pub any_pair : (Section → Section → Bool) → List Section → Bool
@@ -107,8 +111,8 @@ has_code_overlap bytes = any_pair shares_address (filter is_code_section (sectio
 unfoldable pub has_entry_outside_code : List ℕ → Bool
 has_entry_outside_code bytes = not (is_code bytes (header.entry bytes))
 
--- 19. there are two symbol tables, or one whose entries are no Elf64_Syms, or whose size is no multiple of theirs,
--- or whose sh_link is not the index of a string table
+-- 19. there are two symbol tables, or one whose entries are no Elf64_Syms, or whose size is no
+-- multiple of theirs, or whose sh_link is not the index of a string table
 abbrev pub is_bad_symbol_table : List ℕ → Section → Bool
 is_bad_symbol_table bytes table =
     not (table.entry_size == 24) || not (table.size % 24 == 0)
@@ -116,11 +120,14 @@ is_bad_symbol_table bytes table =
 
 unfoldable pub has_bad_symbol_table : List ℕ → Bool
 has_bad_symbol_table bytes =
-    nat_lt 1 (length (symbol_tables bytes)) || list_any (is_bad_symbol_table bytes) (symbol_tables bytes)
+    nat_lt 1 (length (symbol_tables bytes))
+    || list_any (is_bad_symbol_table bytes) (symbol_tables bytes)
 
--- 20. the name of a seed symbol begins past the end of the string table, or no zero byte ends it there
+-- 20. the name of a seed symbol begins past the end of the string table, or no zero byte ends it
+-- there
 abbrev pub is_bad_name : List ℕ → ℕ → Symbol → Bool
-is_bad_name strings size s = not (nat_lt s.name size) || not (list_any (λ b. b == 0) (drop s.name strings))
+is_bad_name strings size s =
+    not (nat_lt s.name size) || not (list_any (λ b. b == 0) (drop s.name strings))
 
 abbrev pub has_bad_name_in : List ℕ → Section → Bool
 has_bad_name_in bytes table =

@@ -33,7 +33,8 @@ has_fault bytes SymbolName = test.has_bad_symbol_name bytes
 -- the faults of an image, and those of its symbols, in order
 abbrev pub image_faults : List Fault
 image_faults =
-    TooLarge ∷ Short ∷ Magic ∷ Class ∷ Data ∷ Version ∷ Machine ∷ FileType ∷ HeaderSize ∷ ProgramTable ∷ Interp ∷ NoSections
+    TooLarge ∷ Short ∷ Magic ∷ Class ∷ Data ∷ Version ∷ Machine ∷ FileType ∷ HeaderSize
+    ∷ ProgramTable ∷ Interp ∷ NoSections
     ∷ SectionTable ∷ SectionRange ∷ SectionWrap ∷ CodeParity ∷ CodeOverlap ∷ Entry ∷ []
 
 abbrev pub symbol_faults : List Fault

@@ -16,7 +16,7 @@ data_encoding bytes = slice_index bytes 5
 abbrev pub ident_version : List ℕ → ℕ
 ident_version bytes = slice_index bytes 6
 
--- e_type: 2 is ET_EXEC
+-- e_type: 2 is ET_EXEC, 3 is ET_DYN
 abbrev pub file_type : List ℕ → ℕ
 file_type bytes = u16_at bytes 16
 
@@ -32,7 +32,8 @@ file_version bytes = u32_at bytes 20
 abbrev pub entry : List ℕ → ℕ
 entry bytes = u64_at bytes 24
 
--- e_phoff, e_phentsize, e_phnum: where the program header table stands, the size of a header, and their number
+-- e_phoff, e_phentsize, e_phnum: where the program header table stands, the size of a header, and
+-- their number
 abbrev pub program_table_offset : List ℕ → ℕ
 program_table_offset bytes = u64_at bytes 32
 
@@ -62,4 +63,5 @@ program_header_type bytes i = u32_at bytes (program_table_offset bytes + 56 * i)
 
 -- p_type of each program header, in table order
 unfoldable pub program_header_types : List ℕ → List ℕ
-program_header_types bytes = map (program_header_type bytes) (range_with_len 0 (program_header_count bytes))
+program_header_types bytes =
+    map (program_header_type bytes) (range_with_len 0 (program_header_count bytes))

@@ -7,10 +7,6 @@ pub mod Symbols
 pub mod Seeds
 pub mod FaultTests
 pub mod Faults
-pub mod Passes
-pub mod Spans
-pub mod Layout
-pub mod Found
-pub mod Image
 pub mod FaultNames
 pub mod Outcome
+pub mod Inner

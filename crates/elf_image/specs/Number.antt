@@ -1,5 +1,5 @@
--- Unsigned numbers of a file whose data encoding is ELFDATA2LSB: the least significant byte comes first
--- (System V ABI, "Data Encoding"). Past the end of the file a byte counts as zero.
+-- Unsigned numbers of a file whose data encoding is ELFDATA2LSB: the least significant byte comes
+-- first (System V ABI, "Data Encoding"). Past the end of the file a byte counts as zero.
 use Rattle.std.specs.Prelude.{ℕ, List, drop}
 use Rattle.byteorder.specs.Endian.{little_number}
 

@@ -5,7 +5,8 @@ use Rattle.elf_image.specs.declared.section.Section.{Section}
 use Rattle.elf_image.specs.Number.{u32_at, u64_at}
 use Rattle.elf_image.specs.Header.{section_table_offset, section_count}
 
--- the Elf64_Shdr at an offset of the file: sh_type, sh_flags, sh_addr, sh_offset, sh_size, sh_link and sh_entsize
+-- the Elf64_Shdr at an offset of the file: sh_type, sh_flags, sh_addr, sh_offset, sh_size, sh_link
+-- and sh_entsize
 abbrev pub section_header : List ℕ → ℕ → Section
 section_header bytes at = record {
   kind = u32_at bytes (at + 4);

@@ -13,7 +13,8 @@ use Rattle.elf_image.specs.Symbols.{symbol_table, seed_symbols, seed_symbols_in,
 -- a list of rising numbers with one more in its place, each once
 abbrev pub with_number : ℕ → List ℕ → List ℕ
 with_number a [] = a ∷ []
-with_number a (x ∷ xs) = if nat_lt a x then a ∷ x ∷ xs else (if a == x then x ∷ xs else x ∷ with_number a xs)
+with_number a (x ∷ xs) =
+    if nat_lt a x then a ∷ x ∷ xs else (if a == x then x ∷ xs else x ∷ with_number a xs)
 
 -- the numbers of a list, rising, each once
 abbrev pub rising : List ℕ → List ℕ
@@ -45,4 +46,5 @@ names_in bytes table a =
 
 -- the name of a seed: the least name that is not empty of the seed symbols at its address
 unfoldable pub seed_name : List ℕ → ℕ → Option (List ℕ)
-seed_name bytes a = option_and_then (λ table. least (filter has_bytes (names_in bytes table a))) (symbol_table bytes)
+seed_name bytes a =
+    option_and_then (λ table. least (filter has_bytes (names_in bytes table a))) (symbol_table bytes)

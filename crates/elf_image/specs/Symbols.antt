@@ -35,7 +35,8 @@ symbol_table bytes = find is_symbol_table (sections bytes)
 
 -- the symbols of a table, whose entries have 24 bytes each, from index 0 on
 abbrev pub symbols_in : List ℕ → Section → List Symbol
-symbols_in bytes table = map (λ i. symbol_at bytes (table.offset + 24 * i)) (range_with_len 0 (table.size / 24))
+symbols_in bytes table =
+    map (λ i. symbol_at bytes (table.offset + 24 * i)) (range_with_len 0 (table.size / 24))
 
 -- the bytes of a section that stand in the file
 abbrev pub section_bytes : List ℕ → Section → List ℕ
@@ -49,16 +50,23 @@ strings_of bytes table = section_bytes bytes (section bytes table.link)
 abbrev pub string_at : List ℕ → ℕ → List ℕ
 string_at strings at = take_while (λ b. not (b == 0)) (drop at strings)
 
--- the index of a code section: neither SHN_UNDEF nor reserved (SHN_LORESERVE is FF00 in hexadecimal)
+-- the index of a code section: neither SHN_UNDEF nor reserved (SHN_LORESERVE is FF00 in
+-- hexadecimal)
 abbrev pub is_code_section_index : List ℕ → ℕ → Bool
 is_code_section_index bytes i =
-    nat_lt 0 i && nat_lt i 0xFF00 && nat_lt i (section_count bytes) && is_code_section (section bytes i)
+    nat_lt 0 i
+    && nat_lt i 0xFF00
+    && nat_lt i (section_count bytes)
+    && is_code_section (section bytes i)
 
--- the symbol of a function (STT_FUNC, 2, in the low four bits of st_info) that stands at a code address
--- of the code section which it names
+-- the symbol of a function (STT_FUNC, 2, in the low four bits of st_info) that stands at a code
+-- address of the code section which it names
 unfoldable pub is_seed_symbol : List ℕ → Symbol → Bool
 is_seed_symbol bytes s =
-    s.info % 16 == 2 && is_code_section_index bytes s.section && is_even s.value && holds_bytes s.value 2 (section bytes s.section)
+    s.info % 16 == 2
+    && is_code_section_index bytes s.section
+    && is_even s.value
+    && holds_bytes s.value 2 (section bytes s.section)
 
 -- the seed symbols of a table, in its order
 unfoldable pub seed_symbols_in : List ℕ → Section → List Symbol

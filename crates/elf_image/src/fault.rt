@@ -7,7 +7,8 @@ ghost use Rattle.elf_image.specs.FaultNames.{fault_name};
 use std::alloc::{AllocError, AllocFailed};
 use thiserror::Error;
 
-/// What is wrong with a file. The first fault that holds, in the order of the variants, is the file's fault.
+/// What is wrong with a file. The first fault that holds, in the order of the variants, is the
+/// file's fault.
 #[derive(Clone, Copy, Debug, PartialEq, Eq)]
 pub enum Fault {
     /// The file has more than 67,108,864 bytes.
@@ -24,7 +25,7 @@ pub enum Fault {
     Version,
     /// `e_machine` is not `EM_RISCV`.
     Machine,
-    /// `e_type` is not `ET_EXEC`. Its name is `Type`.
+    /// `e_type` is neither `ET_EXEC` nor `ET_DYN`. Its name is `Type`.
     FileType,
     /// `e_ehsize` is not 64.
     HeaderSize,

@@ -1,9 +1,10 @@
-//! The ELF header and the program headers, judged (System V ABI, "ELF Header" and "Program Header").
+//! The ELF header and the program headers, judged (System V ABI, "ELF Header" and "Program
+//! Header").
 
 ghost use Rattle.std.specs.Prelude.{◌≡◌, ◌+◌, ◌*◌, ◌≤◌, ◌<◌, ◌++◌, length, not, false, None};
 ghost use Rattle.elf_image.specs.Header as header;
 ghost use Rattle.elf_image.specs.Faults.{has_fault, first_among};
-ghost use Rattle.elf_image.specs.Passes.{ident_faults, header_faults, table_faults};
+ghost use Rattle.elf_image.specs.Inner.Passes.{ident_faults, header_faults, table_faults};
 ghost use Rattle.elf_image.specs.FaultTests.{leaves_file};
 
 use crate::fault::Fault;
@@ -26,6 +27,9 @@ const EM_RISCV: u16 = 243;
 
 /// `ET_EXEC`.
 const ET_EXEC: u16 = 2;
+
+/// `ET_DYN`, the type of a position-independent executable too.
+const ET_DYN: u16 = 3;
 
 /// `PT_INTERP`.
 const PT_INTERP: u32 = 3;
@@ -74,7 +78,8 @@ pub(crate) fn header_fault(bytes: &[u8]) -> Option<Fault>
     if u16_at(bytes, 18) != EM_RISCV {
         return Some(Fault::Machine);
     }
-    if u16_at(bytes, 16) != ET_EXEC {
+    let file_type = u16_at(bytes, 16);
+    if file_type != ET_EXEC && file_type != ET_DYN {
         return Some(Fault::FileType);
     }
     if u16_at(bytes, 52) != HEADER_SIZE {

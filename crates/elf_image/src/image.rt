@@ -8,7 +8,7 @@ ghost use Rattle.elf_image.specs.ReadOnly.{is_read_only, data_section_of, data_w
 ghost use Rattle.elf_image.specs.FaultTests.{is_out_of_file};
 ghost use Rattle.elf_image.specs.Faults.{first_fault, first_image_fault, first_symbol_fault, IsImage};
 ghost use Rattle.elf_image.specs.Outcome.{IfMalformed};
-ghost use Rattle.elf_image.specs.Found.{IsFoundAt};
+ghost use Rattle.elf_image.specs.Inner.Found.{IsFoundAt};
 
 use crate::fault::ElfError;
 use crate::layout::{Layout, code_section, judge};
@@ -17,8 +17,8 @@ use crate::section::{Section, Span};
 use std::alloc::Global;
 use std::marker::Model;
 
-/// A file without any of the faults up to [`Fault::Entry`](crate::Fault::Entry). To a caller it is the list of the
-/// file's bytes.
+/// A file without any of the faults up to [`Fault::Entry`](crate::Fault::Entry). To a caller it is
+/// the list of the file's bytes.
 #[derive(Drop)]
 pub struct Image {
     bytes: Vec<u8>,
@@ -30,7 +30,7 @@ impl Model for Image {
 
     ghost Value = { List ℕ };
 
-    ghost use Rattle.elf_image.specs.Image.{IsPrepared};
+    ghost use Rattle.elf_image.specs.Inner.Image.{IsPrepared};
 
     ghost view = { λ a. a.bytes.items };
 
@@ -38,9 +38,9 @@ impl Model for Image {
 }
 
 impl Image {
-    /// Judges the bytes of a file, and keeps them. `Malformed` names the file's first fault, where that is one of
-    /// those up to [`Fault::Entry`](crate::Fault::Entry); faults of the symbols are not judged. After a refusal the
-    /// bytes are gone.
+    /// Judges the bytes of a file, and keeps them. `Malformed` names the file's first fault, where
+    /// that is one of those up to [`Fault::Entry`](crate::Fault::Entry); faults of the symbols are
+    /// not judged. After a refusal the bytes are gone.
     pub fn parse(alloc: Global, bytes: Vec<u8>) -> Result<Image, ElfError>
         ensures ok { IfOk result (λ image. image ≡ bytes.items) }
         ensures accepted { OnOk result (IsImage bytes.items) }
@@ -80,6 +80,7 @@ impl Image {
     }
 
     /// Whether `a` is a code address: an even address whose two bytes lie inside one code section.
+    /// It takes time logarithmic in the number of code sections, and so do the other reads of code.
     pub fn is_code(&self, a: u64) -> bool
         ensures value { result ≡ is_code self.now a }
         ensures in_memory { IsTrue result → a + 2 < 2 ^ 64 }
@@ -110,7 +111,8 @@ impl Image {
         Some(u16_at(&self.bytes, file_offset(&s, a)))
     }
 
-    /// The word at a code address; `None` where `a` is no code address or its four bytes leave its code section.
+    /// The word at a code address; `None` where `a` is no code address or its four bytes leave its
+    /// code section.
     pub fn word_at(&self, a: u64) -> Option<u32>
         ensures value { result ≡ word_at self.now a }
         ensures in_memory { OnSome result (a + 4 < 2 ^ 64) }
@@ -123,14 +125,16 @@ impl Image {
         }
     }
 
-    /// Whether the byte at `a` lies in a read-only section.
+    /// Whether the byte at `a` lies in a read-only section. It takes time logarithmic in the number
+    /// of those sections where no two of them share an address, and else looks through all.
     pub fn is_read_only(&self, a: u64) -> bool
         ensures { result ≡ is_read_only self.now a }
     {
         self.layout.read_only.find(a, 1).is_some()
     }
 
-    /// The word at `a` in the first read-only section, in table order, that has all four bytes; `None` where none has.
+    /// The word at `a` in the first read-only section, in table order, that has all four bytes;
+    /// `None` where none has. It takes the time of [`is_read_only`](Self::is_read_only).
     pub fn data_word(&self, a: u64) -> Option<u32>
         ensures value { result ≡ data_word self.now a }
         ensures in_memory { OnSome result (a + 4 < 2 ^ 64) }

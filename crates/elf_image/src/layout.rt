@@ -6,33 +6,34 @@ ghost use Rattle.elf_image.specs.Sections.{sections, is_code_section, is_read_on
 ghost use Rattle.elf_image.specs.Code.{is_even};
 ghost use Rattle.elf_image.specs.FaultTests.{any_pair, shares_address};
 ghost use Rattle.elf_image.specs.Faults.{first_among, first_fault, first_image_fault, IsImage};
-ghost use Rattle.elf_image.specs.Passes.{code_faults};
+ghost use Rattle.elf_image.specs.Inner.Passes.{code_faults};
 ghost use Rattle.elf_image.specs.Outcome.{IfMalformed};
-ghost use Rattle.elf_image.specs.Layout.{FindsAmong, IsLayoutOf};
+ghost use Rattle.elf_image.specs.Inner.Layout.{FindsAmong, IsLayoutOf};
 
+use crate::address_index::AddressIndex;
 use crate::fault::{ElfError, Fault};
 use crate::header::file_fault;
 use crate::number::u64_at;
 use crate::section::Section;
-use crate::spans::Spans;
 use crate::table::{read_sections, section_fault};
 use std::alloc::{AllocError, Global};
 
-/// All sections of a file in table order, and those of code and of read-only data to be searched by address.
+/// All sections of a file in table order, and those of code and of read-only data to be searched by
+/// address.
 #[derive(Drop)]
 pub(crate) struct Layout {
     pub(crate) sections: Vec<Section>,
-    pub(crate) code: Spans,
-    pub(crate) read_only: Spans,
+    pub(crate) code: AddressIndex,
+    pub(crate) read_only: AddressIndex,
 }
 
 /// The code sections that are not empty.
-fn code_spans(alloc: Global, sections: &[Section]) -> Result<Spans, AllocError>
-    ensures finds { IfOk result (λ spans. FindsAmong is_code_section spans.sections.items sections.now) }
+fn code_index(alloc: Global, sections: &[Section]) -> Result<AddressIndex, AllocError>
+    ensures finds { IfOk result (λ index. FindsAmong is_code_section index.sections.items sections.now) }
     ensures overlap { IfOk result
-        (λ spans. not spans.is_laid_out ≡ any_pair shares_address (filter is_code_section sections.now)) }
+        (λ index. not index.is_laid_out ≡ any_pair shares_address (filter is_code_section sections.now)) }
 {
-    Spans::new(alloc, filled_code(alloc, sections)?)
+    AddressIndex::new(alloc, filled_code(alloc, sections)?)
 }
 
 /// The code sections that are not empty, in table order.
@@ -47,10 +48,10 @@ fn filled_code(alloc: Global, sections: &[Section]) -> Result<Vec<Section>, Allo
 }
 
 /// The read-only sections that are not empty.
-fn read_only_spans(alloc: Global, sections: &[Section]) -> Result<Spans, AllocError>
-    ensures { IfOk result (λ spans. FindsAmong is_read_only_section spans.sections.items sections.now) }
+fn read_only_index(alloc: Global, sections: &[Section]) -> Result<AddressIndex, AllocError>
+    ensures { IfOk result (λ index. FindsAmong is_read_only_section index.sections.items sections.now) }
 {
-    Spans::new(alloc, filled_read_only(alloc, sections)?)
+    AddressIndex::new(alloc, filled_read_only(alloc, sections)?)
 }
 
 /// The read-only sections that are not empty, in table order.
@@ -65,7 +66,7 @@ fn filled_read_only(alloc: Global, sections: &[Section]) -> Result<Vec<Section>,
 }
 
 /// The section that has both bytes of the halfword at `a`, where `a` is even.
-pub(crate) fn code_section(code: &Spans, a: u64) -> Option<Section>
+pub(crate) fn code_section(code: &AddressIndex, a: u64) -> Option<Section>
     ensures { result ≡ (if is_even a then find (holds_bytes a 2) code.now.sections.items else None) }
 {
     if a % 2 == 0 { code.find(a, 2) } else { None }
@@ -73,7 +74,7 @@ pub(crate) fn code_section(code: &Spans, a: u64) -> Option<Section>
 
 /// The first fault of all code sections. `code` are those of the file.
 #[tactic(auto, unfolding(crate::specs::Faults::first_among, crate::specs::Faults::has_fault, crate::specs::FaultTests::has_code_overlap, crate::specs::FaultTests::has_entry_outside_code, crate::specs::Code::code_section_of))]
-fn code_fault(bytes: &[u8], code: &Spans) -> Option<Fault>
+fn code_fault(bytes: &[u8], code: &AddressIndex) -> Option<Fault>
     requires header { 64 ≤ length bytes.now }
     requires finds { FindsAmong is_code_section code.now.sections.items (sections bytes.now) }
     requires overlap { not code.now.is_laid_out ≡ any_pair shares_address (filter is_code_section (sections bytes.now)) }
@@ -102,11 +103,11 @@ pub(crate) fn judge(alloc: Global, bytes: &[u8]) -> Result<Layout, ElfError>
     if let Some(fault) = section_fault(bytes, &sections) {
         return Err(ElfError::Malformed(fault));
     }
-    let code = code_spans(alloc, &sections)?;
+    let code = code_index(alloc, &sections)?;
     if let Some(fault) = code_fault(bytes, &code) {
         return Err(ElfError::Malformed(fault));
     }
-    let read_only = read_only_spans(alloc, &sections)?;
+    let read_only = read_only_index(alloc, &sections)?;
     Ok(Layout {
         sections,
         code,

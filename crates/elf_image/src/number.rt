@@ -1,31 +1,32 @@
-//! Little-endian numbers at an offset of a file (System V ABI, "Data Encoding").
+//! Little-endian numbers at an offset of a file, or of a part of one (System V ABI, "Data
+//! Encoding").
 
 ghost use Rattle.std.specs.Prelude.{◌≡◌, ◌+◌, ◌≤◌, length};
 ghost use Rattle.elf_image.specs.Number.{u16_at, u32_at, u64_at};
 
 use byteorder::{ByteOrder, LittleEndian};
 
-/// The number in the two bytes from `at` on.
+/// The number in the two bytes from `at` on, which lie in `bytes`.
 #[tactic(auto, unfolding(crate::specs::Number::u16_at))]
-pub(crate) fn u16_at(bytes: &[u8], at: usize) -> u16
+pub fn u16_at(bytes: &[u8], at: usize) -> u16
     requires { at + 2 ≤ length bytes.now }
     ensures { result ≡ u16_at bytes.now at }
 {
     LittleEndian::read_u16(&bytes[at..])
 }
 
-/// The number in the four bytes from `at` on.
+/// The number in the four bytes from `at` on, which lie in `bytes`.
 #[tactic(auto, unfolding(crate::specs::Number::u32_at))]
-pub(crate) fn u32_at(bytes: &[u8], at: usize) -> u32
+pub fn u32_at(bytes: &[u8], at: usize) -> u32
     requires { at + 4 ≤ length bytes.now }
     ensures { result ≡ u32_at bytes.now at }
 {
     LittleEndian::read_u32(&bytes[at..])
 }
 
-/// The number in the eight bytes from `at` on.
+/// The number in the eight bytes from `at` on, which lie in `bytes`.
 #[tactic(auto, unfolding(crate::specs::Number::u64_at))]
-pub(crate) fn u64_at(bytes: &[u8], at: usize) -> u64
+pub fn u64_at(bytes: &[u8], at: usize) -> u64
     requires { at + 8 ≤ length bytes.now }
     ensures { result ≡ u64_at bytes.now at }
 {

@@ -14,11 +14,12 @@ const SHF_ALLOC: u64 = 2;
 
 const SHF_EXECINSTR: u64 = 4;
 
-/// The header of one section, an `Elf64_Shdr` (System V ABI, "Section Header"), without the fields that nothing
-/// here reads.
+/// The header of one section, an `Elf64_Shdr` (System V ABI, "Section Header"), without the fields
+/// that nothing here reads.
 #[derive(Clone, Copy, Debug, PartialEq, Eq)]
 pub struct Section {
-    /// The section's type, `sh_type`: 0 is `SHT_NULL`, 1 `SHT_PROGBITS`, 2 `SHT_SYMTAB`, 3 `SHT_STRTAB`, 8 `SHT_NOBITS`.
+    /// The section's type, `sh_type`: 0 is `SHT_NULL`, 1 `SHT_PROGBITS`, 2 `SHT_SYMTAB`, 3
+    /// `SHT_STRTAB`, 8 `SHT_NOBITS`.
     pub kind: u32,
     /// `sh_flags`: bit 0 is `SHF_WRITE`, bit 1 `SHF_ALLOC`, bit 2 `SHF_EXECINSTR`.
     pub flags: u64,
@@ -45,7 +46,8 @@ impl Section {
         self.kind == SHT_PROGBITS && self.is_allocated() && self.flags & SHF_EXECINSTR != 0
     }
 
-    /// Whether its bytes are in memory and never written: `SHT_PROGBITS` with `SHF_ALLOC` and without `SHF_WRITE`.
+    /// Whether its bytes are in memory and never written: `SHT_PROGBITS` with `SHF_ALLOC` and
+    /// without `SHF_WRITE`.
     pub fn is_read_only(&self) -> bool
         ensures { result ≡ is_read_only_section self.now }
     {

@@ -5,7 +5,7 @@ ghost use Rattle.elf_image.specs.Sections.{section_header, section, sections};
 ghost use Rattle.elf_image.specs.Header.{section_count};
 ghost use Rattle.elf_image.specs.Faults.{has_fault, first_among};
 ghost use Rattle.elf_image.specs.FaultTests.{is_out_of_file, is_wrapping, is_odd_code};
-ghost use Rattle.elf_image.specs.Passes.{section_faults};
+ghost use Rattle.elf_image.specs.Inner.Passes.{section_faults};
 
 use crate::fault::Fault;
 use crate::header::{SECTION_HEADER_SIZE, leaves_file};

@@ -4,8 +4,9 @@ use super::*;
 use std::alloc::{AllocError, Global};
 use std::test::Fail;
 
-/// One instruction, `ret` (00008067 in hexadecimal), at the address 10000: a header, the code, and the headers of a
-/// null section, the code (header at 136) and an empty read-only section at 20000 (header at 200).
+/// One instruction, `ret` (00008067 in hexadecimal), at the address 10000: a header, the code, and
+/// the headers of a null section, the code (header at 136) and an empty read-only section at 20000
+/// (header at 200).
 const RET_FILE: [u8; 264] = [
     0x7F, 0x45, 0x4C, 0x46, 2, 1, 1, 0, 0, 0, 0, 0, 0, 0, 0, 0, 2, 0, 0xF3, 0, 1, 0, 0, 0, 0, 0, 1,
     0, 0, 0, 0, 0, 0, 0, 0, 0, 0, 0, 0, 0, 0x48, 0, 0, 0, 0, 0, 0, 0, 0, 0, 0, 0, 0x40, 0, 0, 0, 0,
@@ -79,19 +80,24 @@ fn sizes(rt: HostRuntime) -> Result<(), Fail> {
 /// Each fault alone.
 #[test]
 fn single_faults(rt: HostRuntime) -> Result<(), Fail> {
-    let cases: [(&[(usize, u8)], &str); 20] = [
+    let cases: [(&[(usize, u8)], &str); 22] = [
         (&[(3, 0x47)], "Magic"),
         (&[(4, 1)], "Class"),
         (&[(5, 2)], "Data"),
         (&[(6, 0)], "Version"),
         (&[(20, 2)], "Version"),
         (&[(18, 0x3E)], "Machine"),
-        (&[(16, 3)], "Type"),
+        (&[(16, 1)], "Type"),
+        (&[(16, 3)], "-"),
         (&[(52, 0x3F)], "HeaderSize"),
         (&[(56, 1)], "ProgramTable"),
         (&[(32, 0x48), (54, 0x38), (56, 1)], "-"),
         (&[(32, 0xD1), (54, 0x38), (56, 1)], "ProgramTable"),
         (&[(32, 0x48), (54, 0x38), (56, 1), (72, 3)], "Interp"),
+        (
+            &[(16, 3), (32, 0x48), (54, 0x38), (56, 1), (72, 3)],
+            "Interp",
+        ),
         (&[(60, 0)], "NoSections"),
         (&[(58, 0x3F)], "SectionTable"),
         (&[(168, 0xFF)], "SectionRange"),
@@ -119,8 +125,8 @@ fn neighbouring_faults(rt: HostRuntime) -> Result<(), Fail> {
         (&[(4, 1), (5, 2)], "Class"),
         (&[(5, 2), (6, 0)], "Data"),
         (&[(6, 0), (18, 0x3E)], "Version"),
-        (&[(18, 0x3E), (16, 3)], "Machine"),
-        (&[(16, 3), (52, 0x3F)], "Type"),
+        (&[(18, 0x3E), (16, 1)], "Machine"),
+        (&[(16, 1), (52, 0x3F)], "Type"),
         (&[(52, 0x3F), (56, 1)], "HeaderSize"),
         (&[(32, 0xD0), (54, 0x37), (56, 1), (208, 3)], "ProgramTable"),
         (
@@ -249,7 +255,8 @@ fn tables(rt: HostRuntime) -> Result<(), Fail> {
     Ok(())
 }
 
-/// Read-only sections that share addresses: the first in table order that has all four bytes counts.
+/// Read-only sections that share addresses: the first in table order that has all four bytes
+/// counts.
 #[test]
 fn overlapping_data(rt: HostRuntime) -> Result<(), Fail> {
     let alloc = rt.alloc();

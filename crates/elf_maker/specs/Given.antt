@@ -12,7 +12,8 @@ abbrev pub is_in_code : Parts → ℕ → ℕ → Bool
 is_in_code parts a n = nat_le parts.code_at a && nat_le (a + n) (parts.code_at + length parts.code)
 
 abbrev pub is_in_rodata : Parts → ℕ → ℕ → Bool
-is_in_rodata parts a n = nat_le parts.rodata_at a && nat_le (a + n) (parts.rodata_at + length parts.rodata)
+is_in_rodata parts a n =
+    nat_le parts.rodata_at a && nat_le (a + n) (parts.rodata_at + length parts.rodata)
 
 -- a is a code address
 abbrev pub is_code_given : Parts → ℕ → Bool
@@ -20,7 +21,8 @@ is_code_given parts a = is_even a && is_in_code parts a 2
 
 -- the halfword of the code at a code address
 abbrev pub half_given : Parts → ℕ → Option ℕ
-half_given parts a = if is_code_given parts a then Some (u16_at parts.code (a - parts.code_at)) else None
+half_given parts a =
+    if is_code_given parts a then Some (u16_at parts.code (a - parts.code_at)) else None
 
 -- the word of the code at a code address, where the code has all four bytes
 abbrev pub word_given : Parts → ℕ → Option ℕ
@@ -39,4 +41,5 @@ data_given parts a =
 
 -- a is the entry, or the address of a symbol and a code address
 abbrev pub IsSeedGiven : Parts → ℕ → Type 0
-IsSeedGiven parts a = (a ≡ parts.entry) ⊎ (IsTrue (is_code_given parts a) × Any (λ s. s.address ≡ a) parts.symbols)
+IsSeedGiven parts a =
+    (a ≡ parts.entry) ⊎ (IsTrue (is_code_given parts a) × Any (λ s. s.address ≡ a) parts.symbols)

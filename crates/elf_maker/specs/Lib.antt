@@ -2,8 +2,8 @@ pub mod Fields
 pub mod Header
 pub mod Symbols
 pub mod Sections
-pub mod Layout
 pub mod MadeFile
 pub mod Fit
 pub mod Given
 pub mod MadeOf
+pub mod Inner

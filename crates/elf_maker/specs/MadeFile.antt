@@ -6,7 +6,8 @@ use Rattle.elf_maker.specs.Header.{file_header}
 use Rattle.elf_maker.specs.Symbols.{symbol_table, string_table}
 use Rattle.elf_maker.specs.Sections.{headers_place, section_headers, section_table}
 
--- the file: the ELF header, the code, the read-only data, the symbol table, the string table and the section headers
+-- the file: the ELF header, the code, the read-only data, the symbol table, the string table and
+-- the section headers
 unfoldable pub made_file : Parts → List ℕ
 made_file parts =
     file_header parts.entry (headers_place parts) (length (section_headers parts))

@@ -6,8 +6,8 @@ use Rattle.elf_maker.specs.declared.section.SectionHeader.{SectionHeader}
 use Rattle.elf_maker.specs.Fields.{words, xwords, padded}
 use Rattle.elf_maker.specs.Symbols.{has_symbols, symbol_table, string_table}
 
--- An Elf64_Shdr without a name. In order: sh_name, sh_type; sh_flags, sh_addr, sh_offset, sh_size; sh_link, sh_info;
--- sh_addralign, sh_entsize.
+-- An Elf64_Shdr without a name. In order: sh_name, sh_type; sh_flags, sh_addr, sh_offset, sh_size;
+-- sh_link, sh_info; sh_addralign, sh_entsize.
 unfoldable pub section_bytes : SectionHeader → List ℕ
 section_bytes s =
     words (0 ∷ s.kind ∷ [])
@@ -15,8 +15,8 @@ section_bytes s =
     ++ words (s.link ∷ s.info ∷ [])
     ++ xwords (s.alignment ∷ s.entry_size ∷ [])
 
--- where the parts stand in the file: behind the header of 64 bytes the code, the read-only data, the symbol table,
--- the string table and the section headers
+-- where the parts stand in the file: behind the header of 64 bytes the code, the read-only data,
+-- the symbol table, the string table and the section headers
 abbrev pub code_place : ℕ
 code_place = 64
 
@@ -74,7 +74,8 @@ rodata_header parts = record {
   entry_size = 0;
 }
 
--- section 3, the symbol table (SHT_SYMTAB), whose strings are section 4 and whose first global symbol is symbol 1
+-- section 3, the symbol table (SHT_SYMTAB), whose strings are section 4 and whose first global
+-- symbol is symbol 1
 abbrev pub symbols_header : Parts → SectionHeader
 symbols_header parts = record {
   kind = 2;
@@ -104,7 +105,8 @@ strings_header parts = record {
 
 -- the headers of all sections
 unfoldable pub symbol_headers : Parts → List SectionHeader
-symbol_headers parts = if has_symbols parts.symbols then symbols_header parts ∷ strings_header parts ∷ [] else []
+symbol_headers parts =
+    if has_symbols parts.symbols then symbols_header parts ∷ strings_header parts ∷ [] else []
 
 unfoldable pub section_headers : Parts → List SectionHeader
 section_headers parts = null_header ∷ code_header parts ∷ rodata_header parts ∷ symbol_headers parts

@@ -1,4 +1,5 @@
-//! Fields of a file at its end: little-endian numbers (System V ABI, "Data Encoding"), and bytes that are padded.
+//! Fields of a file at its end: little-endian numbers (System V ABI, "Data Encoding"), and bytes
+//! that are padded.
 
 ghost use Rattle.std.specs.Prelude.{◌≡◌, ◌++◌, ◌≤◌, length, replicate, OnOk};
 ghost use Rattle.elf_maker.specs.Fields.{halves, words, xwords, padding, padded};

@@ -20,7 +20,8 @@ pub(crate) const FILE_HEADER_SIZE: u16 = 64;
 
 const SECTION_HEADER_SIZE: u16 = 64;
 
-/// Appends the header of an executable that starts at `entry` and has `count` section headers at the offset `table`.
+/// Appends the header of an executable that starts at `entry` and has `count` section headers at
+/// the offset `table`.
 #[tactic(auto, using(std::proofs::lemmas::List::append_assoc), unfolding(crate::specs::Header::file_header))]
 pub(crate) fn put_file_header(
     file: &mut Vec<u8>,

@@ -9,16 +9,16 @@ use crate::fields::put_padded;
 use crate::header::put_file_header;
 use crate::memory::Memory;
 use crate::parts::Parts;
-use crate::section::{layout_of, put_section_table, section_count};
+use crate::section::{file_size, layout_of, put_section_table, section_count};
 use crate::symbol::{string_table, symbol_table};
 use std::alloc::Global;
 
-/// Makes an executable of one code section, one section of read-only data and, where there are symbols, a symbol table
-/// and its string table (System V ABI, ELF-64). Behind the ELF header stand the code, the read-only data, the symbol
-/// table, the string table and the section headers, with zero bytes behind code, read-only data and strings up to a
-/// multiple of eight.
+/// Makes an executable of one code section, one section of read-only data and, where there are
+/// symbols, a symbol table and its string table (System V ABI, ELF-64). Behind the ELF header stand
+/// the code, the read-only data, the symbol table, the string table and the section headers, with
+/// zero bytes behind code, read-only data and strings up to a multiple of eight.
 ///
-/// The only error is that memory ran out.
+/// Room for the file is taken once. The only error is that memory ran out.
 #[tactic(auto, unfolding(crate::specs::MadeFile::made_file))]
 pub fn make_elf(alloc: Global, parts: &Parts) -> Result<Vec<u8>, Memory>
     requires some_code { 0 < length parts.now.code }
@@ -38,8 +38,9 @@ pub fn make_elf(alloc: Global, parts: &Parts) -> Result<Vec<u8>, Memory>
     let symbols = symbol_table(alloc, parts.symbols.as_slice())?;
     let strings = string_table(alloc, parts.symbols.as_slice())?;
     let layout = layout_of(parts, &symbols, &strings);
-    let mut file = Vec::new(alloc);
-    put_file_header(&mut file, parts.entry, layout.headers, section_count(parts))?;
+    let count = section_count(parts);
+    let mut file = Vec::with_capacity(alloc, file_size(&layout, count))?;
+    put_file_header(&mut file, parts.entry, layout.headers, count)?;
     put_padded(&mut file, parts.code.as_slice())?;
     put_padded(&mut file, parts.rodata.as_slice())?;
     file.extend_from_slice(&symbols)?;

@@ -1,10 +1,10 @@
 //! Section headers, and where the parts of a file stand.
 
-ghost use Rattle.std.specs.Prelude.{◌≡◌, ◌++◌, ◌≤◌, length, OnOk};
+ghost use Rattle.std.specs.Prelude.{◌≡◌, ◌+◌, ◌*◌, ◌++◌, ◌≤◌, length, OnOk};
 ghost use Rattle.elf_maker.specs.Symbols.{symbol_table, string_table};
 ghost use Rattle.std.specs.List.{flat_map};
 ghost use Rattle.elf_maker.specs.Sections.{section_bytes, code_header, rodata_header, symbols_header, strings_header, symbol_headers, section_headers, headers_place, section_table};
-ghost use Rattle.elf_maker.specs.Layout.{layout_of};
+ghost use Rattle.elf_maker.specs.Inner.Layout.{layout_of};
 
 use crate::fields::{padded_len, put_words, put_xwords};
 use crate::memory::Memory;
@@ -116,7 +116,8 @@ fn rodata_header(parts: &Parts, layout: &Layout) -> SectionHeader
     }
 }
 
-/// The header of section 3, the symbol table: its strings are section 4, and symbol 1 is its first that is not local.
+/// The header of section 3, the symbol table: its strings are section 4, and symbol 1 is its first
+/// that is not local.
 fn symbols_header(parts: &Parts, layout: &Layout) -> SectionHeader
     requires { layout.now ≡ layout_of parts.now }
     ensures { result ≡ symbols_header parts.now }
@@ -157,6 +158,14 @@ pub(crate) fn section_count(parts: &Parts) -> u16
     } else {
         5
     }
+}
+
+/// The length of a file with this layout and so many section headers, which stand at its end.
+pub(crate) fn file_size(layout: &Layout, count: u16) -> usize
+    requires { layout.now.headers ≤ 67108864 }
+    ensures { result ≡ layout.now.headers + 64 * count }
+{
+    layout.headers as usize + 64 * count as usize
 }
 
 /// Appends a section header.

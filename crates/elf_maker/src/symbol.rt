@@ -15,7 +15,8 @@ const GLOBAL_FUNCTION: u8 = 0x12;
 /// `st_shndx`: the index of the code section.
 const CODE_SECTION: u16 = 1;
 
-/// Appends the symbol of a function at an address, whose name begins at the offset `name` of the string table.
+/// Appends the symbol of a function at an address, whose name begins at the offset `name` of the
+/// string table.
 #[tactic(auto, using(std::proofs::lemmas::List::append_assoc), unfolding(crate::specs::Symbols::symbol_entry))]
 fn put_symbol(table: &mut Vec<u8>, name: u32, address: u64) -> Result<(), Memory>
     ensures { OnOk result (table.new.items ≡ table.old.items ++ symbol_entry name address) }

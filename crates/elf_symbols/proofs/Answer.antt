@@ -15,9 +15,9 @@ use Rattle.elf_image.specs.Symbols.{Symbol, seed_symbols}
 use Rattle.elf_image.specs.Seeds.{rising, seeds, seed_name}
 use Rattle.elf_symbols.specs.declared.seed.Seed.{Seed}
 use Rattle.elf_symbols.specs.Seeds.{addresses_of, name_in, LiesIn}
-use Rattle.elf_symbols.specs.Symbols.{IsSeedOf, strings_in}
-use Rattle.elf_symbols.specs.Names.{IsLeastName}
-use Rattle.elf_symbols.specs.Merged.{AreMerged}
+use Rattle.elf_symbols.specs.Inner.Symbols.{IsSeedOf, strings_in}
+use Rattle.elf_symbols.specs.Inner.Names.{IsLeastName}
+use Rattle.elf_symbols.specs.Inner.Merged.{AreMerged}
 use Rattle.elf_symbols.proofs.Members.{Contains-here, Contains-later, Contains-cons_cases, Contains-from_map}
 use Rattle.elf_symbols.proofs.Rising.{ascends-from_increasing, ascends-same, rising-ascends, rising-keeps, rising-adds_none}
 use Rattle.elf_symbols.proofs.LeastName.{least-same, least-unique}

@@ -9,8 +9,8 @@ use Rattle.std.proofs.lemmas.Cmp.{nat_list_cmp_total, tied_itself}
 use Rattle.std.proofs.lemmas.Option.{IfSome_then}
 use Rattle.elf_image.specs.Seeds.{lesser}
 use Rattle.elf_symbols.specs.declared.seed.Seed.{Seed}
-use Rattle.elf_symbols.specs.Seeds.{text_of}
-use Rattle.elf_symbols.specs.Names.{lesser_name, IsNoLess, IsLeastName}
+use Rattle.elf_symbols.specs.Inner.Names.{text_of}
+use Rattle.elf_symbols.specs.Inner.Names.{lesser_name, IsNoLess, IsLeastName}
 
 -- t is less than s
 abbrev less : List ℕ → List ℕ → Bool

@@ -1,4 +1,4 @@
-mod Examples
+mod Worked
 pub mod Parts
 pub mod Strings
 pub mod Members

@@ -10,9 +10,10 @@ use Rattle.std.proofs.lemmas.List.Elements.{All-contains, All-push, All-pop, All
 use Rattle.elf_image.specs.declared.section.Span.{Span}
 use Rattle.elf_image.specs.ReadOnly.{span_bytes}
 use Rattle.elf_symbols.specs.declared.seed.Seed.{Seed}
-use Rattle.elf_symbols.specs.Seeds.{addresses_of, name_in, text_of, LiesIn}
-use Rattle.elf_symbols.specs.Names.{lesser_name, IsLeastName}
-use Rattle.elf_symbols.specs.Merged.{AreMerged, EndsElsewhere}
+use Rattle.elf_symbols.specs.Seeds.{addresses_of, name_in, LiesIn}
+use Rattle.elf_symbols.specs.Inner.Names.{text_of}
+use Rattle.elf_symbols.specs.Inner.Names.{lesser_name, IsLeastName}
+use Rattle.elf_symbols.specs.Inner.Merged.{AreMerged, EndsElsewhere}
 use Rattle.elf_symbols.proofs.Members.{no-member, Contains-here, Contains-later, Contains-cons_cases, Contains-from_map}
 use Rattle.elf_symbols.proofs.Rising.{Ascends, ascends-from_increasing, increasing-from_ascends}
 use Rattle.elf_symbols.proofs.LeastName.{least-none, least-here, least-there}

@@ -11,9 +11,10 @@ use Rattle.elf_image.specs.ReadOnly.{span_bytes}
 use Rattle.elf_image.specs.Symbols.{Symbol, symbol_table, seed_symbols, seed_symbols_in, strings_of, string_at}
 use Rattle.elf_image.specs.Seeds.{lesser, least, has_bytes, names_in, seed_name}
 use Rattle.elf_symbols.specs.declared.seed.Seed.{Seed}
-use Rattle.elf_symbols.specs.Seeds.{addresses_of, text_of, LiesIn}
-use Rattle.elf_symbols.specs.Symbols.{as_name, IsSeedOf, strings_in}
-use Rattle.elf_symbols.specs.Names.{lesser_name, IsLeastName}
+use Rattle.elf_symbols.specs.Seeds.{addresses_of, LiesIn}
+use Rattle.elf_symbols.specs.Inner.Names.{text_of}
+use Rattle.elf_symbols.specs.Inner.Symbols.{as_name, IsSeedOf, strings_in}
+use Rattle.elf_symbols.specs.Inner.Names.{lesser_name, IsLeastName}
 use Rattle.elf_symbols.proofs.Members.{no-member, Contains-here, Contains-later, Contains-cons_cases}
 use Rattle.elf_symbols.proofs.LeastName.{lesser-none, lesser_name-comm, least-none, least-here, least-there}
 

@@ -10,7 +10,7 @@ use Rattle.elf_image.specs.Symbols.{Symbol, symbol_at, section_bytes, strings_of
 use Rattle.elf_image.specs.FaultTests.{is_bad_name, has_bad_name_in}
 use Rattle.elf_image.proofs.Ranges.{any-none, any-at}
 use Rattle.elf_symbols.specs.declared.seed.Seed.{Seed}
-use Rattle.elf_symbols.specs.Symbols.{IsSeedOf}
+use Rattle.elf_symbols.specs.Inner.Symbols.{IsSeedOf}
 
 -- the symbol at an index of a table
 abbrev pub nth : List ℕ → Section → ℕ → Symbol

@@ -9,8 +9,8 @@ use Rattle.elf_image.specs.declared.section.Section.{Section}
 use Rattle.elf_image.specs.FaultTests.{is_bad_name}
 use Rattle.elf_image.specs.Symbols.{Symbol, section_bytes, string_at}
 use Rattle.elf_image.specs.Seeds.{has_bytes}
-use Rattle.elf_symbols.specs.Tables.{IsInFile}
-use Rattle.elf_symbols.specs.Symbols.{as_name}
+use Rattle.elf_symbols.specs.Inner.Tables.{IsInFile}
+use Rattle.elf_symbols.specs.Inner.Symbols.{as_name}
 use Rattle.elf_symbols.proofs.Parts.{bytes_of_part}
 
 abbrev pub is_zero : ℕ → Bool

@@ -15,7 +15,7 @@ use Rattle.elf_image.specs.declared.fault.ElfError.{ElfError}
 use Rattle.elf_image.specs.declared.fault.ElfError.TheVariants.{Malformed, Memory}
 use Rattle.elf_image.specs.Outcome.{IfMalformed}
 use Rattle.elf_symbols.specs.declared.table.SymbolTable.{SymbolTable as Tables}
-use Rattle.elf_symbols.specs.Tables.{IsTableOf}
+use Rattle.elf_symbols.specs.Inner.Tables.{IsTableOf}
 use Rattle.elf_image.specs.FaultTests.{is_bad_symbol_table, has_bad_symbol_table, has_bad_name_in, has_bad_symbol_name}
 use Rattle.elf_image.specs.Faults.{has_fault, first_among, first_symbol_fault, first_fault, IsImage}
 use Rattle.elf_image.proofs.FirstFault.{first-from_symbols}

@@ -1,6 +1,2 @@
 pub mod Seeds
-pub mod Index
-pub mod Tables
-pub mod Symbols
-pub mod Names
-pub mod Merged
+pub mod Inner

@@ -1,8 +1,8 @@
-//! The seeds of an accepted file: its entry and the functions that its symbol table names (System V ABI, ELF-64).
+//! The seeds of an accepted file: its entry and the functions that its symbol table names (System V
+//! ABI, ELF-64).
 #![tactic(auto)]
 
 mod merge;
-mod number;
 mod read;
 mod seed;
 mod symbol;

@@ -5,9 +5,10 @@ ghost use Rattle.std.specs.List.Sorted.{IsNonDecreasingBy, IsPermutation};
 ghost use Rattle.std.specs.Option.{option_map};
 ghost use Rattle.elf_image.specs.ReadOnly.{span_bytes};
 ghost use Rattle.elf_image.specs.Seeds.{lesser};
-ghost use Rattle.elf_symbols.specs.Seeds.{LiesIn, text_of};
-ghost use Rattle.elf_symbols.specs.Names.{lesser_name};
-ghost use Rattle.elf_symbols.specs.Merged.{AreMerged, EndsElsewhere, AddsSeed};
+ghost use Rattle.elf_symbols.specs.Seeds.{LiesIn};
+ghost use Rattle.elf_symbols.specs.Inner.Names.{text_of};
+ghost use Rattle.elf_symbols.specs.Inner.Names.{lesser_name};
+ghost use Rattle.elf_symbols.specs.Inner.Merged.{AreMerged, EndsElsewhere, AddsSeed};
 
 use crate::seed::Seed;
 use elf_image::{Image, Span};

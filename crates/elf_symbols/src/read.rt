@@ -12,7 +12,7 @@ ghost use Rattle.elf_image.specs.Seeds as spec;
 ghost use Rattle.elf_image.specs.Faults.{first_fault, first_symbol_fault};
 ghost use Rattle.elf_image.specs.Outcome.{IfMalformed};
 ghost use Rattle.elf_symbols.specs.Seeds.{addresses_of, name_in, LiesIn};
-ghost use Rattle.elf_symbols.specs.Symbols.{IsSeedOf, strings_in};
+ghost use Rattle.elf_symbols.specs.Inner.Symbols.{IsSeedOf, strings_in};
 
 use crate::merge::{by_address, merged};
 use crate::seed::{Seed, Seeds};
@@ -21,12 +21,13 @@ use crate::table::symbol_table;
 use elf_image::{ElfError, Image};
 use std::alloc::Global;
 
-/// Reads the seeds of a file: its entry, and the values of the `STT_FUNC` symbols that stand at a code address of
-/// the code section which they name (System V ABI, "Symbol Table"). The name of a seed is the least that is not
-/// empty, by the order of bytes, of those symbols at its address. Other symbols are passed over.
+/// Reads the seeds of a file: its entry, and the values of the `STT_FUNC` symbols that stand at a
+/// code address of the code section which they name (System V ABI, "Symbol Table"). The name of a
+/// seed is the least that is not empty, by the order of bytes, of those symbols at its address.
+/// Other symbols are passed over.
 ///
-/// `Malformed` names the file's first fault, [`Fault::SymbolTable`](elf_image::Fault::SymbolTable) or
-/// [`Fault::SymbolName`](elf_image::Fault::SymbolName); `Memory` says that memory ran out.
+/// `Malformed` names the file's first fault, [`Fault::SymbolTable`](elf_image::Fault::SymbolTable)
+/// or [`Fault::SymbolName`](elf_image::Fault::SymbolName); `Memory` says that memory ran out.
 pub fn seeds(alloc: Global, image: &Image) -> Result<Seeds, ElfError>
     ensures accepted { OnOk result (first_fault image.now ≡ None) }
     ensures addresses { IfOk result (λ s. addresses_of s ≡ spec.seeds image.now) }

@@ -17,8 +17,8 @@ pub struct Seed {
     pub name: Option<Span>,
 }
 
-/// The addresses from which the control flow of a file is followed, rising, each once, and their names. To a caller
-/// it is the list of its seeds.
+/// The addresses from which the control flow of a file is followed, rising, each once, and their
+/// names. To a caller it is the list of its seeds.
 #[derive(Drop)]
 pub struct Seeds {
     seeds: Vec<Seed>,
@@ -31,7 +31,7 @@ impl Model for Seeds {
 
     ghost Value = { List Seed };
 
-    ghost use Rattle.elf_symbols.specs.Index.{IsIndexed};
+    ghost use Rattle.elf_symbols.specs.Inner.Index.{IsIndexed};
 
     ghost view = { λ s. s.seeds.items };
 
@@ -56,7 +56,8 @@ impl Seeds {
         &self.addresses
     }
 
-    /// The place of the name of the seed at `a` in the file; `None` exactly where `a` is no seed or has no name.
+    /// The place of the name of the seed at `a` in the file; `None` exactly where `a` is no seed or
+    /// has no name.
     pub fn name_of(&self, a: u64) -> Option<Span>
         ensures { result ≡ name_in self.now a }
     {

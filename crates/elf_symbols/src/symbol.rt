@@ -6,13 +6,12 @@ ghost use Rattle.elf_image.specs.Sections.{section};
 ghost use Rattle.elf_image.specs.Symbols as spec;
 ghost use Rattle.elf_image.specs.FaultTests.{is_bad_name, has_bad_name_in};
 ghost use Rattle.elf_image.specs.Outcome.{IfMalformed};
-ghost use Rattle.elf_symbols.specs.Tables.{IsInFile, IsTableOf};
-ghost use Rattle.elf_symbols.specs.Symbols.{symbol_of, IsSeedOf};
+ghost use Rattle.elf_symbols.specs.Inner.Tables.{IsInFile, IsTableOf};
+ghost use Rattle.elf_symbols.specs.Inner.Symbols.{symbol_of, IsSeedOf};
 
-use crate::number::{u16_at, u32_at, u64_at};
 use crate::seed::Seed;
 use crate::table::{SYMBOL_SIZE, SymbolTable};
-use elf_image::{ElfError, Fault, Image, Section, Span};
+use elf_image::{ElfError, Fault, Image, Section, Span, u16_at, u32_at, u64_at};
 use std::alloc::Global;
 
 /// `STT_FUNC`, in the low four bits of `st_info`.
@@ -94,7 +93,8 @@ fn is_seed_symbol(image: &Image, s: &Symbol) -> bool
     }
 }
 
-/// The length of the string that begins at an offset of a string table; `None` where no zero byte ends it there.
+/// The length of the string that begins at an offset of a string table; `None` where no zero byte
+/// ends it there.
 fn string_len(strings: &[u8], at: u32) -> Option<usize>
     ensures { result ≡ position (λ b. b == 0) (drop at strings.now) }
 {

@@ -1,11 +1,12 @@
-//! The symbol table of a file and its string table (System V ABI, "Symbol Table" and "String Table").
+//! The symbol table of a file and its string table (System V ABI, "Symbol Table" and "String
+//! Table").
 
 ghost use Rattle.std.specs.Prelude.{◌≡◌, ◌≤◌, length, false, is_none, IfOk, IfErr, IfSome, OnOk, Some};
 ghost use Rattle.elf_image.specs.Sections.{section};
 ghost use Rattle.elf_image.specs.Symbols as spec;
 ghost use Rattle.elf_image.specs.FaultTests.{is_bad_symbol_table};
 ghost use Rattle.elf_image.specs.Faults.{has_fault, first_symbol_fault};
-ghost use Rattle.elf_symbols.specs.Tables.{IsInFile, IsTable};
+ghost use Rattle.elf_symbols.specs.Inner.Tables.{IsInFile, IsTable};
 
 use elf_image::{Fault, Image, Section};
 

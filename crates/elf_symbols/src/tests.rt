@@ -21,8 +21,9 @@ const RET_FILE: [u8; 264] = [
     0, 0, 0, 0, 4, 0, 0, 0, 0, 0, 0, 0, 0, 0, 0, 0, 0, 0, 0, 0,
 ];
 
-/// Two instructions, `ret`, at 10000 and 10004 (hexadecimal), and functions `b` and `a` at 10000, `odd` at 10001 and
-/// `c` at 10004. The symbols begin at the offset 72, their names at 192, and the section headers at 208.
+/// Two instructions, `ret`, at 10000 and 10004 (hexadecimal), and functions `b` and `a` at 10000,
+/// `odd` at 10001 and `c` at 10004. The symbols begin at the offset 72, their names at 192, and the
+/// section headers at 208.
 const NAMES_FILE: [u8; 528] = [
     0x7F, 0x45, 0x4C, 0x46, 2, 1, 1, 0, 0, 0, 0, 0, 0, 0, 0, 0, 2, 0, 0xF3, 0, 1, 0, 0, 0, 0, 0, 1,
     0, 0, 0, 0, 0, 0, 0, 0, 0, 0, 0, 0, 0, 0xD0, 0, 0, 0, 0, 0, 0, 0, 0, 0, 0, 0, 0x40, 0, 0, 0, 0,
@@ -44,7 +45,8 @@ const NAMES_FILE: [u8; 528] = [
     0, 0, 0, 0, 0, 0, 0, 0, 0, 0, 0, 0, 0, 0,
 ];
 
-/// `li` and `ret` at 10000 and 10004 (hexadecimal), and a function `two` at 10002, whose name stands at the offset 121.
+/// `li` and `ret` at 10000 and 10004 (hexadecimal), and a function `two` at 10002, whose name
+/// stands at the offset 121.
 const TWO_FILE: [u8; 448] = [
     0x7F, 0x45, 0x4C, 0x46, 2, 1, 1, 0, 0, 0, 0, 0, 0, 0, 0, 0, 2, 0, 0xF3, 0, 1, 0, 0, 0, 0, 0, 1,
     0, 0, 0, 0, 0, 0, 0, 0, 0, 0, 0, 0, 0, 0x80, 0, 0, 0, 0, 0, 0, 0, 0, 0, 0, 0, 0x40, 0, 0, 0, 0,

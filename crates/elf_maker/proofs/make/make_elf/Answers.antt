@@ -13,6 +13,9 @@ symbol_table-requires c =
 pub layout_of-layout-requires-clause-fits : goal.layout_of-layout-requires-clause-fits
 layout_of-layout-requires-clause-fits c = omega (arith, headers_within c.args.parts.now, c.requires.small)
 
+pub file_size-requires : goal.file_size-requires
+file_size-requires c = rw c.layout_of-layout.ensures (omega (arith, headers_within c.args.parts.now, c.requires.small))
+
 -- the file is the made file, and that is made of the parts
 pub returns-clause-made : goal.returns-clause-made
 unfolding made_file

@@ -1,6 +1,6 @@
 use Rattle.std.proofs.Common.{◌<◌, length, take, sym, subst, arith}
 use Rattle.std.proofs.lemmas.List.{take_more}
-use Rattle.elf_symbols.specs.Merged.{AreMerged}
+use Rattle.elf_symbols.specs.Inner.Merged.{AreMerged}
 use Rattle.elf_symbols.proofs.MergeStep.{before-at}
 use Rattle.elf_symbols.proofs.merge.merged.Goals as goal
 

@@ -8,7 +8,7 @@ use Rattle.elf_image.specs.ReadOnly.{span_bytes}
 use Rattle.elf_image.proofs.FirstFault.{first-from_symbols}
 use Rattle.elf_symbols.specs.declared.seed.Seed.{Seed}
 use Rattle.elf_symbols.specs.Seeds.{addresses_of, name_in, LiesIn}
-use Rattle.elf_symbols.specs.Merged.{AreMerged}
+use Rattle.elf_symbols.specs.Inner.Merged.{AreMerged}
 use Rattle.elf_symbols.proofs.Tables.{bad-of_image}
 use Rattle.elf_symbols.proofs.Names.{found-lies}
 use Rattle.elf_symbols.proofs.Answer.{name_in-lies, all-addresses, has-entry, has-some, all-names, all-code}

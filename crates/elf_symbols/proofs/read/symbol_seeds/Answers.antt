@@ -1,5 +1,5 @@
 use Rattle.std.proofs.Common.{subst}
-use Rattle.elf_symbols.specs.Tables.{IsTable}
+use Rattle.elf_symbols.specs.Inner.Tables.{IsTable}
 use Rattle.elf_symbols.proofs.Tables.{good-of_table, bad-of_table, first-none, names-no_table}
 use Rattle.elf_symbols.proofs.read.symbol_seeds.Goals as goal
 

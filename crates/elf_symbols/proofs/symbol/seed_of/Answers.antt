@@ -1,5 +1,5 @@
 use Rattle.std.proofs.Common.{◌∙◌, Some, None, is_none, refl, ap, arith}
-use Rattle.elf_symbols.specs.Symbols.{symbol_of}
+use Rattle.elf_symbols.specs.Inner.Symbols.{symbol_of}
 use Rattle.elf_symbols.proofs.Strings.{bad_from_search, string-found, a_name}
 use Rattle.elf_symbols.proofs.symbol.seed_of.Goals as goal
 

@@ -1,7 +1,7 @@
 use Rattle.std.proofs.Common.{◌+◌, ◌∙◌, refl, sym, ap, subst, arith}
 use Rattle.elf_image.specs.Symbols as spec
 use Rattle.elf_image.specs.FaultTests.{is_bad_name}
-use Rattle.elf_symbols.specs.Symbols.{symbol_of}
+use Rattle.elf_symbols.specs.Inner.Symbols.{symbol_of}
 use Rattle.elf_symbols.proofs.Pass.{Passed, read-skip, read-push, all-good, one-bad, all-each}
 use Rattle.elf_symbols.proofs.symbol.table_seeds.Goals as goal
 use Rattle.elf_symbols.proofs.symbol.table_seeds.Goals.{then-is_seed_symbol+in-Some+in_ok-push, else-is_seed_symbol}

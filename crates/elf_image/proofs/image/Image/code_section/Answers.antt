@@ -2,7 +2,7 @@ use Rattle.std.proofs.Common.{◌∙◌, sym, ap, subst, cond, None, lit<}
 use Rattle.std.specs.Prelude.{IfSome}
 use Rattle.elf_image.specs.Code.{code_section_of, is_even}
 use Rattle.elf_image.specs.Faults.{IsImage}
-use Rattle.elf_image.specs.Found.{IsFoundAt}
+use Rattle.elf_image.specs.Inner.Found.{IsFoundAt}
 use Rattle.elf_image.proofs.Accepted.{code_section-found}
 use Rattle.elf_image.proofs.image.Image.code_section.Goals as goal
 

@@ -1,7 +1,7 @@
 use Rattle.std.proofs.Common.{◌∙◌, sym, ap, subst, lit<}
 use Rattle.std.specs.Prelude.{IfSome}
 use Rattle.elf_image.specs.ReadOnly.{data_section_of}
-use Rattle.elf_image.specs.Found.{IsFoundAt}
+use Rattle.elf_image.specs.Inner.Found.{IsFoundAt}
 use Rattle.elf_image.proofs.Accepted.{data_section-found}
 use Rattle.elf_image.proofs.image.Image.data_section.Goals as goal
 

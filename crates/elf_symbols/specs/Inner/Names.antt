@@ -1,12 +1,17 @@
 -- The least of some names. No public clause names what stands here.
 use Rattle.std.specs.Prelude.{◌≡◌, ℕ, false, List, IfSome}
+use Rattle.std.specs.Option.{option_map}
 use Rattle.std.specs.declared.option.Option.{Option}
 use Rattle.std.specs.declared.option.Option.TheVariants.{None, Some}
 use Rattle.std.specs.Ordering.{nat_cmp, is_lt}
 use Rattle.std.specs.Cmp.Lexicographic.{slice_cmp}
+use Rattle.elf_image.specs.ReadOnly.{span_bytes}
 use Rattle.elf_image.specs.Seeds.{lesser}
 use Rattle.elf_symbols.specs.declared.seed.Seed.{Seed}
-use Rattle.elf_symbols.specs.Seeds.{text_of}
+
+-- the bytes that a seed's name has in the file
+abbrev pub text_of : List ℕ → Seed → Option (List ℕ)
+text_of bytes s = option_map (span_bytes bytes) s.name
 
 -- the lesser of two names, where there are two
 abbrev pub lesser_name : Option (List ℕ) → Option (List ℕ) → Option (List ℕ)

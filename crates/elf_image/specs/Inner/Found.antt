@@ -2,7 +2,8 @@
 use Rattle.std.specs.Prelude.{List, ℕ, ◌+◌, ◌^◌, ◌<◌, ◌≤◌, length}
 use Rattle.elf_image.specs.declared.section.Section.{Section}
 
--- a section of an accepted file that has the n bytes at a, all of them in the file and below the end of memory
+-- a section of an accepted file that has the n bytes at a, all of them in the file and below the
+-- end of memory
 pub record IsFoundAt (bytes : List ℕ) (a n : ℕ) (s : Section) : Type 0 where
   pub start : s.address ≤ a
   pub end : a + n ≤ s.address + s.size

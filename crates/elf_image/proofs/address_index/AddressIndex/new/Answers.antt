@@ -1,7 +1,7 @@
 use Rattle.std.proofs.lemmas.Bool.Decides.{when_true, when_false}
-use Rattle.elf_image.specs.Spans.{IsLaidOut, HasOverhang}
+use Rattle.elf_image.specs.Inner.AddressIndex.{IsLaidOut, HasOverhang}
 use Rattle.elf_image.proofs.LaidOut.{prepared-finds, prepared-apart, prepared-overlap}
-use Rattle.elf_image.proofs.spans.Spans.new.Goals as goal
+use Rattle.elf_image.proofs.address_index.AddressIndex.new.Goals as goal
 
 pub returns-then-is_laid_out-clause-same : goal.returns-then-is_laid_out-clause-same
 returns-then-is_laid_out-clause-same c =

@@ -11,7 +11,9 @@ IsLaidOut xs = AllAdjacentBelow (λ s t. s.address + s.size ≤ t.address) xs (l
 -- a section ends past the address where the next begins
 abbrev pub HasOverhang : List Section → Type 0
 HasOverhang xs =
-    (k : ℕ) × (k + 1 < length xs) × ((d : Section) → (slice_index_or xs (k + 1) d).address < (slice_index_or xs k d).address + (slice_index_or xs k d).size)
+    (k : ℕ)
+    × (k + 1 < length xs)
+    × ((d : Section) → (slice_index_or xs (k + 1) d).address < (slice_index_or xs k d).address + (slice_index_or xs k d).size)
 
 -- the first of xs and the first of ys that have some bytes are the same section
 abbrev pub FindsSame : List Section → List Section → Type 0

@@ -3,8 +3,8 @@ use Rattle.std.specs.List.{IsAllAdjacentAnswer}
 use Rattle.std.proofs.lemmas.Bool.{leb-true, leb-false}
 use Rattle.std.proofs.lemmas.List.Sorted.{answers_always}
 use Rattle.elf_image.specs.declared.section.Section.{Section}
-use Rattle.elf_image.specs.Spans.{IsLaidOut, HasOverhang}
-use Rattle.elf_image.proofs.spans.is_laid_out.Goals as goal
+use Rattle.elf_image.specs.Inner.AddressIndex.{IsLaidOut, HasOverhang}
+use Rattle.elf_image.proofs.address_index.is_laid_out.Goals as goal
 
 -- the test of a pair
 fits : Section → Section → Bool

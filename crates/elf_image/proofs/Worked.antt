@@ -88,9 +88,14 @@ machine : Gives ((18, 0x3E) ∷ []) (Some Machine)
 unfolding Gives
 machine = refl
 
-file_type : Gives ((16, 3) ∷ []) (Some FileType)
+file_type : Gives ((16, 1) ∷ []) (Some FileType)
 unfolding Gives
 file_type = refl
+
+-- a position-independent file
+position_independent : Gives ((16, 3) ∷ []) None
+unfolding Gives
+position_independent = refl
 
 header_size : Gives ((52, 0x3F) ∷ []) (Some HeaderSize)
 unfolding Gives
@@ -108,6 +113,10 @@ with_program_header = refl
 interpreter : Gives ((32, 0x48) ∷ (54, 0x38) ∷ (56, 1) ∷ (72, 3) ∷ []) (Some Interp)
 unfolding Gives
 interpreter = refl
+
+interpreter_of_position_independent : Gives ((16, 3) ∷ (32, 0x48) ∷ (54, 0x38) ∷ (56, 1) ∷ (72, 3) ∷ []) (Some Interp)
+unfolding Gives
+interpreter_of_position_independent = refl
 
 no_sections : Gives ((60, 0) ∷ []) (Some NoSections)
 unfolding Gives

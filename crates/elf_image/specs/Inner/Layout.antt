@@ -7,7 +7,8 @@ use Rattle.elf_image.specs.Sections.{sections, is_code_section, is_read_only_sec
 
 -- what is found in xs is the first of all sections that pass the test and have the bytes
 abbrev pub FindsAmong : (Section → Bool) → List Section → List Section → Type 0
-FindsAmong test xs all = (a n : ℕ) → 0 < n → find (holds_bytes a n) xs ≡ find (λ s. test s && holds_bytes a n s) all
+FindsAmong test xs all =
+    (a n : ℕ) → 0 < n → find (holds_bytes a n) xs ≡ find (λ s. test s && holds_bytes a n s) all
 
 -- the sections of a file, and those of code and of read-only data, to be searched
 pub record IsLayoutOf (bytes : List ℕ) (layout : Layout) : Type 0 where

@@ -1,7 +1,7 @@
 use Rattle.std.proofs.Common.{rules}
 use Rattle.std.proofs.lemmas.List.Sorted.{IsNonDecreasingBy-from_sort_by_key}
 use Rattle.elf_image.specs.declared.section.Section.{Section}
-use Rattle.elf_image.proofs.spans.sorted_by_address.Goals as goal
+use Rattle.elf_image.proofs.address_index.sorted_by_address.Goals as goal
 
 pub returns-clause-sorted : goal.returns-clause-sorted
 returns-clause-sorted c = IsNonDecreasingBy-from_sort_by_key (λ (s : Section). s.address) _ c.sort_unstable_by_key.ensures.sorted (λ a r q k. search rules)

@@ -9,7 +9,8 @@ use Rattle.elf_image.specs.Seeds.{seeds, seed_name}
 use Rattle.elf_image.specs.FaultTests.{has_bad_symbol_table, has_bad_symbol_name}
 use Rattle.elf_image.specs.Faults.{has_fault, first_among, first_symbol_fault}
 use Rattle.elf_symbols.specs.declared.seed.Seed.{Seed}
-use Rattle.elf_symbols.specs.Seeds.{addresses_of, name_in, text_of}
+use Rattle.elf_symbols.specs.Seeds.{addresses_of, name_in}
+use Rattle.elf_symbols.specs.Inner.Names.{text_of}
 
 -- everything that seeds and the faults of symbols compute with
 all_of_it : Unit {0}

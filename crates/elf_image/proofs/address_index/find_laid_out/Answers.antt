@@ -4,8 +4,8 @@ use Rattle.std.proofs.lemmas.Bool.{cond-true, cond-false}
 use Rattle.std.proofs.lemmas.List.Sorted.{IsPartitionPoint-from_clause, IsPartitionedBy-leb}
 use Rattle.elf_image.specs.declared.section.Section.{Section}
 use Rattle.elf_image.proofs.LaidOut.{find-none_before, find-last_before, laid_out-rises}
-use Rattle.elf_image.proofs.spans.find_laid_out.Goals as goal
-use Rattle.elf_image.proofs.spans.find_laid_out.Goals.{After-partition_point-after}
+use Rattle.elf_image.proofs.address_index.find_laid_out.Goals as goal
+use Rattle.elf_image.proofs.address_index.find_laid_out.Goals.{After-partition_point-after}
 
 -- the search splits the sections into those that begin at the address or before, and the others
 split : (c : After-partition_point-after) → IsPartitionPoint (λ (s : Section). leb s.address c.args.a ≡ true) (λ s. leb s.address c.args.a ≡ false) c.args.sections.now c.partition_point-after.result

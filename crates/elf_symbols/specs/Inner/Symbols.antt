@@ -7,7 +7,8 @@ use Rattle.elf_image.specs.Seeds.{has_bytes}
 use Rattle.elf_image.specs.Symbols as spec
 use Rattle.elf_symbols.specs.declared.symbol.Symbol.{Symbol}
 use Rattle.elf_symbols.specs.declared.seed.Seed.{Seed}
-use Rattle.elf_symbols.specs.Seeds.{text_of, LiesIn}
+use Rattle.elf_symbols.specs.Seeds.{LiesIn}
+use Rattle.elf_symbols.specs.Inner.Names.{text_of}
 
 -- a symbol that was read, as the one that the file has
 abbrev pub symbol_of : Symbol → spec.Symbol

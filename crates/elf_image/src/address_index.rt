@@ -1,4 +1,5 @@
-//! Sections kept to be searched by address in logarithmic time.
+//! Sections kept to be searched by address: in logarithmic time where none shares an address with
+//! another, and else one after the other.
 
 ghost use Rattle.std.specs.Prelude.{◌≡◌, ℕ, ◌+◌, ◌<◌, ◌≤◌, nat_le, not, length, IsTrue, IfOk};
 ghost use Rattle.std.specs.Bool.{MatchBool};
@@ -6,35 +7,35 @@ ghost use Rattle.std.specs.List.{find, All};
 ghost use Rattle.std.specs.List.Sorted.{IsPermutation, IsNonDecreasingBy};
 ghost use Rattle.elf_image.specs.Sections.{holds_bytes};
 ghost use Rattle.elf_image.specs.FaultTests.{any_pair, shares_address};
-ghost use Rattle.elf_image.specs.Spans.{IsLaidOut, HasOverhang, FindsSame};
+ghost use Rattle.elf_image.specs.Inner.AddressIndex.{IsLaidOut, HasOverhang, FindsSame};
 
 use crate::section::Section;
 use std::alloc::{AllocError, Global};
 
-/// Sections that are not empty: in the order of their addresses where none shares an address with another, which
-/// is how a linker makes them, and else in the order in which they were given.
+/// Sections that are not empty: in the order of their addresses where none shares an address with
+/// another, which is how a linker makes them, and else in the order in which they were given.
 #[derive(Drop)]
-pub(crate) struct Spans {
+pub(crate) struct AddressIndex {
     sections: Vec<Section>,
     is_laid_out: bool,
     ghost laid_out: { IsTrue is_laid_out → IsLaidOut sections.items },
 }
 
-impl Spans {
+impl AddressIndex {
     /// Prepares the sections.
-    pub(crate) fn new(alloc: Global, sections: Vec<Section>) -> Result<Spans, AllocError>
+    pub(crate) fn new(alloc: Global, sections: Vec<Section>) -> Result<AddressIndex, AllocError>
         requires { All (λ s. 0 < s.size) sections.items }
-        ensures same { IfOk result (λ spans. FindsSame spans.sections.items sections.items) }
-        ensures overlap { IfOk result (λ spans. not spans.is_laid_out ≡ any_pair shares_address sections.items) }
+        ensures same { IfOk result (λ index. FindsSame index.sections.items sections.items) }
+        ensures overlap { IfOk result (λ index. not index.is_laid_out ≡ any_pair shares_address sections.items) }
     {
         let sorted = sorted_by_address(alloc, &sections)?;
         if is_laid_out(&sorted) {
-            return Ok(Spans {
+            return Ok(AddressIndex {
                 sections: sorted,
                 is_laid_out: true,
             });
         }
-        Ok(Spans {
+        Ok(AddressIndex {
             sections,
             is_laid_out: false,
         })
@@ -47,7 +48,8 @@ impl Spans {
         !self.is_laid_out
     }
 
-    /// The first section that has the `n` bytes from address `a` on.
+    /// The first section that has the `n` bytes from address `a` on. It takes logarithmic time
+    /// where no two sections share an address, and else looks through all.
     pub(crate) fn find(&self, a: u64, n: u64) -> Option<Section>
         requires { 0 < n }
         ensures { result ≡ find (holds_bytes a n) self.now.sections.items }

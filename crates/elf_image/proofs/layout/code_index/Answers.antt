@@ -3,7 +3,7 @@ use Rattle.std.proofs.lemmas.Result.{IfOk-weaker}
 use Rattle.elf_image.specs.Sections.{is_code_section}
 use Rattle.elf_image.specs.FaultTests.{any_pair, shares_address}
 use Rattle.elf_image.proofs.Filled.{filled-kept, finds_among, pairs-filled}
-use Rattle.elf_image.proofs.layout.code_spans.Goals as goal
+use Rattle.elf_image.proofs.layout.code_index.Goals as goal
 
 pub new-requires : goal.new-requires
 new-requires c = filled-kept is_code_section c.args.sections.now c.in_ok-filled_code.field-0.items c.in_ok-filled_code.ensures
@@ -11,11 +11,11 @@ new-requires c = filled-kept is_code_section c.args.sections.now c.in_ok-filled_
 pub returns-clause-finds : goal.returns-clause-finds
 returns-clause-finds c =
     IfOk-weaker c.new.result _ _
-    (λ spans same. finds_among is_code_section spans.sections.items c.args.sections.now c.in_ok-filled_code.field-0.items c.in_ok-filled_code.ensures same)
+    (λ index same. finds_among is_code_section index.sections.items c.args.sections.now c.in_ok-filled_code.field-0.items c.in_ok-filled_code.ensures same)
     c.new.ensures.same
 
 pub returns-clause-overlap : goal.returns-clause-overlap
 returns-clause-overlap c =
     IfOk-weaker c.new.result _ _
-    (λ spans overlap. overlap ∙ ap (any_pair shares_address) c.in_ok-filled_code.ensures ∙ pairs-filled is_code_section c.args.sections.now)
+    (λ index overlap. overlap ∙ ap (any_pair shares_address) c.in_ok-filled_code.ensures ∙ pairs-filled is_code_section c.args.sections.now)
     c.new.ensures.overlap

@@ -1,0 +1,2 @@
+-- Words of private functions and of proofs. No public clause names what stands here.
+pub mod Layout
