@@ -1,5 +1,6 @@
 //! Instructions as an assembler writes them: base mnemonics, registers by number, offsets of jumps
-//! and branches relative to the instruction.
+//! and branches relative to the instruction. Of a float instruction it is the integer registers that it
+//! writes and reads, x0 for none.
 
 use rv_decode::{
     AtomicKind, BranchKind, CsrKind, ImmKind, ImmWKind, Insn, LoadKind, RegKind, RegWKind,
@@ -69,6 +70,7 @@ impl fmt::Display for Assembly {
             Insn::FenceI => f.write_str("fence.i"),
             Insn::Ecall => f.write_str("ecall"),
             Insn::Ebreak => f.write_str("ebreak"),
+            Insn::Float { writes, reads } => write!(f, "float x{writes},x{reads}"),
             Insn::Csr {
                 kind,
                 rd,

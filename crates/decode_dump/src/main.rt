@@ -10,6 +10,7 @@ mod assembly;
 use assembly::Assembly;
 use byteorder::{ByteOrder, LittleEndian};
 use rv_decode::decode;
+use rv_float::decode_float;
 use std::io::{self, BufWriter, Read, Write};
 
 fn main(rt: HostRuntime) -> io::Result<()> {
@@ -18,7 +19,7 @@ fn main(rt: HostRuntime) -> io::Result<()> {
     let mut out = BufWriter::new(rt.alloc(), io::writer(&rt))?;
     for word in bytes.chunks_exact(4) {
         let word = LittleEndian::read_u32(word);
-        match decode(word) {
+        match decode(word).or(decode_float(word)) {
             Some(insn) => writeln!(out, "{word:08x} {}", Assembly(insn))?,
             None => writeln!(out, "{word:08x} none")?,
         }

@@ -8,7 +8,7 @@ use Rattle.rv_flow.specs.declared.raw.RawFlow.{RawFlow}
 use Rattle.rv_flow.specs.declared.raw.RawFlow.TheVariants as raw
 use Rattle.rv_flow.specs.Placed.{placed_at}
 use Rattle.rv_flow.specs.Raw.{address_plus, is_unimp, jalr_flow, pair_target, insn_flow, raw_flow_by, raw_flow_at}
-use Rattle.jump_table.specs.Operands.{IsRegister, HasOperands}
+use Rattle.jump_table.specs.Inner.Operands.{IsRegister, HasOperands}
 use Rattle.jump_table.proofs.Placed.{placed-operands}
 
 -- What a flow says of a register that it jumps through.

@@ -6,4 +6,4 @@ mod Nearest
 mod Jumps
 pub mod Targets
 mod Listed
-pub mod Examples
+mod Worked

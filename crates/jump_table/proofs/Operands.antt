@@ -1,13 +1,15 @@
 -- The operands of an instruction that a word means are within their fields.
 use Rattle.std.proofs.Common.{ℕ, suc, ◌-◌, ◌<◌, Bool, true, false, List, [], ◌∷◌, ◌++◌, Option, Some, None, arith}
 use Rattle.std.specs.Prelude.{IfSome, nat_lt, pos, negsuc, ◌-ℤ◌}
-use Rattle.std.specs.Option.{option_and_then}
+use Rattle.std.specs.Option.{option_and_then, option_or}
 use Rattle.std.proofs.lemmas.Bool.{cond_both}
 use Rattle.std.proofs.lemmas.Bool.Decides.{nat_tests}
 use Rattle.rv_decode.specs.Fields as fields
 use Rattle.rv_decode.specs.Table.{Row, holds, first_meaning, instruction, rows, upper_rows, jump_rows, branch_rows, load_rows, store_rows, imm_rows, imm_w_rows, reg_rows, reg_w_rows, atomic_rows_of, atomic_rows, fence_rows, system_rows}
 use Rattle.rv_decode.specs.declared.instructions.Insn.{Insn}
-use Rattle.jump_table.specs.Operands.{IsImmediate, HasOperands}
+use Rattle.rv_float.specs.Table as float
+use Rattle.rv_flow.specs.Placed.{word_insn}
+use Rattle.jump_table.specs.Inner.Operands.{IsImmediate, HasOperands}
 
 -- What each row of a list means has a property.
 abbrev AllMean : (Insn → Type 0) → List Row → Type 0
@@ -129,3 +131,48 @@ operands_fit w = first-all HasOperands rows all_rows w
 pub operands_fit_there : (word : Option ℕ) → IfSome (option_and_then instruction word) HasOperands
 operands_fit_there None = tt
 operands_fit_there (Some w) = operands_fit w
+
+-- The same of the float table, whose instructions write rd or no integer register.
+zero_fits : (w : ℕ) → 0 < 32
+zero_fits w = omega arith
+
+abbrev AllMeanFloat : List float.Row → Type 0
+AllMeanFloat [] = Unit {0}
+AllMeanFloat (r ∷ rs) = ((w : ℕ) → HasOperands (r.meaning w)) × AllMeanFloat rs
+
+float-append : (rs ss : List float.Row) → AllMeanFloat rs → AllMeanFloat ss → AllMeanFloat (rs ++ ss)
+float-append [] ss h k = k
+float-append (r ∷ rs) ss h k = (h.0, float-append rs ss h.1 k)
+
+first-float : (rs : List float.Row) → AllMeanFloat rs → (w : ℕ) → IfSome (float.first_meaning rs w) HasOperands
+first-float [] h w = tt
+first-float (r ∷ rs) h w =
+    cond_both (r.holds w) (Some (r.meaning w)) (float.first_meaning rs w) (λ o. IfSome o HasOperands) (λ _. h.0 w) (λ _. first-float rs h.1 w)
+
+float_memory : AllMeanFloat float.memory_rows
+unfolding float.memory_rows
+float_memory = (zero_fits, (zero_fits, tt))
+
+float_fused : AllMeanFloat float.fused_rows
+unfolding float.fused_rows
+float_fused = (zero_fits, (zero_fits, (zero_fits, (zero_fits, tt))))
+
+float_operations : AllMeanFloat float.operation_rows
+unfolding float.operation_rows
+float_operations =
+    (zero_fits, (zero_fits, (zero_fits, (zero_fits, (zero_fits, (zero_fits, (rd_fits, (rd_fits, (rd_fits, (zero_fits, (zero_fits, tt)))))))))))
+
+pub float_operands_fit : (w : ℕ) → IfSome (float.float_instruction w) HasOperands
+unfolding float.float_instruction float.float_rows
+float_operands_fit w =
+    first-float (float.memory_rows ++ float.fused_rows ++ float.operation_rows)
+    (float-append _ _ (float-append _ _ float_memory float_fused) float_operations) w
+
+either_fits : (first second : Option Insn) → IfSome first HasOperands → IfSome second HasOperands → IfSome (option_or first second) HasOperands
+either_fits None second h k = k
+either_fits (Some insn) second h k = h
+
+-- The instruction that a word is by either table, where there is a word.
+pub word_operands_fit : (word : Option ℕ) → IfSome (option_and_then word_insn word) HasOperands
+word_operands_fit None = tt
+word_operands_fit (Some w) = either_fits _ _ (operands_fit w) (float_operands_fit w)

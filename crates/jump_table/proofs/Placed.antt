@@ -8,15 +8,14 @@ use Rattle.elf_image.specs.Sections.{holds_bytes, file_offset}
 use Rattle.elf_image.specs.Number.{u32_at}
 use Rattle.elf_image.specs.Code.{is_code, code_section_of, half_at, word_at, word_in}
 use Rattle.elf_image.specs.Faults.{IsImage}
-use Rattle.elf_image.specs.Found.{IsFoundAt}
+use Rattle.elf_image.specs.Inner.Found.{IsFoundAt}
 use Rattle.elf_image.proofs.Accepted.{code_section-found}
 use Rattle.elf_image.proofs.LaidOut.{holds-true}
 use Rattle.rv_decode.specs.declared.instructions.Insn.{Insn}
-use Rattle.rvc_expand.specs.Table.{expansion}
 use Rattle.rv_flow.specs.declared.placed.Placed.{Placed}
-use Rattle.rv_flow.specs.Placed.{placed_at, placed_by, whole, whole_insn, bad}
-use Rattle.jump_table.specs.Operands.{HasOperands}
-use Rattle.jump_table.proofs.Operands.{operands_fit_there}
+use Rattle.rv_flow.specs.Placed.{placed_at, placed_by, whole, whole_insn, expanded, bad}
+use Rattle.jump_table.specs.Inner.Operands.{HasOperands}
+use Rattle.jump_table.proofs.Operands.{word_operands_fit}
 
 -- Two bytes, or four that are all there; and operands within their fields.
 pub record IsPlaced (bytes : List ℕ) (a : ℕ) (placed : Placed) : Type 0 where
@@ -30,14 +29,14 @@ module _ (bytes : List ℕ) (a : ℕ) where
 
   whole-placed : (word : Option ℕ) → word_at bytes a ≡ word → IsPlaced bytes a (whole (whole_insn word))
   whole-placed None is = record { size = inl refl; operands = tt }
-  whole-placed (Some w) is = whole-decoded w is (whole_insn (Some w)) (operands_fit_there (Some w))
+  whole-placed (Some w) is = whole-decoded w is (whole_insn (Some w)) (word_operands_fit (Some w))
 
   by-half : (half : Option ℕ) → IsPlaced bytes a (option_map_or (placed_by bytes a) half bad)
   by-half None = record { size = inl refl; operands = tt }
   by-half (Some half) =
       cond_both (half % 4 == 3) _ _ (IsPlaced bytes a)
       (λ _. cond_both (half / 4 % 8 == 7) _ _ (IsPlaced bytes a) (λ _. record { size = inl refl; operands = tt }) (λ _. whole-placed (word_at bytes a) refl))
-      (λ _. record { size = inl refl; operands = operands_fit_there (expansion half) })
+      (λ _. record { size = inl refl; operands = word_operands_fit (expanded half) })
 
   pub is-placed : IsPlaced bytes a (placed_at bytes a)
   is-placed = by-half (half_at bytes a)

@@ -7,7 +7,8 @@ use Rattle.std.proofs.lemmas.Option.{cond_some}
 use Rattle.rv_flow.specs.declared.placed.Placed.{Placed}
 use Rattle.rv_flow.specs.Placed.{placed_at}
 use Rattle.jump_table.specs.declared.values.Value.{Value}
-use Rattle.jump_table.specs.Section.{goes_on, straight_at, straight_run}
+use Rattle.jump_table.specs.Section.{goes_on, straight_run}
+use Rattle.jump_table.specs.Inner.Walk.{straight_at}
 use Rattle.jump_table.specs.Values.{Registers, after_placed, after_run}
 
 -- A straight run leads from a to j in n instructions, if at all, and behind it register r holds this.

@@ -16,7 +16,7 @@ use Rattle.rv_decode.specs.Table.{instruction}
 use Rattle.rvc_expand.specs.Table.{expansion}
 use Rattle.rv_flow.specs.Raw.{raw_flow_at}
 use Rattle.jump_table.specs.declared.table.Table.{Table}
-use Rattle.jump_table.specs.Operands.{IsImmediate, HasOperands}
+use Rattle.jump_table.specs.Inner.Operands.{IsImmediate, HasOperands}
 use Rattle.jump_table.specs.Section.{is_in_section, whole_insn_at}
 use Rattle.jump_table.specs.Bound as bound
 use Rattle.jump_table.specs.declared.bound.Comparison.{Comparison}

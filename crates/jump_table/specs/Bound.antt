@@ -16,11 +16,14 @@ use Rattle.jump_table.specs.Section.{is_in_section, whole_insn_at, straight_run}
 
 -- The two registers differ, and neither is x0.
 abbrev pub checked : Comparison → Option Comparison
-checked c = if not (c.index == c.limit) && not (c.index == 0) && not (c.limit == 0) then Some c else None
+checked c =
+    if not (c.index == c.limit) && not (c.index == 0) && not (c.limit == 0) then Some c else None
 
 abbrev pub comparison_by : BranchKind → ℕ → ℕ → Option Comparison
-comparison_by branches.Bltu rs1 rs2 = checked (record { index = rs2; limit = rs1; excludes_equal = false })
-comparison_by branches.Bgeu rs1 rs2 = checked (record { index = rs1; limit = rs2; excludes_equal = true })
+comparison_by branches.Bltu rs1 rs2 =
+    checked (record { index = rs2; limit = rs1; excludes_equal = false })
+comparison_by branches.Bgeu rs1 rs2 =
+    checked (record { index = rs1; limit = rs2; excludes_equal = true })
 comparison_by _ rs1 rs2 = None
 
 abbrev pub comparison_of : Insn → Option Comparison
@@ -52,8 +55,8 @@ abbrev pub first_of_two : Option ℤ → Option ℤ → Option ℤ
 first_of_two None second = second
 first_of_two (Some n) second = Some n
 
--- The constant that the instruction just before b sets r to: the 16-bit one two bytes before it, else
--- the 32-bit one four bytes before it.
+-- The constant that the instruction just before b sets r to: the 16-bit one two bytes before it,
+-- else the 32-bit one four bytes before it.
 abbrev pub constant_before : List ℕ → ℕ → ℕ → ℕ → Option ℤ
 constant_before bytes start b r =
     first_of_two
@@ -77,8 +80,8 @@ test_by bytes start j b c =
     then option_map (λ limit. record { at = b; index = c.index; bound = bound_by c.excludes_equal limit }) (constant_before bytes start b c.limit)
     else None
 
--- The bound test at b for the jump at j, where there is one: a comparison, a constant set just before
--- it, and a straight run from behind it to the jump.
+-- The bound test at b for the jump at j, where there is one: a comparison, a constant set just
+-- before it, and a straight run from behind it to the jump.
 abbrev pub test_at : List ℕ → ℕ → ℕ → ℕ → Option BoundTest
 test_at bytes start j b =
     option_and_then (test_by bytes start j b) (option_and_then comparison_of (whole_insn_at bytes start b))
@@ -95,7 +98,8 @@ first_test bytes start j (back ∷ backs) =
 -- How far before the jump the test may stand: 4 to 68 bytes.
 abbrev pub distances : List ℕ
 distances =
-    4 ∷ 6 ∷ 8 ∷ 10 ∷ 12 ∷ 14 ∷ 16 ∷ 18 ∷ 20 ∷ 22 ∷ 24 ∷ 26 ∷ 28 ∷ 30 ∷ 32 ∷ 34 ∷ 36 ∷ 38 ∷ 40 ∷ 42 ∷ 44 ∷ 46
+    4 ∷ 6 ∷ 8 ∷ 10 ∷ 12 ∷ 14 ∷ 16 ∷ 18 ∷ 20 ∷ 22 ∷ 24 ∷ 26 ∷ 28 ∷ 30 ∷ 32 ∷ 34 ∷ 36 ∷ 38 ∷ 40 ∷ 42
+    ∷ 44 ∷ 46
     ∷ 48 ∷ 50 ∷ 52 ∷ 54 ∷ 56 ∷ 58 ∷ 60 ∷ 62 ∷ 64 ∷ 66 ∷ 68 ∷ []
 
 -- The bound test of the jump at j: the one nearest to it. No other is tried.

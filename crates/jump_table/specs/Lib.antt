@@ -1,5 +1,5 @@
-pub mod Operands
 pub mod Section
 pub mod Bound
 pub mod Values
 pub mod Table
+pub mod Inner

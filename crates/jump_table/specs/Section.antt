@@ -6,7 +6,6 @@ use Rattle.rv_decode.specs.declared.instructions.Insn.{Insn}
 use Rattle.rv_decode.specs.Table.{instruction}
 use Rattle.rv_flow.specs.declared.raw.RawFlow.{RawFlow}
 use Rattle.rv_flow.specs.declared.raw.RawFlow.TheVariants as raw
-use Rattle.rv_flow.specs.declared.placed.Placed.{Placed}
 use Rattle.rv_flow.specs.Placed.{placed_at}
 use Rattle.rv_flow.specs.Raw.{raw_flow_at}
 
@@ -26,10 +25,6 @@ is_straight _ = false
 -- a lies in the section, and the instruction there goes straight on.
 abbrev pub goes_on : List ℕ → ℕ → ℕ → Bool
 goes_on bytes start a = is_in_section bytes start a && is_straight (raw_flow_at bytes a)
-
--- The instruction at a with its length, where it is of that kind.
-abbrev pub straight_at : List ℕ → ℕ → ℕ → Option Placed
-straight_at bytes start a = if goes_on bytes start a then Some (placed_at bytes a) else None
 
 -- The straight instructions from a up to, and without, j: their addresses, at most n of them.
 unfoldable pub straight_run : List ℕ → ℕ → ℕ → ℕ → ℕ → Option (List ℕ)

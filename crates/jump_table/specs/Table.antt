@@ -45,14 +45,15 @@ targets_from bytes base add i (suc n) =
 
 -- ---- the table
 
--- Where the table stands, what is added to its entries, and how many of them the bound test allows, by
--- the value of the jump's register.
+-- Where the table stands, what is added to its entries, and how many of them the bound test allows,
+-- by the value of the jump's register.
 abbrev pub place_of : ℕ → Value → Option Place
 place_of bound (Entry v) = Some (record { base = v; add = 0; bound = bound })
 place_of bound (EntryPlus v k) = Some (record { base = v; add = k; bound = bound })
 place_of bound _ = None
 
--- The place that the registers tell behind the run from the bound test to the jump through register r.
+-- The place that the registers tell behind the run from the bound test to the jump through register
+-- r.
 abbrev pub place_behind : List ℕ → ℕ → BoundTest → List ℕ → ℕ → Option Place
 place_behind bytes r test run bound = place_of bound (after_run bytes run (at_test test.index) r)
 
@@ -61,12 +62,14 @@ place_by_test bytes start j r test =
     option_and_then (λ run. option_and_then (place_behind bytes r test run) test.bound) (run_behind bytes start j test.at)
 
 abbrev pub place_through : List ℕ → ℕ → ℕ → ℕ → Option Place
-place_through bytes start j r = option_and_then (place_by_test bytes start j r) (bound_test bytes start j)
+place_through bytes start j r =
+    option_and_then (place_by_test bytes start j r) (bound_test bytes start j)
 
 -- A table at a multiple of 4 with at least one target.
 abbrev pub table_of_count : Place → ℕ → Option Table
 table_of_count place zero = None
-table_of_count place (suc n) = Some (record { base = place.base; count = suc n; bound = place.bound; add = place.add })
+table_of_count place (suc n) =
+    Some (record { base = place.base; count = suc n; bound = place.bound; add = place.add })
 
 abbrev pub count_of : List ℕ → ℕ
 count_of [] = 0
@@ -85,7 +88,8 @@ jump_register _ = None
 
 -- The table of the jump at j through register r.
 abbrev pub table_through : List ℕ → ℕ → ℕ → ℕ → Option Table
-table_through bytes start j r = option_and_then (table_at_place bytes) (place_through bytes start j r)
+table_through bytes start j r =
+    option_and_then (table_at_place bytes) (place_through bytes start j r)
 
 -- The jump table of the instruction at the code address j, where it is a jump of the pattern.
 unfoldable pub table_at : List ℕ → ℕ → Option Table

@@ -1,5 +1,5 @@
 -- The values that registers hold between the bound test and the jump (this project's profile).
-use Rattle.std.specs.Prelude.{ℕ, ◌==◌, List, [], ◌∷◌, zero, ℤ, pos, if◌then◌else◌, Option, Some, None, slice_get, unwrap_or}
+use Rattle.std.specs.Prelude.{ℕ, ◌==◌, List, [], ◌∷◌, zero, ℤ, pos, if◌then◌else◌, Option, Some, None}
 use Rattle.std.specs.Int.{cast_unsigned, w64}
 use Rattle.rv_decode.specs.declared.instructions.Insn.{Insn}
 use Rattle.rv_decode.specs.declared.instructions.Insn.TheVariants as insns
@@ -17,10 +17,6 @@ use Rattle.jump_table.specs.declared.values.Value.TheVariants.{Unknown, Const, I
 -- What the registers hold.
 abbrev pub Registers : Type 0
 Registers = ℕ → Value
-
--- What the registers of a list hold, of which nothing is known past its end. x0 always holds 0.
-abbrev pub held_by : List Value → Registers
-held_by values r = if r == 0 then Const 0 else unwrap_or (slice_get values r) Unknown
 
 -- Behind the bound test the index register holds the index, and x0 always holds 0.
 abbrev pub at_test : ℕ → Registers
@@ -65,7 +61,8 @@ sum_of _ _ = Unknown
 -- `add` with x0 is a copy.
 abbrev pub add_value : Registers → ℕ → ℕ → Value
 add_value before rs1 rs2 =
-    if rs2 == 0 then before rs1 else (if rs1 == 0 then before rs2 else sum_of (before rs1) (before rs2))
+    if rs2 == 0 then before rs1
+    else (if rs1 == 0 then before rs2 else sum_of (before rs1) (before rs2))
 
 -- `lw` of an address in the table.
 abbrev pub lw_value : ℤ → Value → Value
@@ -90,21 +87,18 @@ load_value _ offset value = Unknown
 abbrev pub after : ℕ → Insn → Registers → Registers
 after a (insns.Lui rd imm) before = written before rd (Const (cast_unsigned w64 imm))
 after a (insns.Auipc rd imm) before = written before rd (Const (address_plus a imm))
+after a (insns.Load kind rd rs1 imm) before = written before rd (load_value kind imm (before rs1))
+after a (insns.Imm kind rd rs1 imm) before = written before rd (imm_value kind imm (before rs1))
+after a (insns.Reg kind rd rs1 rs2) before = written before rd (reg_value kind before rs1 rs2)
 after a (insns.Jal rd offset) before = written before rd Unknown
 after a (insns.Jalr rd rs1 imm) before = written before rd Unknown
-after a (insns.Branch kind rs1 rs2 offset) before = before
-after a (insns.Load kind rd rs1 imm) before = written before rd (load_value kind imm (before rs1))
-after a (insns.Store kind rs1 rs2 imm) before = before
-after a (insns.Imm kind rd rs1 imm) before = written before rd (imm_value kind imm (before rs1))
 after a (insns.ImmW kind rd rs1 imm) before = written before rd Unknown
-after a (insns.Reg kind rd rs1 rs2) before = written before rd (reg_value kind before rs1 rs2)
 after a (insns.RegW kind rd rs1 rs2) before = written before rd Unknown
 after a (insns.Atomic kind wide acquire release rd rs1 rs2) before = written before rd Unknown
-after a insns.Fence before = before
-after a insns.FenceI before = before
-after a insns.Ecall before = forgotten
-after a insns.Ebreak before = before
 after a (insns.Csr kind rd source csr) before = written before rd Unknown
+after a (insns.Float writes reads) before = written before writes Unknown
+after a insns.Ecall before = forgotten
+after a _ before = before
 
 abbrev pub after_placed : ℕ → Option Insn → Registers → Registers
 after_placed a None before = before
@@ -113,4 +107,5 @@ after_placed a (Some insn) before = after a insn before
 -- What the registers hold behind a run of instructions at these addresses.
 abbrev pub after_run : List ℕ → List ℕ → Registers → Registers
 after_run bytes [] before = before
-after_run bytes (a ∷ run) before = after_run bytes run (after_placed a (placed_at bytes a).insn before)
+after_run bytes (a ∷ run) before =
+    after_run bytes run (after_placed a (placed_at bytes a).insn before)

@@ -1,7 +1,7 @@
 //! The bound test in front of a jump table.
 
 ghost use Rattle.std.specs.Prelude.{◌≡◌, ◌+◌, ◌<◌, ◌≤◌, ◌^◌, IsTrue, IfSome};
-ghost use Rattle.jump_table.specs.Operands.{IsRegister, IsImmediate, HasOperands};
+ghost use Rattle.jump_table.specs.Inner.Operands.{IsRegister, IsImmediate, HasOperands};
 ghost use Rattle.jump_table.specs.Bound.{checked, comparison_by, comparison_of, constant_of, short_constant, whole_constant, constant_before, bound_by, test_at, bound_test};
 
 use crate::run::{is_in_section, reaches, whole_insn_at};
@@ -32,8 +32,8 @@ pub(crate) struct BoundTest {
     pub(crate) bound: Option<u32>,
 }
 
-/// The bound test of the jump at `j`, in the code section that starts at `start`: the one nearest to
-/// the jump, from 4 up to 68 bytes before it. No other is tried.
+/// The bound test of the jump at `j`, in the code section that starts at `start`: the one nearest
+/// to the jump, from 4 up to 68 bytes before it. No other is tried.
 pub(crate) fn bound_test(image: &Image, start: u64, j: u64) -> Option<BoundTest>
     requires { start ≤ j }
     ensures test { result ≡ bound_test image.now start j }

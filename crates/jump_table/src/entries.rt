@@ -28,8 +28,8 @@ pub(crate) fn count_entries(image: &Image, base: u64, add: u64, bound: u32) -> u
     bound
 }
 
-/// The target of entry number `i` of a table at `base`, where it is read-only data and leads into the
-/// code.
+/// The target of entry number `i` of a table at `base`, where it is read-only data and leads into
+/// the code.
 pub(crate) fn target_at(image: &Image, base: u64, add: u64, i: u32) -> Option<u64>
     ensures { result ≡ entry_target image.now base add i }
 {

@@ -4,7 +4,7 @@ ghost use Rattle.std.specs.Prelude.{◌≡◌, ◌+◌, ◌≤◌, ◌<◌, ◌^
 ghost use Rattle.std.specs.Option.{option_and_then};
 ghost use Rattle.elf_image.specs.Code.{is_code};
 ghost use Rattle.rv_flow.specs.Raw.{raw_flow_at};
-ghost use Rattle.jump_table.specs.Operands.{IsRegister};
+ghost use Rattle.jump_table.specs.Inner.Operands.{IsRegister};
 ghost use Rattle.jump_table.specs.Table.{place_of, place_through, table_at_place, jump_register, table_at, table_targets, HasEntry};
 
 use crate::bound::{BoundTest, bound_test};
@@ -35,11 +35,11 @@ pub fn find_table(image: &Image, j: u64) -> Option<Table>
     table_at_place(image, place_at(image, j)?)
 }
 
-/// The target of entry number `i`, from 0, of the jump table of the jump at the code address `j`: a code
-/// address.
+/// The target of entry number `i`, from 0, of the jump table of the jump at the code address `j`: a
+/// code address.
 ///
-/// It is what `entry_target` gives of the table that `find_table` finds. No other entry is read, so it
-/// takes the time of one look at the pattern, whatever the number of entries.
+/// It is what `entry_target` gives of the table that `find_table` finds. No other entry is read, so
+/// it takes the time of one look at the pattern, whatever the number of entries.
 pub fn target_of(image: &Image, j: u64, i: u32) -> u64
     requires code { IsTrue (is_code image.now j) }
     requires entry { HasEntry image.now j i }

@@ -4,8 +4,9 @@
 ghost use Rattle.std.specs.Prelude.{◌≡◌, ◌+◌, ◌<◌, ◌≤◌, ◌^◌, IsTrue, IfSome, OnSome, is_some};
 ghost use Rattle.std.specs.Option.{option_map};
 ghost use Rattle.elf_image.specs.Code.{is_code};
-ghost use Rattle.jump_table.specs.Operands.{IsRegister, HasOperands};
-ghost use Rattle.jump_table.specs.Section.{is_in_section, whole_insn_at, goes_on, straight_at};
+ghost use Rattle.jump_table.specs.Inner.Operands.{IsRegister, HasOperands};
+ghost use Rattle.jump_table.specs.Section.{is_in_section, whole_insn_at, goes_on};
+ghost use Rattle.jump_table.specs.Inner.Walk.{straight_at};
 ghost use Rattle.jump_table.specs.Values.{at_test, after_run};
 ghost use Rattle.jump_table.specs.Bound.{run_behind};
 
@@ -41,7 +42,8 @@ pub(crate) fn whole_insn_at(image: &Image, start: u64, a: u64) -> Option<Insn>
     }
 }
 
-/// The instruction at `a`, where it lies in the section that starts at `start` and goes straight on.
+/// The instruction at `a`, where it lies in the section that starts at `start` and goes straight
+/// on.
 fn straight_at(image: &Image, start: u64, a: u64) -> Option<Placed>
     ensures value { result ≡ straight_at image.now start a }
     ensures operands { IfSome result (λ placed. IfSome placed.insn HasOperands) }

@@ -1,7 +1,7 @@
 //! A jump table in the file.
 
-/// A jump table of 4-byte entries. Target number `i` is the sign-extended word at `base + 4 * i`, plus
-/// `add`, with bit 0 cleared.
+/// A jump table of 4-byte entries. Target number `i` is the sign-extended word at `base + 4 * i`,
+/// plus `add`, with bit 0 cleared.
 #[derive(Clone, Copy, Debug, PartialEq, Eq)]
 pub struct Table {
     /// The address of the first entry, a multiple of 4.

@@ -5,9 +5,10 @@ use elf_image::{ElfError, Image};
 use std::alloc::Global;
 use std::test::Fail;
 
-/// Code at 10000 (hexadecimal) and read-only data at 20000: a bound test `bltu` at 10004 behind `addi x15, x0, 7`, a
-/// jump at 1001C through an entry of the table at 20000 plus 20000, and four returns behind it. The table leads to the
-/// first return seven times and once to the second; the ninth word leads to 1002C.
+/// Code at 10000 (hexadecimal) and read-only data at 20000: a bound test `bltu` at 10004 behind
+/// `addi x15, x0, 7`, a jump at 1001C through an entry of the table at 20000 plus 20000, and four
+/// returns behind it. The table leads to the first return seven times and once to the second; the
+/// ninth word leads to 1002C.
 const TABLE_FILE: [u8; 344] = [
     0x7F, 0x45, 0x4C, 0x46, 2, 1, 1, 0, 0, 0, 0, 0, 0, 0, 0, 0, 2, 0, 0xF3, 0, 1, 0, 0, 0, 0, 0, 1,
     0, 0, 0, 0, 0, 0, 0, 0, 0, 0, 0, 0, 0, 0x98, 0, 0, 0, 0, 0, 0, 0, 0, 0, 0, 0, 0x40, 0, 0, 0, 0,
@@ -29,7 +30,8 @@ fn image(alloc: Global) -> Result<Image, ElfError> {
     Image::parse(alloc, bytes)
 }
 
-/// The table of the jump at `j`, and the target of its entry number `i` by the table and by the jump.
+/// The table of the jump at `j`, and the target of its entry number `i` by the table and by the
+/// jump.
 fn entry(image: &Image, j: u64, i: u32) -> Option<(Table, u64, u64)> {
     if !image.is_code(j) {
         return None;

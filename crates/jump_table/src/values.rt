@@ -1,8 +1,9 @@
 //! The values that registers hold between the bound test and the jump.
 
 ghost use Rattle.std.specs.Prelude.{◌≡◌, IfSome, length};
-ghost use Rattle.jump_table.specs.Operands.{IsRegister, HasOperands};
-ghost use Rattle.jump_table.specs.Values.{held_by, at_test, written, forgotten, moved_by, addi_value, slli_value, srli_value, sum_of, add_value, lw_value, imm_value, reg_value, load_value, after, after_placed};
+ghost use Rattle.jump_table.specs.Inner.Operands.{IsRegister, HasOperands};
+ghost use Rattle.jump_table.specs.Values.{at_test, written, forgotten, moved_by, addi_value, slli_value, srli_value, sum_of, add_value, lw_value, imm_value, reg_value, load_value, after, after_placed};
+ghost use Rattle.jump_table.specs.Inner.Walk.{held_by};
 
 use rv_decode::{ImmKind, Insn, LoadKind, RegKind};
 
@@ -102,7 +103,8 @@ impl Registers {
             | Insn::ImmW { rd, .. }
             | Insn::RegW { rd, .. }
             | Insn::Atomic { rd, .. }
-            | Insn::Csr { rd, .. } => self.with(rd, Value::Unknown),
+            | Insn::Csr { rd, .. }
+            | Insn::Float { writes: rd, .. } => self.with(rd, Value::Unknown),
             Insn::Ecall => Registers::unknown(),
             Insn::Branch { .. } | Insn::Store { .. } | Insn::Fence | Insn::FenceI | Insn::Ebreak =>
                 self,
@@ -143,7 +145,8 @@ fn slli_value(amount: i64, value: Value) -> Value
     }
 }
 
-// `srli` by 30 of the index moved up by 32: the index times 4, of which the bound test knows that it fits.
+// `srli` by 30 of the index moved up by 32: the index times 4, of which the bound test knows that
+// it fits.
 fn srli_value(amount: i64, value: Value) -> Value
     ensures { result ≡ srli_value amount value }
 {

@@ -2,6 +2,6 @@ pub mod Narrowing
 pub mod ByOpcode
 pub mod Offsets
 pub mod Apart
-pub mod WorkedWords
+mod Worked
 pub mod ByFields
 pub mod Lengths

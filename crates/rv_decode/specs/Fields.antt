@@ -63,15 +63,17 @@ i_immediate w = sign_extended 12 (field w 31 20)
 abbrev pub s_immediate : ℕ → ℤ
 s_immediate w = sign_extended 12 (field w 31 25 * 2 ^ 5 + field w 11 7)
 
--- B-immediate (section 2.3): bit 31 is its bit 12, bit 7 its bit 11, bits 30 to 25 its bits 10 to 5,
--- bits 11 to 8 its bits 4 to 1, and its bit 0 is 0
+-- B-immediate (section 2.3): bit 31 is its bit 12, bit 7 its bit 11, bits 30 to 25 its bits 10 to
+-- 5, bits 11 to 8 its bits 4 to 1, and its bit 0 is 0
 abbrev pub b_offset : ℕ → ℤ
-b_offset w = sign_extended 13 (field w 31 31 * 2 ^ 12 + field w 7 7 * 2 ^ 11 + field w 30 25 * 2 ^ 5 + field w 11 8 * 2)
+b_offset w =
+    sign_extended 13 (field w 31 31 * 2 ^ 12 + field w 7 7 * 2 ^ 11 + field w 30 25 * 2 ^ 5 + field w 11 8 * 2)
 
--- J-immediate (section 2.3): bit 31 is its bit 20, bits 19 to 12 its bits 19 to 12, bit 20 its bit 11,
--- bits 30 to 21 its bits 10 to 1, and its bit 0 is 0
+-- J-immediate (section 2.3): bit 31 is its bit 20, bits 19 to 12 its bits 19 to 12, bit 20 its bit
+-- 11, bits 30 to 21 its bits 10 to 1, and its bit 0 is 0
 abbrev pub j_offset : ℕ → ℤ
-j_offset w = sign_extended 21 (field w 31 31 * 2 ^ 20 + field w 19 12 * 2 ^ 12 + field w 20 20 * 2 ^ 11 + field w 30 21 * 2)
+j_offset w =
+    sign_extended 21 (field w 31 31 * 2 ^ 20 + field w 19 12 * 2 ^ 12 + field w 20 20 * 2 ^ 11 + field w 30 21 * 2)
 
 -- U-immediate (section 2.3): bits 31 to 12 in place, and its bits 11 to 0 are 0
 abbrev pub u_immediate : ℕ → ℤ

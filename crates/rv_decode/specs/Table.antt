@@ -90,7 +90,8 @@ upper_rows =
 unfoldable pub jump_rows : List Row
 jump_rows =
     record { conditions = opcode_is 0x6F ∷ []; meaning = λ w. Jal (rd w) (j_offset w) } ∷
-    record { conditions = opcode_is 0x67 ∷ funct3_is 0 ∷ []; meaning = λ w. Jalr (rd w) (rs1 w) (i_immediate w) } ∷ []
+    record { conditions = opcode_is 0x67 ∷ funct3_is 0 ∷ []; meaning = λ w. Jalr (rd w) (rs1 w) (i_immediate w) }
+    ∷ []
 
 -- ---- opcode 63: BRANCH (section 2.5.2), by funct3
 
@@ -98,7 +99,8 @@ abbrev pub branch : BranchKind → ℕ → Insn
 branch kind w = Branch kind (rs1 w) (rs2 w) (b_offset w)
 
 abbrev pub branch_row : ℕ → BranchKind → Row
-branch_row f3 kind = record { conditions = opcode_is 0x63 ∷ funct3_is f3 ∷ []; meaning = branch kind }
+branch_row f3 kind =
+    record { conditions = opcode_is 0x63 ∷ funct3_is f3 ∷ []; meaning = branch kind }
 
 unfoldable pub branch_rows : List Row
 branch_rows =
@@ -154,7 +156,8 @@ abbrev pub imm_row : ℕ → ImmKind → Row
 imm_row f3 kind = record { conditions = opcode_is 0x13 ∷ funct3_is f3 ∷ []; meaning = imm kind }
 
 abbrev pub shift_row : ℕ → ℕ → ImmKind → Row
-shift_row f3 f6 kind = record { conditions = opcode_is 0x13 ∷ funct3_is f3 ∷ funct6_is f6 ∷ []; meaning = shift kind }
+shift_row f3 f6 kind =
+    record { conditions = opcode_is 0x13 ∷ funct3_is f3 ∷ funct6_is f6 ∷ []; meaning = shift kind }
 
 unfoldable pub imm_rows : List Row
 imm_rows =
@@ -180,7 +183,8 @@ abbrev pub imm_w_row : ℕ → ImmWKind → Row
 imm_w_row f3 kind = record { conditions = opcode_is 0x1B ∷ funct3_is f3 ∷ []; meaning = imm_w kind }
 
 abbrev pub shift_w_row : ℕ → ℕ → ImmWKind → Row
-shift_w_row f3 f7 kind = record { conditions = opcode_is 0x1B ∷ funct3_is f3 ∷ funct7_is f7 ∷ []; meaning = shift_w kind }
+shift_w_row f3 f7 kind =
+    record { conditions = opcode_is 0x1B ∷ funct3_is f3 ∷ funct7_is f7 ∷ []; meaning = shift_w kind }
 
 unfoldable pub imm_w_rows : List Row
 imm_w_rows =
@@ -195,7 +199,8 @@ abbrev pub reg : RegKind → ℕ → Insn
 reg kind w = Reg kind (rd w) (rs1 w) (rs2 w)
 
 abbrev pub reg_row : ℕ → ℕ → RegKind → Row
-reg_row f7 f3 kind = record { conditions = opcode_is 0x33 ∷ funct7_is f7 ∷ funct3_is f3 ∷ []; meaning = reg kind }
+reg_row f7 f3 kind =
+    record { conditions = opcode_is 0x33 ∷ funct7_is f7 ∷ funct3_is f3 ∷ []; meaning = reg kind }
 
 unfoldable pub reg_rows : List Row
 reg_rows =
@@ -224,7 +229,8 @@ abbrev pub reg_w : RegWKind → ℕ → Insn
 reg_w kind w = RegW kind (rd w) (rs1 w) (rs2 w)
 
 abbrev pub reg_w_row : ℕ → ℕ → RegWKind → Row
-reg_w_row f7 f3 kind = record { conditions = opcode_is 0x3B ∷ funct7_is f7 ∷ funct3_is f3 ∷ []; meaning = reg_w kind }
+reg_w_row f7 f3 kind =
+    record { conditions = opcode_is 0x3B ∷ funct7_is f7 ∷ funct3_is f3 ∷ []; meaning = reg_w kind }
 
 unfoldable pub reg_w_rows : List Row
 reg_w_rows =
@@ -247,10 +253,12 @@ atomic wide kind w = Atomic kind wide (acquire w) (release w) (rd w) (rs1 w) (rs
 
 -- LR has rs2 = 0
 abbrev pub lr_row : ℕ → Bool → Row
-lr_row f3 wide = record { conditions = opcode_is 0x2F ∷ funct3_is f3 ∷ funct5_is 0b00010 ∷ rs2_is 0 ∷ []; meaning = atomic wide atomic_kind.Lr }
+lr_row f3 wide =
+    record { conditions = opcode_is 0x2F ∷ funct3_is f3 ∷ funct5_is 0b00010 ∷ rs2_is 0 ∷ []; meaning = atomic wide atomic_kind.Lr }
 
 abbrev pub atomic_row : ℕ → Bool → ℕ → AtomicKind → Row
-atomic_row f3 wide f5 kind = record { conditions = opcode_is 0x2F ∷ funct3_is f3 ∷ funct5_is f5 ∷ []; meaning = atomic wide kind }
+atomic_row f3 wide f5 kind =
+    record { conditions = opcode_is 0x2F ∷ funct3_is f3 ∷ funct5_is f5 ∷ []; meaning = atomic wide kind }
 
 -- LR.W to AMOMAXU.W at funct3 = 2, LR.D to AMOMAXU.D at funct3 = 3
 unfoldable pub atomic_rows_of : ℕ → Bool → List Row
@@ -290,7 +298,8 @@ abbrev pub csr_access : CsrKind → ℕ → Insn
 csr_access kind w = Csr kind (rd w) (rs1 w) (csr w)
 
 abbrev pub csr_row : ℕ → CsrKind → Row
-csr_row f3 kind = record { conditions = opcode_is 0x73 ∷ funct3_is f3 ∷ []; meaning = csr_access kind }
+csr_row f3 kind =
+    record { conditions = opcode_is 0x73 ∷ funct3_is f3 ∷ []; meaning = csr_access kind }
 
 unfoldable pub system_rows : List Row
 system_rows =
@@ -310,6 +319,7 @@ rows =
     upper_rows ++ jump_rows ++ branch_rows ++ load_rows ++ store_rows ++ imm_rows ++ imm_w_rows
     ++ reg_rows ++ reg_w_rows ++ atomic_rows ++ fence_rows ++ system_rows
 
--- The instruction that a word is: the meaning of the row that holds of it, and none where none does.
+-- The instruction that a word is: the meaning of the row that holds of it, and none where none
+-- does.
 unfoldable pub instruction : ℕ → Option Insn
 instruction w = first_meaning rows w

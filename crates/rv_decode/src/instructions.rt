@@ -27,7 +27,8 @@ pub enum Insn {
         rs1: u8,
         imm: i64,
     },
-    /// A conditional branch: `offset` in bytes from the instruction's address, even (section 2.5.2).
+    /// A conditional branch: `offset` in bytes from the instruction's address, even (section
+    /// 2.5.2).
     Branch {
         kind: BranchKind,
         rs1: u8,
@@ -104,6 +105,12 @@ pub enum Insn {
         rd: u8,
         source: u8,
         csr: u16,
+    },
+    /// An instruction of the F or D extension (chapters 21 and 22), by the integer registers that it
+    /// uses alone: the one that it writes and the one that it reads, 0 for none.
+    Float {
+        writes: u8,
+        reads: u8,
     },
 }
 

@@ -2,7 +2,7 @@
 #![tactic(auto)]
 
 mod decoder;
-mod fields;
+pub mod fields;
 mod instructions;
 mod laws;
 mod opcodes;

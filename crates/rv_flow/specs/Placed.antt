@@ -1,24 +1,34 @@
 -- The instruction at a code address (RISC-V Unprivileged ISA 20240411, section 1.5, "Base
 -- Instruction-Length Encoding", and chapter 26, "C").
 use Rattle.std.specs.Prelude.{ℕ, ◌/◌, ◌%◌, ◌==◌, List, Option, Some, None, if◌then◌else◌}
-use Rattle.std.specs.Option.{option_map_or, option_and_then}
+use Rattle.std.specs.Option.{option_map_or, option_and_then, option_or}
 use Rattle.elf_image.specs.Code.{half_at, word_at}
 use Rattle.rv_decode.specs.declared.instructions.Insn.{Insn}
 use Rattle.rv_decode.specs.Table.{instruction}
 use Rattle.rvc_expand.specs.Table.{expansion}
+use Rattle.rv_float.specs.Table.{float_instruction}
+use Rattle.rv_float.specs.Forms.{float_expansion}
 use Rattle.rv_flow.specs.declared.placed.Placed.{Placed}
 
 -- What is no instruction has the length 2.
 abbrev pub bad : Placed
 bad = record { length = 2; insn = None }
 
+-- The instruction that a word is, by the base table or the float table: at most one of them has it.
+abbrev pub word_insn : ℕ → Option Insn
+word_insn word = option_or (instruction word) (float_instruction word)
+
+-- The word that a halfword stands for, by either table of compressed forms.
+abbrev pub expanded : ℕ → Option ℕ
+expanded half = option_or (expansion half) (float_expansion half)
+
 -- A 16-bit form stands for the 32-bit instruction that it expands to.
 abbrev pub compressed_insn : ℕ → Option Insn
-compressed_insn half = option_and_then instruction (expansion half)
+compressed_insn half = option_and_then word_insn (expanded half)
 
--- A 32-bit form is an instruction where all its four bytes are there and a row of the table holds.
+-- A 32-bit form is an instruction where all its four bytes are there and a row of a table holds.
 abbrev pub whole_insn : Option ℕ → Option Insn
-whole_insn word = option_and_then instruction word
+whole_insn word = option_and_then word_insn word
 
 abbrev pub whole : Option Insn → Placed
 whole None = bad

@@ -1,6 +1,7 @@
--- Where one instruction alone sends control (RISC-V Unprivileged ISA 20240411, sections 2.5 and 2.8;
--- the link registers x1 and x5 are those of its section 2.5.1, "Return-address stack prediction").
-use Rattle.std.specs.Prelude.{ℕ, ◌+◌, ◌-◌, ◌*◌, ◌/◌, ◌%◌, ◌^◌, ◌==◌, ◌&&◌, ◌||◌, not, nat_le, Bool, true, false, List, ℤ, Option, Some, None, if◌then◌else◌}
+-- Where one instruction alone sends control (RISC-V Unprivileged ISA 20240411, sections 2.5 and
+-- 2.8; the link registers x1 and x5 are those of its section 2.5.1, "Return-address stack
+-- prediction").
+use Rattle.std.specs.Prelude.{ℕ, ◌+◌, ◌-◌, ◌*◌, ◌/◌, ◌%◌, ◌^◌, ◌==◌, ◌&&◌, ◌||◌, nat_le, Bool, true, false, List, ℤ, Option, Some, None, if◌then◌else◌}
 use Rattle.std.specs.Option.{option_and_then, option_map}
 use Rattle.std.specs.Int.{cast_unsigned, w64}
 use Rattle.elf_image.specs.Code.{section_start, word_at}
@@ -9,7 +10,6 @@ use Rattle.rv_decode.specs.declared.instructions.Insn.TheVariants as insns
 use Rattle.rv_decode.specs.declared.instructions.CsrKind.{CsrKind}
 use Rattle.rv_decode.specs.declared.instructions.CsrKind.TheVariants as csrs
 use Rattle.rv_decode.specs.Table.{instruction}
-use Rattle.rv_flow.specs.declared.placed.Placed.{Placed}
 use Rattle.rv_flow.specs.declared.raw.RawFlow.{RawFlow}
 use Rattle.rv_flow.specs.declared.raw.RawFlow.TheVariants as raw
 use Rattle.rv_flow.specs.Placed.{placed_at}
@@ -33,13 +33,15 @@ upper_of at r _ = None
 
 -- What the instruction word right before a leaves in register r, where it is an AUIPC or LUI of it.
 abbrev pub upper_before : List ℕ → ℕ → ℕ → Option ℕ
-upper_before bytes a r = option_and_then (upper_of (a - 4) r) (option_and_then instruction (word_before bytes a))
+upper_before bytes a r =
+    option_and_then (upper_of (a - 4) r) (option_and_then instruction (word_before bytes a))
 
 -- The target of a paired JALR at a: what is in its register, which is not x0, plus the immediate,
 -- with bit 0 cleared; none where it is not paired.
 abbrev pub pair_target : List ℕ → ℕ → ℕ → ℤ → Option ℕ
 pair_target bytes a rs1 imm =
-    if rs1 == 0 then None else option_map (λ base. address_plus base imm / 2 * 2) (upper_before bytes a rs1)
+    if rs1 == 0 then None
+    else option_map (λ base. address_plus base imm / 2 * 2) (upper_before bytes a rs1)
 
 -- ---- the flow of an instruction alone
 
@@ -66,7 +68,8 @@ insn_flow bytes a (insns.Jal rd offset) =
 insn_flow bytes a (insns.Jalr rd rs1 imm) = jalr_flow rd rs1 imm (pair_target bytes a rs1 imm)
 insn_flow bytes a (insns.Branch kind rs1 rs2 offset) = raw.Branch (address_plus a offset)
 insn_flow bytes a insns.Ebreak = raw.Stop
-insn_flow bytes a (insns.Csr kind rd source csr) = if is_unimp kind rd source csr then raw.Stop else raw.Straight
+insn_flow bytes a (insns.Csr kind rd source csr) =
+    if is_unimp kind rd source csr then raw.Stop else raw.Straight
 insn_flow bytes a _ = raw.Straight
 
 -- What is no instruction stops.

@@ -3,8 +3,13 @@
 //! What lies outside the code, and what a jump table holds, is judged by the crates above.
 #![tactic(auto)]
 
+mod laws;
 mod placed;
 mod raw;
 
+pub use laws::{each_word_is_its_instruction, every_expansion_decodes};
 pub use placed::{Placed, insn_at};
 pub use raw::{RawFlow, flow_of, raw_flow};
+
+#[cfg(test)]
+mod tests;

@@ -4,10 +4,11 @@
 ghost use Rattle.std.specs.Prelude.{◌≡◌, IsTrue};
 ghost use Rattle.elf_image.specs.Code.{is_code};
 ghost use Rattle.elf_image.specs.Faults.{IsImage};
-ghost use Rattle.rv_flow.specs.Placed.{placed_at, compressed_insn, whole_insn};
+ghost use Rattle.rv_flow.specs.Placed.{placed_at, word_insn, expanded, compressed_insn, whole_insn};
 
 use elf_image::Image;
 use rv_decode::{Insn, decode};
+use rv_float::{decode_float, expand_float};
 use rvc_expand::expand;
 
 /// An instruction in its place.
@@ -15,7 +16,7 @@ use rvc_expand::expand;
 pub struct Placed {
     /// Its length in bytes: 2 or 4.
     pub length: u8,
-    /// Its meaning; `None` where the bytes are no instruction of RV64IMAC with Zicsr and Zifencei,
+    /// Its meaning; `None` where the bytes are no instruction of RV64GC,
     /// and then the length is 2.
     pub insn: Option<Insn>,
 }
@@ -55,12 +56,32 @@ pub fn insn_at(image: &Image, a: u64) -> Placed
 fn compressed_insn(half: u16) -> Option<Insn>
     ensures { result ≡ compressed_insn half }
 {
-    decode(expand(half)?)
+    word_insn(expanded(half)?)
 }
 
 // The instruction that a whole word is, where the word is there.
 fn whole_insn(word: Option<u32>) -> Option<Insn>
     ensures { result ≡ whole_insn word }
 {
-    decode(word?)
+    word_insn(word?)
+}
+
+// The instruction that a word is, by the base table or the float table.
+fn word_insn(word: u32) -> Option<Insn>
+    ensures { result ≡ word_insn word }
+{
+    match decode(word) {
+        None => decode_float(word),
+        insn => insn,
+    }
+}
+
+// The word that a halfword stands for, by either table of compressed forms.
+fn expanded(half: u16) -> Option<u32>
+    ensures { result ≡ expanded half }
+{
+    match expand(half) {
+        None => expand_float(half),
+        word => word,
+    }
 }

@@ -1,6 +1,6 @@
 -- The six formats of a 32-bit instruction (RISC-V Unprivileged ISA 20240411, "Base Instruction
--- Formats" and "Immediate Encoding Variants"): each is the sum of its fields, each times the power of
--- two of its lowest bit. `immediate` is in two's complement, of the width that the format has.
+-- Formats" and "Immediate Encoding Variants"): each is the sum of its fields, each times the power
+-- of two of its lowest bit. `immediate` is in two's complement, of the width that the format has.
 use Rattle.std.specs.Prelude.{ℕ, ◌+◌, ◌*◌, ◌^◌}
 use Rattle.rvc_expand.specs.Bits.{field}
 

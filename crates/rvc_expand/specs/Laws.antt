@@ -7,15 +7,25 @@ use Rattle.rvc_expand.specs.Table.{Form, forms, expansion}
 abbrev pub IsFormAt : ℕ → Form → Type 0
 IsFormAt i f = slice_get forms i ≡ Some f
 
--- At most one form holds of a halfword: two forms that both hold of it stand at one place of the table.
+-- At most one form holds of a halfword: two forms that both hold of it stand at one place of the
+-- table.
 abbrev pub AtMostOneFormHolds : Type 0
 AtMostOneFormHolds =
-    (half i j : ℕ) (f g : Form) → IsFormAt i f → IsFormAt j g → IsTrue (f.holds half) → IsTrue (g.holds half) → i ≡ j
+    (half i j : ℕ) (f g : Form)
+    → IsFormAt i f
+    → IsFormAt j g
+    → IsTrue (f.holds half)
+    → IsTrue (g.holds half)
+    → i ≡ j
 
--- A halfword of which a form holds expands to this form's word, wherever the form stands in the table.
+-- A halfword of which a form holds expands to this form's word, wherever the form stands in the
+-- table.
 abbrev pub AFormDecides : Type 0
 AFormDecides =
-    (half i : ℕ) (f : Form) → IsFormAt i f → IsTrue (f.holds half) → expansion half ≡ Some (f.word half)
+    (half i : ℕ) (f : Form)
+    → IsFormAt i f
+    → IsTrue (f.holds half)
+    → expansion half ≡ Some (f.word half)
 
 -- Each expansion comes from a form that holds of the halfword.
 abbrev pub EachComesFromAForm : Type 0
@@ -26,7 +36,8 @@ EachComesFromAForm =
 -- A halfword does not expand exactly where no form holds of it.
 abbrev pub NoneWhereNoFormHolds : Type 0
 NoneWhereNoFormHolds =
-    (half : ℕ) → (expansion half ≡ None) ↔ ((i : ℕ) (f : Form) → IsFormAt i f → IsFalse (f.holds half))
+    (half : ℕ)
+    → (expansion half ≡ None) ↔ ((i : ℕ) (f : Form) → IsFormAt i f → IsFalse (f.holds half))
 
 -- No halfword of quadrant 3, whose lowest two bits are 11, expands.
 abbrev pub NoneOfQuadrant3 : Type 0

@@ -1,6 +1,6 @@
 -- The compressed instructions of RV64C without the floating-point forms, one row a form (RISC-V
--- Unprivileged ISA 20240411, chapter "C" Extension for Compressed Instructions, "RVC Instruction Set
--- Listings"). Which hints and reserved encodings the rows hold of is this project's profile.
+-- Unprivileged ISA 20240411, chapter "C" Extension for Compressed Instructions, "RVC Instruction
+-- Set Listings"). Which hints and reserved encodings the rows hold of is this project's profile.
 use Rattle.std.specs.Prelude.{ℕ, Bool, not, ◌&&◌, ◌==◌, List, [], ◌∷◌, ◌++◌, Option, Some, None, if◌then◌else◌}
 use Rattle.rvc_expand.specs.Bits.{field}
 use Rattle.rvc_expand.specs.Halfword.{is_at, is_nonzero, first_register, second_register, first_popular, second_popular, shift_amount, small_immediate, lui_immediate, addi16sp_immediate, addi4spn_immediate, word_offset, double_offset, lwsp_offset, ldsp_offset, swsp_offset, sdsp_offset, jump_offset, branch_offset}
@@ -91,8 +91,8 @@ quadrant_1 =
     ∷ form (λ h. is_at h 0b01 0b111) (λ h. bne (first_popular h) zero_register (branch_offset h))
     ∷ []
 
--- the moves, additions and jumps by registers of quadrant 2, at funct3 100: bit 12 chooses, and which
--- registers are x0
+-- the moves, additions and jumps by registers of quadrant 2, at funct3 100: bit 12 chooses, and
+-- which registers are x0
 abbrev pub is_move_or_jump : ℕ → ℕ → Bool
 is_move_or_jump half bit_12 = is_at half 0b10 0b100 && field half 12 12 == bit_12
 

@@ -1,5 +1,5 @@
-//! The 32-bit instructions that the compressed forms stand for. A register is its number, 0 to 31; an
-//! immediate or offset is in two's complement, of the width of its format.
+//! The 32-bit instructions that the compressed forms stand for. A register is its number, 0 to 31;
+//! an immediate or offset is in two's complement, of the width of its format.
 
 ghost use Rattle.std.specs.Prelude.{◌≡◌, ◌<◌, ◌^◌};
 ghost use Rattle.rvc_expand.specs.Instructions.{addi, andi, slli, srli, srai, addiw, lui, lw, ld, sw, sd, add, sub, xor, or, and, addw, subw, jal, jalr, beq, bne, ebreak};

@@ -22,8 +22,8 @@ pub fn none_where_no_form_holds()
     ensures { NoneWhereNoFormHolds }
 {}
 
-/// No halfword of quadrant 3, whose lowest two bits are 11, expands: it begins an instruction of 32 bits
-/// or more.
+/// No halfword of quadrant 3, whose lowest two bits are 11, expands: it begins an instruction of 32
+/// bits or more.
 pub fn none_of_quadrant_3()
     ensures { NoneOfQuadrant3 }
 {}

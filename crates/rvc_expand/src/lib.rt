@@ -8,9 +8,9 @@
 //! - `instructions`, `formats`: 32-bit instructions from their fields.
 #![tactic(auto)]
 
-mod bits;
-mod formats;
-mod halfword;
+pub mod bits;
+pub mod formats;
+pub mod halfword;
 mod instructions;
 pub mod laws;
 mod rows;

@@ -29,9 +29,9 @@ const STACK_POINTER: u32 = 2;
 /// 20240411, chapter "C" Extension for Compressed Instructions, "RVC Instruction Set Listings").
 ///
 /// `None` exactly where no form of the table holds of `half`: the forms of the F and D extensions,
-/// reserved encodings, the defined illegal instruction 0000, and each halfword whose lowest two bits
-/// are 11, which begins a longer instruction. An expanded jump or branch counts its offset from the
-/// address of the 16-bit instruction.
+/// reserved encodings, the defined illegal instruction 0000, and each halfword whose lowest two
+/// bits are 11, which begins a longer instruction. An expanded jump or branch counts its offset
+/// from the address of the 16-bit instruction.
 pub fn expand(half: u16) -> Option<u32>
     ensures { result ≡ expansion half }
 {

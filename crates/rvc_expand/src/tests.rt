@@ -24,8 +24,8 @@ fn expands_worked_halfwords(rt: HostRuntime) {
     }
 }
 
-/// The encodings of one form: the bits that are fixed, bits that must not have a value, and how many
-/// halfwords are left.
+/// The encodings of one form: the bits that are fixed, bits that must not have a value, and how
+/// many halfwords are left.
 #[derive(Clone, Copy)]
 struct Form {
     name: &'static str,
@@ -64,8 +64,8 @@ impl Form {
 }
 
 /// A count is the product of how many values each field of the form may have. A field of three bits
-/// names a register in 8 ways, one of five bits in 32 ways, or 31 where x0 is refused; an immediate of n
-/// bits has 2 ^ n values, or one less where 0 is refused.
+/// names a register in 8 ways, one of five bits in 32 ways, or 31 where x0 is refused; an immediate
+/// of n bits has 2 ^ n values, or one less where 0 is refused.
 fn forms() -> [Form; 32] {
     [
         Form::new("C.ADDI4SPN", 0xe003, 0x0000, 255 * 8),
@@ -103,8 +103,8 @@ fn forms() -> [Form; 32] {
     ]
 }
 
-/// Of each form as many halfwords expand as its fields have values, and none beside them: the counts
-/// add up to 38,551.
+/// Of each form as many halfwords expand as its fields have values, and none beside them: the
+/// counts add up to 38,551.
 #[test]
 fn expands_as_many_of_each_form(rt: HostRuntime) {
     for form in forms() {

@@ -1,5 +1,5 @@
 use Rattle.std.proofs.Common.{sym, ◌∙◌}
-use Rattle.jump_table.specs.Operands.{HasOperands}
+use Rattle.jump_table.specs.Inner.Operands.{HasOperands}
 use Rattle.jump_table.proofs.Operands.{operands_fit}
 use Rattle.jump_table.proofs.Targets.{there}
 use Rattle.jump_table.proofs.bound.short_constant.Goals as goal

@@ -1,7 +1,7 @@
 use Rattle.std.proofs.Common.{◌+◌, ◌<◌, ◌^◌, sym, subst}
 use Rattle.std.specs.Prelude.{IfSome}
 use Rattle.rv_flow.specs.declared.placed.Placed.{Placed}
-use Rattle.jump_table.specs.Operands.{HasOperands}
+use Rattle.jump_table.specs.Inner.Operands.{HasOperands}
 use Rattle.jump_table.proofs.Placed.{placed-operands, placed-end}
 use Rattle.jump_table.proofs.run.straight_at.Goals as goal
 

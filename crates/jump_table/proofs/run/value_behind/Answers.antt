@@ -1,5 +1,6 @@
 use Rattle.std.proofs.Common.{◌≡◌, ℕ, ◌+◌, ◌-◌, suc, Some, ◌∙◌, sym, ap, arith}
-use Rattle.jump_table.specs.Values.{Registers, held_by, after_placed}
+use Rattle.jump_table.specs.Values.{Registers, after_placed}
+use Rattle.jump_table.specs.Inner.Walk.{held_by}
 use Rattle.jump_table.proofs.Runs.{value_from, value-here, value-no_more, value-end, value-on}
 use Rattle.jump_table.proofs.run.value_behind.Goals as goal
 

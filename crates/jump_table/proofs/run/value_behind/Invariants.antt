@@ -1,5 +1,6 @@
 use Rattle.std.proofs.Common.{◌≡◌, ◌+◌, ◌-◌}
-use Rattle.jump_table.specs.Values.{held_by, at_test}
+use Rattle.jump_table.specs.Values.{at_test}
+use Rattle.jump_table.specs.Inner.Walk.{held_by}
 use Rattle.jump_table.proofs.Runs.{value_from}
 use Rattle.jump_table.proofs.run.value_behind.Given as goal
 

@@ -17,7 +17,7 @@ use Rattle.rv_decode.proofs.ByFields.{jalr_is, beq_is, bne_is, lw_is, ld_is, sw_
 use Rattle.rvc_expand.specs.Bits.{field}
 use Rattle.rvc_expand.specs.Formats.{r_type, i_type, s_type, b_type, u_type, j_type}
 use Rattle.rvc_expand.proofs.FieldsRead.{r_type-opcode, r_type-rd, r_type-funct3, r_type-rs1, r_type-rs2, r_type-funct7, i_type-opcode, i_type-rd, i_type-funct3, i_type-rs1, i_type-immediate, i_type-amount, i_type-funct6, s_type-opcode, s_type-funct3, s_type-rs1, s_type-rs2, s_type-immediate, b_type-opcode, b_type-funct3, b_type-rs1, b_type-rs2, b_type-offset, u_type-opcode, u_type-rd, u_type-immediate, j_type-opcode, j_type-rd, j_type-offset}
-use Rattle.rv_tables.specs.Laws.{EachWordIsItsInstruction}
+use Rattle.rv_flow.specs.Laws.{EachWordIsItsInstruction}
 
 -- two parts of an instruction at once, or three
 two_parts : {A B : Type 0} (make : A → B → Insn) (a a' : A) (b b' : B) → a ≡ a' → b ≡ b' → Some (make a b) ≡ Some (make a' b')

@@ -1,5 +1,5 @@
--- What the fields of a word leave room for: registers are numbers of five bits, and the immediates of 12
--- bits are below 2 to the power 11 (RISC-V Unprivileged ISA 20240411, section 2.3).
+-- What the fields of a word leave room for: registers are numbers of five bits, and the immediates
+-- of 12 bits are below 2 to the power 11 (RISC-V Unprivileged ISA 20240411, section 2.3).
 use Rattle.std.specs.Prelude.{ℕ, ◌<◌, ℤ, pos, negsuc}
 use Rattle.rv_decode.specs.declared.instructions.Insn.{Insn}
 use Rattle.rv_decode.specs.declared.instructions.Insn.TheVariants as insns
@@ -21,14 +21,11 @@ HasOperands (insns.Jal rd offset) = IsRegister rd
 HasOperands (insns.Jalr rd rs1 imm) = IsRegister rd × IsRegister rs1
 HasOperands (insns.Branch kind rs1 rs2 offset) = IsRegister rs1 × IsRegister rs2
 HasOperands (insns.Load kind rd rs1 imm) = IsRegister rd × IsRegister rs1
-HasOperands (insns.Store kind rs1 rs2 imm) = Unit {0}
 HasOperands (insns.Imm kind rd rs1 imm) = IsRegister rd × IsRegister rs1 × IsImmediate imm
 HasOperands (insns.ImmW kind rd rs1 imm) = IsRegister rd
 HasOperands (insns.Reg kind rd rs1 rs2) = IsRegister rd × IsRegister rs1 × IsRegister rs2
 HasOperands (insns.RegW kind rd rs1 rs2) = IsRegister rd
 HasOperands (insns.Atomic kind wide acquire release rd rs1 rs2) = IsRegister rd
-HasOperands insns.Fence = Unit {0}
-HasOperands insns.FenceI = Unit {0}
-HasOperands insns.Ecall = Unit {0}
-HasOperands insns.Ebreak = Unit {0}
 HasOperands (insns.Csr kind rd source csr) = IsRegister rd
+HasOperands (insns.Float writes reads) = IsRegister writes
+HasOperands _ = Unit {0}

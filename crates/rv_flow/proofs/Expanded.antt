@@ -11,7 +11,7 @@ use Rattle.rvc_expand.specs.Formats.{r_type, i_type, s_type, b_type, u_type, j_t
 use Rattle.rvc_expand.specs.Halfword.{first_register, second_register, first_popular, second_popular, shift_amount, small_immediate, lui_immediate, addi16sp_immediate, addi4spn_immediate, word_offset, double_offset, lwsp_offset, ldsp_offset, swsp_offset, sdsp_offset, jump_offset, branch_offset}
 use Rattle.rvc_expand.specs.Table.{Form, first_word, quadrant_0, quadrant_1, quadrant_2, forms, expansion}
 use Rattle.rvc_expand.proofs.FieldsRead.{r_type-opcode, r_type-funct3, r_type-funct7, i_type-opcode, i_type-funct3, i_type-funct6, s_type-opcode, s_type-funct3, b_type-opcode, b_type-funct3, u_type-opcode, j_type-opcode}
-use Rattle.rv_tables.specs.Laws.{EveryExpansionDecodes}
+use Rattle.rv_flow.specs.Laws.{EveryExpansionDecodes}
 
 -- ---- a word of a format decodes where its opcode and functs are those of a row
 

@@ -1,0 +1,3 @@
+mod ByOpcode
+mod OneRow
+mod TablesApart
