@@ -4,3 +4,5 @@ pub mod Told
 pub mod Script
 pub mod MemInput
 pub mod MemSink
+pub mod SafeInput
+pub mod CountSink

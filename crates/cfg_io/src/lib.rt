@@ -6,21 +6,26 @@
 //! until all is read or written, or a call fails.
 //!
 //! [`MemInput`] and [`MemSink`] are in memory and fail at the calls that they are told to;
+//! [`SafeInput`] and [`CountSink`] never fail, and so no call over them has a fault to answer;
 //! [`FileInput`] and [`StdSink`] stand on std's files and writers.
 #![tactic(auto)]
 
+mod count_sink;
 mod failed;
 mod file_input;
+mod giving;
 mod input;
 mod mem_input;
 mod mem_sink;
 mod memory;
 mod reading;
+mod safe_input;
 mod script;
 mod sink;
 mod std_sink;
 mod writing;
 
+pub use count_sink::CountSink;
 pub use failed::Failed;
 pub use file_input::FileInput;
 pub use input::Input;
@@ -28,6 +33,7 @@ pub use mem_input::MemInput;
 pub use mem_sink::MemSink;
 pub use memory::Memory;
 pub use reading::{MAX_LIMIT, ReadEnd, read_whole};
+pub use safe_input::SafeInput;
 pub use sink::Sink;
 pub use std_sink::StdSink;
 pub use writing::write_whole;

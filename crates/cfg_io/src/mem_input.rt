@@ -7,6 +7,7 @@ ghost use Rattle.cfg_io.specs.Script.{FailsNext};
 ghost use Rattle.cfg_io.specs.MemInput.{MemInputState, opened_of, after_failed, after_open, after_read};
 ghost use Rattle.std.proofs.Math.Nat.{min-le_right};
 
+use crate::giving::give;
 use crate::script::fails_next;
 use crate::{Failed, Input};
 use std::marker::Model;
@@ -139,14 +140,4 @@ impl Input for MemInput {
     }
 
     ghost faults_fit = { λ x. min-le_right x.faults most_faults };
-}
-
-// Copies the front of `bytes` to the front of `buf`, as many as there are and fit, `most` at most.
-fn give(bytes: &[u8], most: usize, buf: &mut [u8]) -> usize
-    ensures count { result ≡ min (length buf.old) (min most (length bytes.now)) }
-    ensures copied { buf.new ≡ take result bytes.now ++ drop result buf.old }
-{
-    let n = buf.len().min(most.min(bytes.len()));
-    buf[..n].copy_from_slice(&bytes[..n]);
-    n
 }

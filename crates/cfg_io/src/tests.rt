@@ -1,5 +1,11 @@
-//! Whole readings and writings over objects in memory that fail at a given call.
-use crate::{Failed, Input, MemInput, MemSink, ReadEnd, read_whole, write_whole};
+//! Whole readings and writings over objects in memory that fail at a given call, or never.
+ghost use Rattle.std.specs.Prelude.{◌≡◌, ◌≤◌, true, IsErrOf, OnErr};
+
+use crate::{
+    CountSink, Failed, Input, MAX_LIMIT, MemInput, MemSink, ReadEnd, SafeInput, Sink, read_whole,
+    write_whole,
+};
+use std::alloc::Global;
 use std::test::Fail;
 
 // `count` bytes, no two neighbours alike.
@@ -90,4 +96,54 @@ fn a_sink_fails_at_its_calls(rt: HostRuntime) -> Result<(), Fail> {
         assert!(rt; sink.bytes() == text.as_slice().get(..written).ok_or("short")?);
     }
     Ok(())
+}
+
+#[test]
+fn an_input_that_never_fails(rt: HostRuntime) -> Result<(), Fail> {
+    let alloc = rt.alloc();
+    let mut input = SafeInput::new(sample(&rt, 10)?);
+    input.open("any path")?;
+    let mut buf = [0; 4];
+    assert_eq!(rt; input.read(&mut buf)?, 4);
+    assert_eq!(rt; buf, [0, 1, 2, 3]);
+    assert_eq!(rt; input.read(&mut buf)?, 4);
+    assert_eq!(rt; buf, [4, 5, 6, 7]);
+    assert_eq!(rt; input.read(&mut buf)?, 2);
+    assert_eq!(rt; buf, [8, 9, 6, 7]);
+    assert_eq!(rt; input.read(&mut buf)?, 0);
+
+    let bytes = sample(&rt, 70_000)?;
+    let mut input = SafeInput::new(bytes.clone()?);
+    input.open("any path")?;
+    assert!(rt; read_safely(alloc, &mut input, 70_000)? == bytes);
+    Ok(())
+}
+
+// No read fails, whatever the bytes are.
+#[tactic(auto, using(crate::proofs::Faults::none_rose))]
+fn read_safely(alloc: Global, input: &mut SafeInput, limit: usize) -> Result<Vec<u8>, ReadEnd>
+    requires is_opened { input.old.is_open ≡ true }
+    requires small { limit ≤ MAX_LIMIT }
+    ensures no_fault { IsErrOf result ReadEnd.Read → ⊥ }
+{
+    read_whole(alloc, input, limit)
+}
+
+#[test]
+fn a_sink_that_counts(rt: HostRuntime) -> Result<(), Fail> {
+    let mut sink = CountSink::new();
+    assert_eq!(rt; sink.write(b"four")?, 4);
+    assert_eq!(rt; sink.write(b"and five more")?, 13);
+    assert_eq!(rt; sink.count(), 17);
+    write_safely(&mut sink, &sample(&rt, 70_000)?)?;
+    assert_eq!(rt; sink.count(), 70_017);
+    Ok(())
+}
+
+// All is written, whatever it is.
+#[tactic(auto, using(crate::proofs::Faults::none_rose))]
+fn write_safely(sink: &mut CountSink, bytes: &[u8]) -> Result<(), Failed>
+    ensures no_fault { OnErr result ⊥ }
+{
+    write_whole(sink, bytes)
 }
