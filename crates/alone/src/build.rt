@@ -1,44 +1,21 @@
 //! The closed state of a program and its seeds.
 
-ghost use Rattle.std.specs.Prelude.{◌≡◌, IfOk};
-ghost use Rattle.cfg_model.specs.Reach.{AreSeeds};
-ghost use Rattle.cfg_model.specs.State.{empty_state};
-ghost use Rattle.cfg_model.specs.Kept.{IsClosed};
+ghost use Rattle.std.specs.Prelude.{IfOk};
+ghost use Rattle.cfg_model.specs.Program.Reach.{AreSeeds};
+ghost use Rattle.cfg_model.specs.Builder.Kept.{IsClosed};
 
-use crate::desk::Desk;
-use crate::work::{want_all, work_on};
 use cfg_model::Chains;
-use core_state::{Job, Memory, PlaceEnd, State};
+use core_state::{Memory, State};
 use std::alloc::Global;
-use std::marker::Brand;
+use work_ops::finish;
 
 /// The closed state of the program `code` whose seeds are `seeds`, built on the caller's thread.
-/// [`Memory`] where memory ran out, or after 2^64 - 1 pieces of work, which no program needs.
+/// [`Memory`] where memory ran out.
 pub fn build_alone<C: Chains>(alloc: Global, code: &C, seeds: &[u64]) -> Result<State, Memory>
     requires seeds { AreSeeds (C.map code.now) seeds.now }
-    ensures closed { IfOk result (IsClosed (C.map code.now) seeds.now) }
+    ensures closed { IfOk result (λ state. IsClosed (C.map code.now) seeds.now state.maps) }
 {
-    let desk = Desk::new(alloc)?;
-    match close::<Brand, C>(desk, code, seeds) {
-        Ok(state) => Ok(state),
-        Err(_) => Err(Memory),
-    }
-}
-
-/// Works until nothing is left.
-fn close<J: Job, C: Chains>(desk: Desk, code: &C, seeds: &[u64]) -> Result<State, PlaceEnd>
-    requires code { C.map code.now ≡ J.map }
-    requires job { seeds.now ≡ J.seeds }
-    requires seeds { AreSeeds J.map J.seeds }
-    requires empty { desk.state ≡ empty_state }
-    ensures { IfOk result (IsClosed J.map J.seeds) }
-{
-    let mut desk = desk;
-    want_all::<J, C>(&mut desk, code, seeds)?;
-    for _ in 0..u64::MAX {
-        if !work_on::<J, C>(&mut desk, code, seeds)? {
-            return Ok(desk.state);
-        }
-    }
-    Err(PlaceEnd::Memory)
+    let mut state = State::new(alloc)?;
+    finish(alloc, code, seeds, &mut state)?;
+    Ok(state)
 }

@@ -1,61 +1,11 @@
-//! Worked programs, at addresses from 0 on.
-
-ghost use Rattle.std.specs.Prelude.{◌≡◌, IsTrue};
-ghost use Rattle.cfg_model.specs.Instructions.{IsLawful};
-ghost use Rattle.cfg_model.specs.Sample.{slot_at, listed_at, are_lawful};
+//! Worked programs: `sample_program` has them.
 
 use crate::build_alone;
-use cfg_model::{Chains, Flow};
 use core_state::State;
+use sample_program::{row_6, row_8, row_9, row_10, table_jump};
 use std::process::Abort;
 use std::test::Fail;
-
-/// A program: the length and the flow of the instruction at each address, and the kept targets of
-/// every table jump.
-#[derive(Drop)]
-struct Sample<'a> {
-    slots: &'a [Option<(u8, Flow)>],
-    targets: &'a [u64],
-    ghost lawful: { IsTrue (are_lawful slots.now targets.now) },
-}
-
-impl Sample<'_> {
-    fn slot(&self, a: u64) -> Option<(u8, Flow)>
-        ensures slot { result ≡ slot_at self.now.slots.now a }
-        ensures lawful { IsLawful (listed_at self.now.slots.now self.now.targets.now) }
-    {
-        match self.slots.get(a as usize) {
-            Some(slot) => *slot,
-            None => None,
-        }
-    }
-}
-
-impl Chains for Sample<'_> {
-    ghost map = { λ s. listed_at s.slots.now s.targets.now };
-
-    fn has(&self, a: u64) -> bool {
-        self.slot(a).is_some()
-    }
-
-    fn flow(&self, a: u64) -> Flow {
-        match self.slot(a) {
-            Some((_, flow)) => flow,
-            None => unreachable!(),
-        }
-    }
-
-    fn length(&self, a: u64) -> u8 {
-        match self.slot(a) {
-            Some((bytes, _)) => bytes,
-            None => unreachable!(),
-        }
-    }
-
-    fn target(&self, _a: u64, i: u32) -> u64 {
-        self.targets[i as usize]
-    }
-}
+use work_ops::finish;
 
 /// The starts of a state.
 fn expect_starts(rt: &impl Abort, state: &State, starts: &[u64]) {
@@ -99,34 +49,9 @@ fn expect_terminators(rt: &impl Abort, state: &State, terminators: &[(u64, bool)
 
 /// Row 6: a branch back into its own block.
 #[test]
-fn row_6(rt: HostRuntime) -> Result<(), Fail> {
-    let branch = Flow::Branch {
-        taken: Some(4),
-        fall: Some(12),
-    };
-    let slots = [
-        Some((4, Flow::Straight { next: 4 })),
-        None,
-        None,
-        None,
-        Some((4, Flow::Straight { next: 8 })),
-        None,
-        None,
-        None,
-        Some((4, branch)),
-        None,
-        None,
-        None,
-        Some((4, Flow::Return)),
-    ];
-    let state = build_alone(
-        rt.alloc(),
-        &Sample {
-            slots: &slots,
-            targets: &[],
-        },
-        &[0],
-    )?;
+fn branch_back(rt: HostRuntime) -> Result<(), Fail> {
+    let code = row_6();
+    let state = build_alone(rt.alloc(), &code, code.seeds())?;
     expect_starts(&rt, &state, &[0, 4, 12]);
     expect_ends(&rt, &state, &[(0, 0), (8, 4), (12, 12)]);
     expect_terminators(&rt, &state, &[(8, true), (12, true)]);
@@ -135,30 +60,9 @@ fn row_6(rt: HostRuntime) -> Result<(), Fail> {
 
 /// Row 8: a second stream of instructions that is found late, and joins the first one.
 #[test]
-fn row_8(rt: HostRuntime) -> Result<(), Fail> {
-    let branch = Flow::Branch {
-        taken: Some(2),
-        fall: Some(8),
-    };
-    let slots = [
-        Some((4, Flow::Straight { next: 4 })),
-        None,
-        Some((2, Flow::Straight { next: 4 })),
-        None,
-        Some((4, branch)),
-        None,
-        None,
-        None,
-        Some((4, Flow::Return)),
-    ];
-    let state = build_alone(
-        rt.alloc(),
-        &Sample {
-            slots: &slots,
-            targets: &[],
-        },
-        &[0],
-    )?;
+fn joining_streams(rt: HostRuntime) -> Result<(), Fail> {
+    let code = row_8();
+    let state = build_alone(rt.alloc(), &code, code.seeds())?;
     expect_starts(&rt, &state, &[0, 2, 4, 8]);
     expect_ends(&rt, &state, &[(0, 0), (2, 2), (4, 4), (8, 8)]);
     expect_terminators(&rt, &state, &[(4, true), (8, true)]);
@@ -167,68 +71,20 @@ fn row_8(rt: HostRuntime) -> Result<(), Fail> {
 
 /// Row 9: a function that calls itself, and so never returns.
 #[test]
-fn row_9(rt: HostRuntime) -> Result<(), Fail> {
-    let call = Flow::Call {
-        target: 0,
-        fall: Some(4),
-    };
-    let slots = [Some((4, call)), None, None, None, Some((4, Flow::Return))];
-    let state = build_alone(
-        rt.alloc(),
-        &Sample {
-            slots: &slots,
-            targets: &[],
-        },
-        &[0],
-    )?;
+fn self_call(rt: HostRuntime) -> Result<(), Fail> {
+    let code = row_9();
+    let state = build_alone(rt.alloc(), &code, code.seeds())?;
     expect_starts(&rt, &state, &[0]);
     expect_ends(&rt, &state, &[(0, 0)]);
     expect_terminators(&rt, &state, &[(0, false)]);
     Ok(())
 }
 
-/// Row 10: two functions that call each other, and return.
+/// Row 10: two functions that call each other.
 #[test]
-fn row_10(rt: HostRuntime) -> Result<(), Fail> {
-    let branch = Flow::Branch {
-        taken: Some(8),
-        fall: Some(4),
-    };
-    let call = Flow::Call {
-        target: 12,
-        fall: Some(8),
-    };
-    let back = Flow::Call {
-        target: 0,
-        fall: Some(16),
-    };
-    let slots = [
-        Some((4, branch)),
-        None,
-        None,
-        None,
-        Some((4, call)),
-        None,
-        None,
-        None,
-        Some((4, Flow::Return)),
-        None,
-        None,
-        None,
-        Some((4, back)),
-        None,
-        None,
-        None,
-        Some((4, Flow::Return)),
-    ];
-    let state = build_alone(
-        rt.alloc(),
-        &Sample {
-            slots: &slots,
-            targets: &[],
-        },
-        &[0],
-    )?;
+fn mutual_calls(rt: HostRuntime) -> Result<(), Fail> {
+    let code = row_10();
+    let state = build_alone(rt.alloc(), &code, code.seeds())?;
     expect_starts(&rt, &state, &[0, 4, 8, 12, 16]);
     expect_ends(&rt, &state, &[(0, 0), (4, 4), (8, 8), (12, 12), (16, 16)]);
     expect_terminators(
@@ -239,27 +95,26 @@ fn row_10(rt: HostRuntime) -> Result<(), Fail> {
     Ok(())
 }
 
-/// A table jump with two targets, one of them twice.
+/// A table jump with two targets, one of which is kept twice.
 #[test]
-fn table_jump(rt: HostRuntime) -> Result<(), Fail> {
-    let table = Flow::Table {
-        entries: 3,
-        full: true,
-    };
-    let slots = [
-        Some((2, table)),
-        None,
-        Some((2, Flow::Return)),
-        None,
-        Some((2, Flow::Stop)),
-    ];
-    let code = Sample {
-        slots: &slots,
-        targets: &[4, 2, 4],
-    };
-    let state = build_alone(rt.alloc(), &code, &[0])?;
+fn table_of_three(rt: HostRuntime) -> Result<(), Fail> {
+    let code = table_jump();
+    let state = build_alone(rt.alloc(), &code, code.seeds())?;
     expect_starts(&rt, &state, &[0, 2, 4]);
     expect_ends(&rt, &state, &[(0, 0), (2, 2), (4, 4)]);
     expect_terminators(&rt, &state, &[(0, true), (2, true), (4, false)]);
+    Ok(())
+}
+
+/// A closed state that is finished again stays as it is, its count of changes too.
+#[test]
+fn finished_again(rt: HostRuntime) -> Result<(), Fail> {
+    let code = row_8();
+    let mut state = build_alone(rt.alloc(), &code, code.seeds())?;
+    let changes = state.changes();
+    finish(rt.alloc(), &code, code.seeds(), &mut state)?;
+    assert!(rt; state.changes() == changes);
+    expect_starts(&rt, &state, &[0, 2, 4, 8]);
+    expect_ends(&rt, &state, &[(0, 0), (2, 2), (4, 4), (8, 8)]);
     Ok(())
 }

@@ -4,9 +4,9 @@ use Rattle.std.specs.Prelude.{Option, Some, None, IsSome}
 use Rattle.std.specs.Option.{option_map}
 use Rattle.cfg_model.specs.declared.flow.Flow.{Flow}
 use Rattle.cfg_model.specs.declared.flow.Flow.TheVariants.{Straight}
-use Rattle.cfg_model.specs.Instructions.{InstructionMap, Instruction}
-use Rattle.cfg_model.specs.Chain.{OnChain}
-use Rattle.cfg_model.specs.Meeting.{IsMeeting}
+use Rattle.cfg_model.specs.Program.Instructions.{InstructionMap, Instruction}
+use Rattle.cfg_model.specs.Program.Chain.{OnChain}
+use Rattle.cfg_model.specs.Program.Meeting.{IsMeeting}
 
 has_one : (o : Option Instruction) (flow : Flow) → option_map (λ i. i.flow) o ≡ Some flow → IsSome o
 has_one None flow e = cc

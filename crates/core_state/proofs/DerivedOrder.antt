@@ -3,7 +3,7 @@ use Rattle.std.proofs.Common.{◌≡◌, refl}
 use Rattle.std.specs.Ordering.{nat_cmp, ordering_then}
 use Rattle.cfg_model.specs.declared.state.WaitKind.{WaitKind}
 use Rattle.cfg_model.specs.declared.state.WaitKind.TheVariants.{Follow, Release}
-use Rattle.cfg_model.specs.Waiter.{wait_kind_cmp, waiter_cmp}
+use Rattle.cfg_model.specs.Builder.Waiter.{wait_kind_cmp, waiter_cmp}
 use Rattle.cfg_model.specs.contracts.state.WaiterOrd.TheImpl as derived
 use Rattle.cfg_model.specs.contracts.state.WaitKindOrd.TheImpl as kinds
 

@@ -7,11 +7,11 @@ use Rattle.std.specs.FinMap as maps
 use Rattle.std.specs.FinSet as sets
 use Rattle.std.specs.BTreeMap.{is_at}
 use Rattle.std.specs.Map.{lookup}
-use Rattle.cfg_model.specs.Instructions.{InstructionMap}
-use Rattle.cfg_model.specs.State.{EndMap, EndEntry, IsNear, IsMoved, near_at}
-use Rattle.cfg_model.specs.Event.{Arrives, ArrivesAt, with_settled}
-use Rattle.cfg_model.proofs.MapFacts.{get_here}
-use Rattle.cfg_model.proofs.StateReads.{near_is}
+use Rattle.cfg_model.specs.Program.Instructions.{InstructionMap}
+use Rattle.cfg_model.specs.Builder.State.{EndMap, EndEntry, IsNear, IsMoved, near_at}
+use Rattle.cfg_model.specs.Builder.Event.{Arrives, ArrivesAt, with_settled}
+use Rattle.cfg_model.proofs.Builder.MapFacts.{get_here}
+use Rattle.cfg_model.proofs.Builder.StateReads.{near_is}
 use Rattle.core_state.specs.declared.answer.Arrival.{Arrival}
 use Rattle.core_state.specs.Answer.{arrival_of}
 use Rattle.core_state.specs.Least.{IsLeast}

@@ -4,10 +4,10 @@ use Rattle.std.specs.Prelude.{Option, IsSome, is_some}
 use Rattle.std.specs.Ordering.{nat_cmp}
 use Rattle.std.specs.FinMap as maps
 use Rattle.std.proofs.lemmas.Option.{get_or_from_slice_get, slice_get-get_or}
-use Rattle.cfg_model.specs.Shard.{shard_of}
+use Rattle.cfg_model.specs.Builder.Shard.{shard_of}
 use Rattle.core_state.specs.Joined.{joined, AreShards}
 use Rattle.core_state.specs.Least.{IsLeast, IsAbove}
-use Rattle.core_state.specs.Walk.{IsKey, HaveOwn}
+use Rattle.core_state.specs.inner.Walk.{IsKey, HaveOwn}
 use Rattle.core_state.proofs.Shards.{read_joined, shard_below}
 use Rattle.core_state.proofs.Walks.{least_as}
 

@@ -1,5 +1,5 @@
 -- A walk over keys in their order: what holds of the keys that it has passed.
-use Rattle.std.proofs.Common.{◌≡◌, ◌≢◌, ℕ, ◌+◌, ◌-◌, ◌^◌, ◌<◌, ◌≤◌, subst, sym, arith}
+use Rattle.std.proofs.Common.{◌≡◌, ℕ, ◌+◌, ◌-◌, ◌^◌, ◌<◌, ◌≤◌, subst, arith}
 use Rattle.std.specs.Prelude.{Option, Some, None, ◌⊎◌}
 use mathlib.Core.Logic.{inl, inr}
 use Rattle.core_state.specs.Least.{IsLeast, IsAbove}

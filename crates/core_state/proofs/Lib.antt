@@ -5,7 +5,7 @@ pub mod StartChanges
 pub mod Displaced
 pub mod EndChanges
 pub mod Alone
-pub mod Examples
+pub mod Worked
 pub mod RowChains
 pub mod KeysJoined
 pub mod KeysSeen
@@ -17,3 +17,8 @@ pub mod WaiterChanges
 pub mod TermChanges
 pub mod DerivedOrder
 pub mod StatePlace
+pub mod Counting
+pub mod Among
+pub mod AtEntries
+pub mod AmongShards
+pub mod LeftPieces

@@ -6,8 +6,8 @@ use Rattle.std.specs.Ordering.{nat_cmp}
 use Rattle.std.specs.FinMap as maps
 use Rattle.std.specs.FinSet as sets
 use Rattle.cfg_model.specs.declared.state.Mark.TheVariants as marks
-use Rattle.cfg_model.specs.State.{StartMap, EndMap, EndEntry, TerminatorMap, TerminatorEntry}
-use Rattle.cfg_model.specs.Event.{with_start, with_parsed, with_settled, with_terminator, with_changed, new_entry}
+use Rattle.cfg_model.specs.Builder.State.{StartMap, EndMap, EndEntry, TerminatorMap, TerminatorEntry}
+use Rattle.cfg_model.specs.Builder.Event.{with_start, with_parsed, with_settled, with_terminator, with_changed, new_entry}
 use Rattle.core_state.proofs.Shards.{alter, IsLocal}
 
 -- a value where there is none yet

@@ -7,7 +7,7 @@ use Rattle.std.specs.Cmp.{IsTotalOrder, eq_by_cmp_equiv, nat_cmp_total}
 use Rattle.std.specs.FinMap as maps
 use Rattle.std.specs.BTreeMap.{is_at}
 use Rattle.std.specs.Map.{lookup}
-use Rattle.cfg_model.proofs.MapFacts.{insert_again}
+use Rattle.cfg_model.proofs.Builder.MapFacts.{insert_again}
 use Rattle.core_state.proofs.SeenSet.{is_equal}
 
 -- a list of entries, as another with v put at k: what std says of an insertion

@@ -8,8 +8,8 @@ use Rattle.std.specs.Cmp.{nat_cmp_total}
 use Rattle.std.specs.FinMap as maps
 use Rattle.std.specs.FinMap.{find}
 use Rattle.std.proofs.lemmas.List.{length-set, get_or_default, get_or-set_same, get_or-set_other, set-get_or}
-use Rattle.cfg_model.specs.Shard.{shard_of}
-use Rattle.cfg_model.proofs.MapFacts.{same_or_other, get_here, get_apart}
+use Rattle.cfg_model.specs.Builder.Shard.{shard_of}
+use Rattle.cfg_model.proofs.Builder.MapFacts.{same_or_other, get_here, get_apart}
 use Rattle.core_state.specs.Joined.{all_entries, joined, AreShards}
 
 pub shard_below : (k : ℕ) → shard_of k < 64

@@ -8,8 +8,8 @@ use Rattle.std.specs.BTreeMap.{is_at}
 use Rattle.std.specs.Map.{lookup}
 use Rattle.cfg_model.specs.declared.state.Mark.{Mark}
 use Rattle.cfg_model.specs.declared.state.Mark.TheVariants as marks
-use Rattle.cfg_model.specs.State.{StartMap, IsStart}
-use Rattle.cfg_model.specs.Event.{with_start, with_parsed}
+use Rattle.cfg_model.specs.Builder.State.{StartMap, IsStart}
+use Rattle.cfg_model.specs.Builder.Event.{with_start, with_parsed}
 use Rattle.core_state.proofs.Seen.{found, put, not_there, PutsAt}
 
 start_old : (m : StartMap) (s : ℕ) → maps.contains_key m s ≡ true → m ≡ with_start m s

@@ -7,9 +7,9 @@ use Rattle.std.specs.FinMap as maps
 use Rattle.std.specs.BTreeMap.{is_at}
 use Rattle.std.specs.Map.{lookup}
 use Rattle.cfg_model.specs.declared.state.Waiter.{Waiter}
-use Rattle.cfg_model.specs.Waiter.{waiter_cmp}
-use Rattle.cfg_model.specs.State.{TerminatorMap, TerminatorEntry, IsEntered, IsReturned, WaitsAt, waiters_at}
-use Rattle.cfg_model.specs.Event.{with_terminator, with_changed, new_entry}
+use Rattle.cfg_model.specs.Builder.Waiter.{waiter_cmp}
+use Rattle.cfg_model.specs.Builder.State.{TerminatorMap, TerminatorEntry, IsEntered, IsReturned, WaitsAt, waiters_at}
+use Rattle.cfg_model.specs.Builder.Event.{with_terminator, with_changed, new_entry}
 use Rattle.core_state.specs.Least.{IsLeastBy}
 use Rattle.core_state.specs.Reads.{IsNextToTell}
 use Rattle.core_state.proofs.Seen.{entry, putting, known, PutsAt}
@@ -44,6 +44,10 @@ module _ (es : List (ℕ × TerminatorEntry)) (m : TerminatorMap) (seen : maps.f
   changes change old new had is fs puts =
       putting es m seen k fs new puts ∙ ap (λ e. maps.insert m k e) is
       ∙ sym (ap (λ (o : Option TerminatorEntry). option_map_or (λ e. maps.insert m k (change e)) o m) (entry es m seen k (Some old) had))
+
+  -- where there is no entry, nothing changes
+  pub changes_none : (change : TerminatorEntry → TerminatorEntry) → lookup (is_at (nat_cmp k)) es ≡ None → m ≡ with_changed m k change
+  changes_none change none = sym (ap (λ (o : Option TerminatorEntry). option_map_or (λ e. maps.insert m k (change e)) o m) (entry es m seen k None none))
 
   -- what is read of the entry
   pub read : {Y : Type 0} (f : TerminatorEntry → Y) (o : Option TerminatorEntry) → lookup (is_at (nat_cmp k)) es ≡ o → option_map f o ≡ option_map f (maps.get m k)

@@ -11,13 +11,13 @@ use Rattle.std.specs.FinSet as sets
 use Rattle.std.specs.BTreeMap.{is_at}
 use Rattle.std.specs.Map.{lookup}
 use Rattle.cfg_model.specs.declared.state.Waiter.{Waiter}
-use Rattle.cfg_model.specs.Waiter.{waiter_cmp}
+use Rattle.cfg_model.specs.Builder.Waiter.{waiter_cmp}
 use Rattle.cfg_model.specs.contracts.state.WaiterOrd.TheImpl as derived
-use Rattle.cfg_model.specs.State.{TerminatorEntry}
-use Rattle.cfg_model.specs.Event.{entry_with_waiter, entry_with_told}
-use Rattle.cfg_model.proofs.WaiterOrder.{waiter_cmp_total, exact_waiters}
+use Rattle.cfg_model.specs.Builder.State.{TerminatorEntry}
+use Rattle.cfg_model.specs.Builder.Event.{entry_with_waiter, entry_with_told}
+use Rattle.cfg_model.proofs.Builder.WaiterOrder.{waiter_cmp_total, exact_waiters}
 use Rattle.core_state.specs.Least.{IsLeastBy}
-use Rattle.core_state.specs.Untold.{is_untold, AreUntold}
+use Rattle.core_state.specs.inner.Untold.{is_untold, AreUntold}
 use Rattle.core_state.proofs.DerivedOrder.{derived_order}
 use Rattle.core_state.proofs.Seen.{found, put, take, take_new, PutsAt, TakesAt}
 use Rattle.core_state.proofs.SeenSet.{HasAt, seen_insert, seen_remove}
@@ -90,6 +90,9 @@ waits_now e w none = rw none
 
 pub told_now : (e : TerminatorEntry) (w : Waiter) → IsSome (maps.get e.waiters w) → record e { waiters = maps.insert e.waiters w true } ≡ entry_with_told w e
 told_now e w had = rw had
+
+pub told_never : (e : TerminatorEntry) (w : Waiter) → maps.get e.waiters w ≡ None → e ≡ entry_with_told w e
+told_never e w none = rw none
 
 -- the first untold waiter is the least one whose mark is false
 is_false : (o : Option Bool) → is_untold o ≡ true → o ≡ Some false

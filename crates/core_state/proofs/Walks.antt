@@ -4,10 +4,10 @@ use Rattle.std.specs.Prelude.{Option, Some, None, IsTrue, min, slice_get, MatchO
 use mathlib.Core.Logic.{inl, inr}
 use Rattle.std.proofs.lemmas.Option.{slice_get_read}
 use Rattle.std.proofs.lemmas.Bool.{eqb-true, eqb-false}
-use Rattle.cfg_model.specs.Shard.{shard_of}
-use Rattle.cfg_model.proofs.MapFacts.{same_or_other}
+use Rattle.cfg_model.specs.Builder.Shard.{shard_of}
+use Rattle.cfg_model.proofs.Builder.MapFacts.{same_or_other}
 use Rattle.core_state.specs.Least.{IsLeast, IsAbove}
-use Rattle.core_state.specs.Walk.{IsKey, HaveOwn, lesser_of, is_in_line}
+use Rattle.core_state.specs.inner.Walk.{IsKey, HaveOwn, lesser_of, is_in_line}
 use Rattle.core_state.proofs.Shards.{shard_below}
 
 -- n is the shard of one of the j lines from that line on

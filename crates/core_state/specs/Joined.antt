@@ -2,7 +2,7 @@
 use Rattle.std.specs.Prelude.{◌≡◌, ℕ, List, [], ◌∷◌, ◌++◌, length, IsSome, slice_index_or}
 use Rattle.std.specs.Ordering.{nat_cmp}
 use Rattle.std.specs.FinMap as maps
-use Rattle.cfg_model.specs.Shard.{shard_of}
+use Rattle.cfg_model.specs.Builder.Shard.{shard_of}
 
 -- The entries of all shards, one shard after the other.
 abbrev pub all_entries : {X : Type 0} → List (maps.FinMap nat_cmp X) → List (ℕ × X)

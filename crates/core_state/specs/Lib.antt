@@ -1,10 +1,10 @@
 pub mod Least
 pub mod Answer
-pub mod Untold
 pub mod Reads
 pub mod Joined
 pub mod Leads
-pub mod Walk
+pub mod Counted
 pub mod Sample
 pub mod Place
 pub mod Work
+pub mod inner

@@ -1,8 +1,8 @@
 -- The program of a test.
 use Rattle.std.specs.Prelude.{ℕ, List, [], ◌∷◌, ◌++◌, true}
 use Rattle.cfg_model.specs.declared.flow.Flow.TheVariants.{Table}
-use Rattle.cfg_model.specs.Instructions.{Instruction, InstructionMap}
-use Rattle.cfg_model.proofs.Rows.{placed, row_8_code}
+use Rattle.cfg_model.specs.Program.Instructions.{Instruction, InstructionMap}
+use Rattle.cfg_model.proofs.Worked.Rows.{placed, row_8_code}
 
 -- A table jump to the first instruction of row 8.
 abbrev pub table_jump : Instruction

@@ -1,20 +1,22 @@
-//! A walk along the chains of a program, in the hands of one worker.
+//! Walks along the chains of a program.
 
 ghost use Rattle.std.specs.Prelude.{◌≡◌, ◌≢◌, ℕ, ◌<◌, ◌≤◌, IsSome};
-ghost use Rattle.cfg_model.specs.Chain.{GoesOnTo, OnChain};
-ghost use Rattle.cfg_model.specs.Instructions.{IsLawful};
-ghost use Rattle.cfg_model.specs.Meeting.{IsMeeting};
+ghost use Rattle.cfg_model.specs.Program.Chain.{GoesOnTo, OnChain};
+ghost use Rattle.cfg_model.specs.Program.Instructions.{IsLawful};
+ghost use Rattle.cfg_model.specs.Program.Meeting.{IsMeeting};
 
 use cfg_model::{Chains, Flow};
 
-/// A program as a walk along its chains sees it. A [`Chains`] value is walked [`Along`].
+/// A program as a walk along its chains sees it: the addresses of its instructions, and from a straight
+/// instruction the way on. A [`Chains`] value is walked [`Along`].
 ///
-/// It need not be shared between threads. So a method of a trait can pass it on that was handed a
-/// `Chains` value of any type.
-pub(crate) trait Walk {
+/// Unlike a `Chains` value it need not be shared between threads. So a method of a trait that was handed
+/// a `Chains` value of any type can pass it on: a [`Place`](crate::place::Place) does, where a start
+/// arrives.
+pub trait Walk {
     ghost use Rattle.std.specs.Prelude.{◌↔◌, IsTrue, IsSome, IfSome, IfNone};
-    ghost use Rattle.cfg_model.specs.Chain.{GoesOnTo, IsTerminator};
-    ghost use Rattle.cfg_model.specs.Instructions.{InstructionMap, IsLawful};
+    ghost use Rattle.cfg_model.specs.Program.Chain.{GoesOnTo, IsTerminator};
+    ghost use Rattle.cfg_model.specs.Program.Instructions.{InstructionMap, IsLawful};
 
     /// The instructions, by address.
     ghost map: { Self → InstructionMap };
@@ -33,7 +35,7 @@ pub(crate) trait Walk {
 
 /// A program, to be walked along its chains.
 #[derive(Clone, Copy)]
-pub(crate) struct Along<'a, C>(pub(crate) &'a C);
+pub struct Along<'a, C>(pub &'a C);
 
 impl<C: Chains> Walk for Along<'_, C> {
     ghost map = { λ walk. C.map walk.0.now };

@@ -1,18 +1,22 @@
 //! A shard of the ends of blocks.
 
-ghost use Rattle.std.specs.Prelude.{◌≡◌, ℕ, IsTrue, Some, if◌then◌else◌, OnOk, OnErr, IfOk};
+ghost use Rattle.std.specs.Prelude.{◌≡◌, ℕ, IsTrue, Some, if◌then◌else◌, OnOk, OnErr, IfOk, IfSome, IfNone};
 ghost use Rattle.std.specs.FinMap as maps;
 ghost use Rattle.std.specs.FinSet as sets;
 ghost use Rattle.std.specs.Ordering.{nat_cmp};
-ghost use Rattle.cfg_model.specs.Chain.{OnChain};
-ghost use Rattle.cfg_model.specs.Meeting.{IsMeeting};
-ghost use Rattle.cfg_model.specs.State.{HasEnd, IsNear, IsMoved, near_at};
-ghost use Rattle.cfg_model.specs.Event.{Arrives, ArrivesAt, with_displaced, with_settled};
+ghost use Rattle.cfg_model.specs.Program.Chain.{OnChain};
+ghost use Rattle.cfg_model.specs.Program.Meeting.{IsMeeting};
+ghost use Rattle.cfg_model.specs.Builder.State.{HasEnd, IsNear, IsMoved, near_at};
+ghost use Rattle.cfg_model.specs.Builder.Event.{Arrives, ArrivesAt, with_displaced, with_settled};
 ghost use Rattle.core_state.specs.Answer.{arrival_of, split_into};
+ghost use Rattle.cfg_model.specs.Builder.Left.{Work};
 ghost use Rattle.core_state.specs.Least.{IsLeast};
+ghost use Rattle.core_state.specs.Work.{work_of};
+ghost use Rattle.core_state.specs.inner.Remaining.{LeftAmong, LeftAtEnd};
 
 use crate::along::{Along, Walk, meet_along};
-use crate::answer::Arrival;
+use crate::answer::{Arrival, Name, WorkKind};
+use crate::maps::Maps;
 use crate::memory::Memory;
 use crate::walk::{Keys, least_above};
 use cfg_model::Chains;
@@ -29,8 +33,8 @@ pub struct Ends {
 
 impl Model for Ends {
     ghost use Rattle.std.specs.FinMap as maps;
-    ghost use Rattle.cfg_model.specs.State.{EndMap};
-    ghost use Rattle.cfg_model.specs.StateCode.{coded_ends};
+    ghost use Rattle.cfg_model.specs.Builder.State.{EndMap};
+    ghost use Rattle.cfg_model.specs.Builder.Codes.{coded_ends};
 
     ghost Value = { EndMap };
 
@@ -64,12 +68,7 @@ impl Ends {
     }
 
     /// The same, for a program that is walked along its chains.
-    pub(crate) fn arrive_along<W: Walk>(
-        &mut self,
-        walk: &W,
-        k: u64,
-        s: u64,
-    ) -> Result<Arrival, Memory>
+    pub fn arrive_along<W: Walk>(&mut self, walk: &W, k: u64, s: u64) -> Result<Arrival, Memory>
         requires arriving { OnChain (W.map walk.now) s k }
         requires near { (p : ℕ) → IsNear self.old k p → OnChain (W.map walk.now) p k }
         ensures arrives { OnOk result (ArrivesAt (W.map walk.now) k s self.old self.new) }
@@ -108,6 +107,19 @@ impl Ends {
         let end = self.ends.get(&k)?;
         end.least_moved()
     }
+
+    /// Work that is left at an end. It goes over the shard once.
+    pub(crate) fn left(&self, shards: &Maps) -> Option<Name>
+        ensures some { IfSome result (λ name. LeftAmong (LeftAtEnd shards.now.starts) self.now (work_of name)) }
+        ensures none { IfNone result ((work : Work) → ¬ LeftAmong (LeftAtEnd shards.now.starts) self.now work) }
+    {
+        for (k, end) in &self.ends {
+            if let Some(name) = end.left(*k, shards) {
+                return Some(name);
+            }
+        }
+        None
+    }
 }
 
 impl Keys for Ends {
@@ -127,8 +139,8 @@ struct End {
 
 impl Model for End {
     ghost use Rattle.std.specs.FinSet as sets;
-    ghost use Rattle.cfg_model.specs.State.{EndEntry};
-    ghost use Rattle.cfg_model.specs.StateCode.{coded_end_entry};
+    ghost use Rattle.cfg_model.specs.Builder.State.{EndEntry};
+    ghost use Rattle.cfg_model.specs.Builder.Codes.{coded_end_entry};
 
     ghost Value = { EndEntry };
 
@@ -187,6 +199,27 @@ impl End {
         ensures { IsLeast (λ x. IsTrue (sets.contains self.now.moved x)) result }
     {
         self.moved.first().copied()
+    }
+
+    /// Work that is left at this end, which is at `k`: to place a displaced start, or to make the near
+    /// one a start.
+    fn left(&self, k: u64, shards: &Maps) -> Option<Name>
+        ensures some { IfSome result (λ name. LeftAtEnd shards.now.starts k self.now (work_of name)) }
+        ensures none { IfNone result ((work : Work) → ¬ LeftAtEnd shards.now.starts k self.now work) }
+    {
+        if self.least_moved().is_some() {
+            return Some(Name {
+                kind: WorkKind::Move,
+                key: k,
+            });
+        }
+        match shards.start(self.near) {
+            Some(_) => None,
+            None => Some(Name {
+                kind: WorkKind::Want,
+                key: self.near,
+            }),
+        }
     }
 }
 

@@ -1,7 +1,7 @@
 //! Laws of the state and its nine events, as contracts of functions that do nothing. Each holds for every
 //! lawful program and all seeds.
 
-ghost use Rattle.cfg_model.specs.StateLaws.{EmptyIsKept, EventsKeepKept, EventsBringFacts, StandingIsKnown, KeptIsSound, SoundFactsHold, EventsKeepSound, Confluence, OrdersAgree};
+ghost use Rattle.cfg_model.specs.Builder.Laws.{EmptyIsKept, EventsKeepKept, EventsBringFacts, StandingIsKnown, KeptIsSound, SoundFactsHold, EventsKeepSound, Confluence, OrdersAgree};
 
 /// The empty state is kept, and each event that a state allows keeps it kept. So nothing that was done
 /// with a reason has to be undone.

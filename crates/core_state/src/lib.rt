@@ -3,21 +3,22 @@
 //!
 //! - [`shard()`]: the shard that an address belongs to, of 64.
 //! - [`starts`], [`ends`], [`terms`]: one shard of each of the three maps.
-//! - [`state`]: all shards, as one state.
-//! - [`left`]: the work that is left in a state.
+//! - [`state`]: all shards, as one state that counts its changes, and the work that is left in it.
 //! - [`laws`]: that events keep the state, and that their order does not matter.
+//! - [`along`]: walks along the chains of a program, for a trait's method that was handed one.
 //! - [`place`]: what a builder works on, told or not.
 //! - [`answer`]: what changes answer, and how shards and work are named.
 #![tactic(auto)]
 
 ghost use Rattle.std.specs.Prelude.{◌≡◌};
-ghost use Rattle.cfg_model.specs.Shard.{shard_of};
+ghost use Rattle.cfg_model.specs.Builder.Shard.{shard_of};
 
-mod along;
+pub mod along;
 pub mod answer;
 pub mod ends;
 pub mod laws;
-pub mod left;
+mod left;
+mod maps;
 pub mod memory;
 pub mod place;
 pub mod starts;
@@ -28,6 +29,7 @@ pub mod terms;
 mod tests;
 mod walk;
 
+pub use along::{Along, Walk};
 pub use answer::{Arrival, Name, PlaceEnd, ShardKind, WorkKind};
 pub use ends::Ends;
 pub use laws::{confluence, events_keep_the_state, what_is_known_is_true, what_was_seen_is_known};

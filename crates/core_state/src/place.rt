@@ -8,7 +8,7 @@ use std::marker::Brand;
 /// contracts alone see it.
 pub trait Job {
     ghost use Rattle.std.specs.Prelude.{ℕ, List};
-    ghost use Rattle.cfg_model.specs.Instructions.{InstructionMap};
+    ghost use Rattle.cfg_model.specs.Program.Instructions.{InstructionMap};
 
     /// The instructions, by address.
     ghost map: { InstructionMap };
@@ -33,11 +33,11 @@ impl Job for Brand {
 pub trait Place<J: Job> {
     ghost use Rattle.std.specs.Prelude.{◌≡◌, ◌↔◌, ℕ, ◌≤◌, Option, Some, None, IsTrue, OnOk, OnErr, IfOk, IfErr, IfSome, OnSome, IfNone};
     ghost use Rattle.std.specs.Option.{ForSome};
-    ghost use Rattle.cfg_model.specs.Instructions.{IsLawful};
-    ghost use Rattle.cfg_model.specs.State.{BuilderState, IsStart, IsMoved, IsEntered, IsReturned, WaitsAt, near_at};
-    ghost use Rattle.cfg_model.specs.Event.{Event};
-    ghost use Rattle.cfg_model.specs.Fact.{Fact, Holds, IsSoundFact};
-    ghost use Rattle.cfg_model.specs.Reason.{Reason};
+    ghost use Rattle.cfg_model.specs.Program.Instructions.{IsLawful};
+    ghost use Rattle.cfg_model.specs.Builder.State.{BuilderState, IsStart, IsMoved, IsEntered, IsReturned, WaitsAt, near_at};
+    ghost use Rattle.cfg_model.specs.Builder.Event.{Event};
+    ghost use Rattle.cfg_model.specs.Builder.Fact.{Fact, Holds, IsSoundFact};
+    ghost use Rattle.cfg_model.specs.Builder.Reason.{Reason};
     ghost use Rattle.core_state.specs.Least.{IsLeast};
     ghost use Rattle.core_state.specs.Reads.{IsNextToTell};
     ghost use Rattle.core_state.specs.Place.{AreKept, Makes, Brings, Remembers, near_after, IsArrival, IsBusyAt};

@@ -1,10 +1,14 @@
 //! A shard of the starts of blocks.
 
-ghost use Rattle.std.specs.Prelude.{◌≡◌, ◌↔◌, IsTrue, OnOk, OnErr, IfOk};
+ghost use Rattle.std.specs.Prelude.{◌≡◌, ◌↔◌, IsTrue, OnOk, OnErr, IfOk, IfSome, IfNone};
 ghost use Rattle.std.specs.FinMap as maps;
-ghost use Rattle.cfg_model.specs.State.{IsStart};
-ghost use Rattle.cfg_model.specs.Event.{with_start, with_parsed};
+ghost use Rattle.cfg_model.specs.Builder.State.{IsStart};
+ghost use Rattle.cfg_model.specs.Builder.Event.{with_start, with_parsed};
+ghost use Rattle.cfg_model.specs.Builder.Left.{Work};
+ghost use Rattle.core_state.specs.Work.{work_of};
+ghost use Rattle.core_state.specs.inner.Remaining.{LeftAmong, LeftAtStart};
 
+use crate::answer::{Name, WorkKind};
 use crate::memory::Memory;
 use crate::walk::{Keys, least_above};
 use cfg_model::Mark;
@@ -20,8 +24,8 @@ pub struct Starts {
 
 impl Model for Starts {
     ghost use Rattle.std.specs.FinMap as maps;
-    ghost use Rattle.cfg_model.specs.State.{StartMap};
-    ghost use Rattle.cfg_model.specs.StateCode.{coded_starts};
+    ghost use Rattle.cfg_model.specs.Builder.State.{StartMap};
+    ghost use Rattle.cfg_model.specs.Builder.Codes.{coded_starts};
 
     ghost Value = { StartMap };
 
@@ -69,6 +73,22 @@ impl Starts {
         ensures { result ≡ maps.get self.now s }
     {
         self.marks.get(&s).copied()
+    }
+
+    /// Work that is left at a start: to parse it. It goes over the shard once.
+    pub(crate) fn left(&self) -> Option<Name>
+        ensures some { IfSome result (λ name. LeftAmong LeftAtStart self.now (work_of name)) }
+        ensures none { IfNone result ((work : Work) → ¬ LeftAmong LeftAtStart self.now work) }
+    {
+        for (s, mark) in &self.marks {
+            if let Mark::Wanted = mark {
+                return Some(Name {
+                    kind: WorkKind::Parse,
+                    key: *s,
+                });
+            }
+        }
+        None
     }
 }
 

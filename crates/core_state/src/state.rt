@@ -1,95 +1,105 @@
-//! The whole state, in shards.
+//! The state of a builder: its maps, and the number of changes that were made of them.
 
-ghost use Rattle.std.specs.Prelude.{◌≡◌, ◌↔◌, ℕ, All, length, IsTrue, OnOk, OnErr, IfOk};
+ghost use Rattle.std.specs.Prelude.{◌≡◌, ◌↔◌, ℕ, IsTrue, OnOk, OnErr, IfOk, IfSome, IfNone};
 ghost use Rattle.std.specs.FinMap as maps;
-ghost use Rattle.cfg_model.specs.Chain.{OnChain};
-ghost use Rattle.cfg_model.specs.State.{empty_state, IsStart, HasEnd, IsNear, IsMoved, near_at, IsEntered, IsReturned, WaitsAt};
-ghost use Rattle.cfg_model.specs.Event.{Event, Steps};
+ghost use Rattle.cfg_model.specs.Program.Chain.{OnChain};
+ghost use Rattle.cfg_model.specs.Builder.State.{empty_state, IsStart, HasEnd, IsNear, IsMoved, near_at, IsEntered, IsReturned, WaitsAt};
+ghost use Rattle.cfg_model.specs.Builder.Event.{Event, Steps};
 ghost use Rattle.core_state.specs.Answer.{arrival_of};
+ghost use Rattle.core_state.specs.Counted.{one_more};
 ghost use Rattle.core_state.specs.Joined.{AreShards, joined};
 ghost use Rattle.core_state.specs.Leads.{Leads};
 ghost use Rattle.core_state.specs.Least.{IsLeast, IsAbove};
 ghost use Rattle.core_state.specs.Reads.{done_at, returned_at, IsNextToTell};
+ghost use Rattle.core_state.specs.Work.{work_of};
+ghost use Rattle.cfg_model.specs.Builder.Left.{IsLeft, HasNothingLeft};
 
 use crate::along::{Along, Walk};
-use crate::answer::Arrival;
+use crate::answer::{Arrival, Name};
 use crate::ends::Ends;
+use crate::left::left_of;
+use crate::maps::Maps;
 use crate::memory::Memory;
-use crate::shard;
 use crate::starts::Starts;
 use crate::terms::Terms;
-use crate::walk::key_after;
 use cfg_model::{Chains, Mark, Waiter};
 use std::alloc::Global;
 use std::marker::Model;
 
-/// How many shards there are of each kind.
-const SHARDS: usize = 64;
-
 /// The state of a builder: the starts, the ends and the terminators that are known, each kind in 64
-/// shards by address. Each of the nine changes goes to the shard of its key.
+/// shards by address, and how many changes were made.
+///
+/// Each of the nine changes goes to the shard of its key, and counts, whether it adds something or not.
+/// One that is refused for want of memory does not count.
 #[derive(Drop)]
 pub struct State {
-    starts: Vec<Starts>,
-    ends: Vec<Ends>,
-    terms: Vec<Terms>,
+    maps: Maps,
+    changes: u64,
 }
 
 impl Model for State {
-    ghost use Rattle.cfg_model.specs.State.{BuilderState};
-    ghost use Rattle.cfg_model.specs.StateCode.{coded_state};
-    ghost use Rattle.core_state.specs.Joined.{AreShards, joined};
+    ghost use Rattle.core_state.specs.Counted.{CountedState, coded_counted};
 
-    ghost Value = { BuilderState };
+    ghost Value = { CountedState };
 
-    ghost coded = { coded_state };
+    ghost coded = { coded_counted };
 
-    ghost view = { λ s. record { starts = joined s.starts.items; ends = joined s.ends.items; terminators = joined s.terms.items } };
-
-    ghost invariant = { λ s. AreShards s.starts.items × AreShards s.ends.items × AreShards s.terms.items };
+    ghost view = { λ s. record { maps = s.maps; changes = s.changes } };
 }
 
 impl State {
     /// The state of which nothing is known. [`Memory`] where memory ran out.
     pub fn new(alloc: Global) -> Result<Self, Memory>
-        ensures { IfOk result (λ state. state ≡ empty_state) }
+        ensures { IfOk result (λ state. state ≡ record { maps = empty_state; changes = 0 }) }
     {
-        let starts = empty_starts(alloc)?;
-        let ends = empty_ends(alloc)?;
-        let terms = empty_terms(alloc)?;
-        Ok(Self::of_shards(starts, ends, terms))
+        Ok(State {
+            maps: Maps::new(alloc)?,
+            changes: 0,
+        })
     }
 
-    /// The state that has exactly these shards.
+    /// The state that has exactly these shards, and of which no change was made.
     pub fn of_shards(starts: Vec<Starts>, ends: Vec<Ends>, terms: Vec<Terms>) -> Self
         requires starts { AreShards starts.items }
         requires ends { AreShards ends.items }
         requires terms { AreShards terms.items }
-        ensures { result ≡ record { starts = joined starts.items; ends = joined ends.items; terminators = joined terms.items } }
+        ensures maps { result.maps ≡ record { starts = joined starts.items; ends = joined ends.items; terminators = joined terms.items } }
+        ensures changes { result.changes ≡ 0 }
     {
         State {
-            starts,
-            ends,
-            terms,
+            maps: Maps::of_shards(starts, ends, terms),
+            changes: 0,
         }
+    }
+
+    /// How many changes were made; it stays at 2^64 - 1 once it is there.
+    pub fn changes(&self) -> u64
+        ensures { result ≡ self.now.changes }
+    {
+        self.changes
     }
 
     /// Makes `s` a wanted start, where it is none. Answers whether it is new; [`Memory`] where memory
     /// ran out, and then nothing has changed.
     pub fn want(&mut self, s: u64) -> Result<bool, Memory>
-        ensures wanted { OnOk result (Leads self.old (Event.Want s) self.new) }
-        ensures answer { IfOk result (λ new. IsTrue new ↔ ¬ IsStart self.old.starts s) }
+        ensures wanted { OnOk result (Leads self.old.maps (Event.Want s) self.new.maps) }
+        ensures answer { IfOk result (λ new. IsTrue new ↔ ¬ IsStart self.old.maps.starts s) }
+        ensures counted { OnOk result (self.new.changes ≡ one_more self.old.changes) }
         ensures unchanged { OnErr result (self.new ≡ self.old) }
     {
-        self.starts[shard(s) as usize].want(s)
+        let new = self.maps.want(s)?;
+        self.changes = self.changes.saturating_add(1);
+        Ok(new)
     }
 
     /// Makes the start `s` a parsed one.
     pub fn parsed(&mut self, s: u64)
-        requires { IsStart self.old.starts s }
-        ensures { Leads self.old (Event.Parsed s) self.new }
+        requires { IsStart self.old.maps.starts s }
+        ensures parsed { Leads self.old.maps (Event.Parsed s) self.new.maps }
+        ensures counted { self.new.changes ≡ one_more self.old.changes }
     {
-        self.starts[shard(s) as usize].parsed(s);
+        self.maps.parsed(s);
+        self.changes = self.changes.saturating_add(1);
     }
 
     /// The start `s` arrives at the end `k`: the first one there is near; another one splits the end at
@@ -97,173 +107,173 @@ impl State {
     /// [`Memory`] where memory ran out, and then nothing has changed.
     pub fn arrive<C: Chains>(&mut self, code: &C, k: u64, s: u64) -> Result<Arrival, Memory>
         requires arriving { OnChain (C.map code.now) s k }
-        requires near { (p : ℕ) → IsNear self.old.ends k p → OnChain (C.map code.now) p k }
-        ensures arrives { OnOk result (Steps (C.map code.now) self.old (Event.Arrive k s) self.new) }
-        ensures answer { IfOk result (λ arrival. (m : ℕ) → IsNear self.new.ends k m → arrival ≡ arrival_of s (near_at self.old.ends k) m) }
+        requires near { (p : ℕ) → IsNear self.old.maps.ends k p → OnChain (C.map code.now) p k }
+        ensures arrives { OnOk result (Steps (C.map code.now) self.old.maps (Event.Arrive k s) self.new.maps) }
+        ensures answer { IfOk result (λ arrival. (m : ℕ) → IsNear self.new.maps.ends k m → arrival ≡ arrival_of s (near_at self.old.maps.ends k) m) }
+        ensures counted { OnOk result (self.new.changes ≡ one_more self.old.changes) }
         ensures unchanged { OnErr result (self.new ≡ self.old) }
     {
         self.arrive_along(&Along(code), k, s)
     }
 
     /// The same, for a program that is walked along its chains.
-    pub(crate) fn arrive_along<W: Walk>(
-        &mut self,
-        walk: &W,
-        k: u64,
-        s: u64,
-    ) -> Result<Arrival, Memory>
+    pub fn arrive_along<W: Walk>(&mut self, walk: &W, k: u64, s: u64) -> Result<Arrival, Memory>
         requires arriving { OnChain (W.map walk.now) s k }
-        requires near { (p : ℕ) → IsNear self.old.ends k p → OnChain (W.map walk.now) p k }
-        ensures arrives { OnOk result (Steps (W.map walk.now) self.old (Event.Arrive k s) self.new) }
-        ensures answer { IfOk result (λ arrival. (m : ℕ) → IsNear self.new.ends k m → arrival ≡ arrival_of s (near_at self.old.ends k) m) }
+        requires near { (p : ℕ) → IsNear self.old.maps.ends k p → OnChain (W.map walk.now) p k }
+        ensures arrives { OnOk result (Steps (W.map walk.now) self.old.maps (Event.Arrive k s) self.new.maps) }
+        ensures answer { IfOk result (λ arrival. (m : ℕ) → IsNear self.new.maps.ends k m → arrival ≡ arrival_of s (near_at self.old.maps.ends k) m) }
+        ensures counted { OnOk result (self.new.changes ≡ one_more self.old.changes) }
         ensures unchanged { OnErr result (self.new ≡ self.old) }
     {
-        self.ends[shard(k) as usize].arrive_along(walk, k, s)
+        let arrival = self.maps.arrive_along(walk, k, s)?;
+        self.changes = self.changes.saturating_add(1);
+        Ok(arrival)
     }
 
     /// Takes `x` out of the displaced starts of the end `k`.
     pub fn settle(&mut self, k: u64, x: u64)
-        requires { HasEnd self.old.ends k }
-        ensures { Leads self.old (Event.Settle k x) self.new }
+        requires { HasEnd self.old.maps.ends k }
+        ensures settled { Leads self.old.maps (Event.Settle k x) self.new.maps }
+        ensures counted { self.new.changes ≡ one_more self.old.changes }
     {
-        self.ends[shard(k) as usize].settle(k, x);
+        self.maps.settle(k, x);
+        self.changes = self.changes.saturating_add(1);
     }
 
     /// Enters `k` as a terminator, where it is none. Answers whether it is new; [`Memory`] where memory
     /// ran out, and then nothing has changed.
     pub fn term(&mut self, k: u64) -> Result<bool, Memory>
-        ensures entered { OnOk result (Leads self.old (Event.Terminator k) self.new) }
-        ensures answer { IfOk result (λ new. IsTrue new ↔ ¬ IsEntered self.old.terminators k) }
+        ensures entered { OnOk result (Leads self.old.maps (Event.Terminator k) self.new.maps) }
+        ensures answer { IfOk result (λ new. IsTrue new ↔ ¬ IsEntered self.old.maps.terminators k) }
+        ensures counted { OnOk result (self.new.changes ≡ one_more self.old.changes) }
         ensures unchanged { OnErr result (self.new ≡ self.old) }
     {
-        self.terms[shard(k) as usize].term(k)
+        let new = self.maps.term(k)?;
+        self.changes = self.changes.saturating_add(1);
+        Ok(new)
     }
 
     /// Makes `w` wait at the terminator `k`, untold, where it does not wait there yet. Answers whether
     /// it is new there; [`Memory`] where memory ran out, and then nothing has changed.
     pub fn wait(&mut self, k: u64, w: Waiter) -> Result<bool, Memory>
-        requires { IsEntered self.old.terminators k }
-        ensures waits { OnOk result (Leads self.old (Event.Wait k w) self.new) }
-        ensures answer { IfOk result (λ new. IsTrue new ↔ ¬ WaitsAt self.old.terminators k w) }
+        requires { IsEntered self.old.maps.terminators k }
+        ensures waits { OnOk result (Leads self.old.maps (Event.Wait k w) self.new.maps) }
+        ensures answer { IfOk result (λ new. IsTrue new ↔ ¬ WaitsAt self.old.maps.terminators k w) }
+        ensures counted { OnOk result (self.new.changes ≡ one_more self.old.changes) }
         ensures unchanged { OnErr result (self.new ≡ self.old) }
     {
-        self.terms[shard(k) as usize].wait(k, w)
+        let new = self.maps.wait(k, w)?;
+        self.changes = self.changes.saturating_add(1);
+        Ok(new)
     }
 
     /// Notes that the terminator `k` returns. Answers whether that is new.
     pub fn returned(&mut self, k: u64) -> bool
-        requires { IsEntered self.old.terminators k }
-        ensures returned { Leads self.old (Event.Returned k) self.new }
-        ensures answer { IsTrue result ↔ ¬ IsReturned self.old.terminators k }
+        requires { IsEntered self.old.maps.terminators k }
+        ensures returned { Leads self.old.maps (Event.Returned k) self.new.maps }
+        ensures answer { IsTrue result ↔ ¬ IsReturned self.old.maps.terminators k }
+        ensures counted { self.new.changes ≡ one_more self.old.changes }
     {
-        self.terms[shard(k) as usize].returned(k)
+        let new = self.maps.returned(k);
+        self.changes = self.changes.saturating_add(1);
+        new
     }
 
-    /// Notes that `w` was told that the terminator `k`, at which it waits, returns.
+    /// Notes that `w` was told that the terminator `k` returns. Where `w` does not wait there, no map
+    /// changes.
     pub fn told(&mut self, k: u64, w: Waiter)
-        requires { WaitsAt self.old.terminators k w }
-        ensures { Leads self.old (Event.Told k w) self.new }
+        ensures told { Leads self.old.maps (Event.Told k w) self.new.maps }
+        ensures counted { self.new.changes ≡ one_more self.old.changes }
     {
-        self.terms[shard(k) as usize].told(k, w);
+        self.maps.told(k, w);
+        self.changes = self.changes.saturating_add(1);
     }
 
     /// Notes that the ways on of the terminator `k` are dealt with.
     pub fn edges_done(&mut self, k: u64)
-        requires { IsEntered self.old.terminators k }
-        ensures { Leads self.old (Event.EdgesDone k) self.new }
+        requires { IsEntered self.old.maps.terminators k }
+        ensures done { Leads self.old.maps (Event.EdgesDone k) self.new.maps }
+        ensures counted { self.new.changes ≡ one_more self.old.changes }
     {
-        self.terms[shard(k) as usize].edges_done(k);
+        self.maps.edges_done(k);
+        self.changes = self.changes.saturating_add(1);
     }
 
     /// How far the start `s` has come; `None` exactly where `s` is no start.
     pub fn start(&self, s: u64) -> Option<Mark>
-        ensures { result ≡ maps.get self.now.starts s }
+        ensures { result ≡ maps.get self.now.maps.starts s }
     {
-        self.starts[shard(s) as usize].start(s)
+        self.maps.start(s)
     }
 
     /// The start of the block that ends at `k`; `None` exactly where no block is known to.
     pub fn near(&self, k: u64) -> Option<u64>
-        ensures { result ≡ near_at self.now.ends k }
+        ensures { result ≡ near_at self.now.maps.ends k }
     {
-        self.ends[shard(k) as usize].near(k)
+        self.maps.near(k)
     }
 
     /// The least displaced start of the end `k`; `None` exactly where there is none.
     pub fn moved(&self, k: u64) -> Option<u64>
-        ensures { IsLeast (IsMoved self.now.ends k) result }
+        ensures { IsLeast (IsMoved self.now.maps.ends k) result }
     {
-        self.ends[shard(k) as usize].moved(k)
+        self.maps.moved(k)
     }
 
     /// Whether the ways on of the terminator `k` are dealt with; `None` exactly where `k` is not entered.
     pub fn done(&self, k: u64) -> Option<bool>
-        ensures { result ≡ done_at self.now.terminators k }
+        ensures { result ≡ done_at self.now.maps.terminators k }
     {
-        self.terms[shard(k) as usize].done(k)
+        self.maps.done(k)
     }
 
     /// Whether the terminator `k` is known to return; `None` exactly where `k` is not entered.
     pub fn has_returned(&self, k: u64) -> Option<bool>
-        ensures { result ≡ returned_at self.now.terminators k }
+        ensures { result ≡ returned_at self.now.maps.terminators k }
     {
-        self.terms[shard(k) as usize].has_returned(k)
+        self.maps.has_returned(k)
     }
 
     /// The first waiter that is to be told that `k` returns: the one with the least terminator, and
     /// `Follow` before `Release`. `None` exactly where `k` is not known to return or no waiter is left
     /// to be told.
     pub fn untold(&self, k: u64) -> Option<Waiter>
-        ensures { IsNextToTell self.now.terminators k result }
+        ensures { IsNextToTell self.now.maps.terminators k result }
     {
-        self.terms[shard(k) as usize].untold(k)
+        self.maps.untold(k)
     }
 
     /// The least start above `a`, or the least of all where there is no `a`; `None` exactly where there
     /// is none. It takes little time where the next start is near `a`.
     pub fn start_after(&self, a: Option<u64>) -> Option<u64>
-        ensures { IsLeast (λ s. IsStart self.now.starts s × IsAbove a s) result }
+        ensures { IsLeast (λ s. IsStart self.now.maps.starts s × IsAbove a s) result }
     {
-        key_after(self.starts.as_slice(), a)
+        self.maps.start_after(a)
     }
 
     /// The least end above `a`, or the least of all where there is no `a`; `None` exactly where there is
     /// none. It takes little time where the next end is near `a`.
     pub fn end_after(&self, a: Option<u64>) -> Option<u64>
-        ensures { IsLeast (λ k. HasEnd self.now.ends k × IsAbove a k) result }
+        ensures { IsLeast (λ k. HasEnd self.now.maps.ends k × IsAbove a k) result }
     {
-        key_after(self.ends.as_slice(), a)
+        self.maps.end_after(a)
     }
 
     /// The least terminator above `a`, or the least of all where there is no `a`; `None` exactly where
     /// there is none. It takes little time where the next terminator is near `a`.
     pub fn term_after(&self, a: Option<u64>) -> Option<u64>
-        ensures { IsLeast (λ k. IsEntered self.now.terminators k × IsAbove a k) result }
+        ensures { IsLeast (λ k. IsEntered self.now.maps.terminators k × IsAbove a k) result }
     {
-        key_after(self.terms.as_slice(), a)
+        self.maps.term_after(a)
     }
-}
 
-/// All shards, without starts.
-fn empty_starts(alloc: Global) -> Result<Vec<Starts>, Memory>
-    ensures count { IfOk result (λ v. length v.items ≡ 64) }
-    ensures empty { IfOk result (λ v. All (λ m. m ≡ maps.empty) v.items) }
-{
-    Ok((0..SHARDS).map(|_| Starts::empty(alloc)).collect(alloc)?)
-}
-
-/// All shards, without ends.
-fn empty_ends(alloc: Global) -> Result<Vec<Ends>, Memory>
-    ensures count { IfOk result (λ v. length v.items ≡ 64) }
-    ensures empty { IfOk result (λ v. All (λ m. m ≡ maps.empty) v.items) }
-{
-    Ok((0..SHARDS).map(|_| Ends::empty(alloc)).collect(alloc)?)
-}
-
-/// All shards, without terminators.
-fn empty_terms(alloc: Global) -> Result<Vec<Terms>, Memory>
-    ensures count { IfOk result (λ v. length v.items ≡ 64) }
-    ensures empty { IfOk result (λ v. All (λ m. m ≡ maps.empty) v.items) }
-{
-    Ok((0..SHARDS).map(|_| Terms::empty(alloc)).collect(alloc)?)
+    /// Some work that is left where these addresses are to be starts; `None` exactly where nothing is.
+    /// It takes time linear in the state, so ask it where no work is known otherwise. Nothing is read of
+    /// the program.
+    pub fn left<C: Chains>(&self, _code: &C, seeds: &[u64]) -> Option<Name>
+        ensures some { IfSome result (λ name. IsLeft seeds.now self.now.maps (work_of name)) }
+        ensures none { IfNone result (HasNothingLeft seeds.now self.now.maps) }
+    {
+        left_of(&self.maps, seeds)
+    }
 }

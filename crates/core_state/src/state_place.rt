@@ -8,17 +8,17 @@ use cfg_model::{Chains, Waiter};
 
 impl<J: Job> Place<J> for State {
     ghost use Rattle.std.specs.Prelude.{Some};
-    ghost use Rattle.cfg_model.specs.Fact.{Holds};
-    ghost use Rattle.cfg_model.specs.State.{BuilderState};
+    ghost use Rattle.cfg_model.specs.Builder.Fact.{Holds};
+    ghost use Rattle.cfg_model.specs.Builder.State.{BuilderState};
     ghost use Rattle.std.proofs.Common.{refl, sym, subst};
     ghost use Rattle.std.proofs.lemmas.Option.{same_Some};
-    ghost use Rattle.cfg_model.proofs.SoundLaws.{kept_is_sound, sound_facts_hold};
+    ghost use Rattle.status_laws.proofs.SoundLaws.{kept_is_sound, sound_facts_hold};
 
     ghost busies = { λ _. 0 };
 
-    ghost knows = { λ state. Holds J.map state };
+    ghost knows = { λ state. Holds J.map state.maps };
 
-    ghost maps = { λ state. Some state };
+    ghost maps = { λ state. Some state.maps };
 
     fn want(&mut self, s: u64) -> Result<bool, PlaceEnd> {
         Ok(State::want(self, s)?)
@@ -74,7 +74,7 @@ impl<J: Job> Place<J> for State {
 
     fn found(&mut self, _name: Name) {}
 
-    ghost sound = { λ state kept fact. sound_facts_hold J.map J.seeds state fact (kept_is_sound J.map J.seeds state (kept state refl)) };
+    ghost sound = { λ state kept fact. sound_facts_hold J.map J.seeds state.maps fact (kept_is_sound J.map J.seeds state.maps (kept state.maps refl)) };
 
-    ghost exact = { λ place state told fact. (subst (λ (s : BuilderState). Holds J.map s fact) (same_Some place state told), subst (λ (s : BuilderState). Holds J.map s fact) (sym (same_Some place state told))) };
+    ghost exact = { λ place state told fact. (subst (λ (s : BuilderState). Holds J.map s fact) (same_Some place.maps state told), subst (λ (s : BuilderState). Holds J.map s fact) (sym (same_Some place.maps state told))) };
 }

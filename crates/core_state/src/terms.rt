@@ -1,13 +1,17 @@
 //! A shard of the terminators.
 
-ghost use Rattle.std.specs.Prelude.{◌≡◌, ◌↔◌, false, not, IsTrue, IsSome, Some, OnOk, OnErr, IfOk};
+ghost use Rattle.std.specs.Prelude.{◌≡◌, ◌↔◌, false, not, IsTrue, IsSome, Some, OnOk, OnErr, IfOk, IfSome, IfNone};
 ghost use Rattle.std.specs.FinMap as maps;
-ghost use Rattle.cfg_model.specs.Waiter.{waiter_cmp};
-ghost use Rattle.cfg_model.specs.State.{IsEntered, IsReturned, WaitsAt};
-ghost use Rattle.cfg_model.specs.Event.{new_entry, with_terminator, with_changed, entry_with_waiter, entry_with_told, entry_with_return, entry_with_done};
+ghost use Rattle.cfg_model.specs.Builder.Waiter.{waiter_cmp};
+ghost use Rattle.cfg_model.specs.Builder.State.{IsEntered, IsReturned, WaitsAt};
+ghost use Rattle.cfg_model.specs.Builder.Left.{Work};
+ghost use Rattle.core_state.specs.Work.{work_of};
+ghost use Rattle.core_state.specs.inner.Remaining.{LeftAmong, LeftAtTerminator};
+ghost use Rattle.cfg_model.specs.Builder.Event.{new_entry, with_terminator, with_changed, entry_with_waiter, entry_with_told, entry_with_return, entry_with_done};
 ghost use Rattle.core_state.specs.Least.{IsLeastBy};
 ghost use Rattle.core_state.specs.Reads.{done_at, returned_at, IsNextToTell};
 
+use crate::answer::{Name, WorkKind};
 use crate::memory::Memory;
 use crate::walk::{Keys, least_above};
 use cfg_model::Waiter;
@@ -24,8 +28,8 @@ pub struct Terms {
 
 impl Model for Terms {
     ghost use Rattle.std.specs.FinMap as maps;
-    ghost use Rattle.cfg_model.specs.State.{TerminatorMap};
-    ghost use Rattle.cfg_model.specs.StateCode.{coded_terminators};
+    ghost use Rattle.cfg_model.specs.Builder.State.{TerminatorMap};
+    ghost use Rattle.cfg_model.specs.Builder.Codes.{coded_terminators};
 
     ghost Value = { TerminatorMap };
 
@@ -85,9 +89,9 @@ impl Terms {
         term.set_returned()
     }
 
-    /// Notes that `w` was told that the terminator `k`, at which it waits, returns.
+    /// Notes that `w` was told that the terminator `k` returns. Where `w` does not wait there, nothing
+    /// changes.
     pub fn told(&mut self, k: u64, w: Waiter)
-        requires { WaitsAt self.old k w }
         ensures { self.new ≡ with_changed self.old k (entry_with_told w) }
     {
         if let Some(term) = self.terms.get_mut(&k) {
@@ -130,6 +134,19 @@ impl Terms {
         let term = self.terms.get(&k)?;
         term.next_to_tell()
     }
+
+    /// Work that is left at a terminator. It goes over the shard once.
+    pub(crate) fn left(&self) -> Option<Name>
+        ensures some { IfSome result (λ name. LeftAmong LeftAtTerminator self.now (work_of name)) }
+        ensures none { IfNone result ((work : Work) → ¬ LeftAmong LeftAtTerminator self.now work) }
+    {
+        for (k, term) in &self.terms {
+            if let Some(name) = term.left(*k) {
+                return Some(name);
+            }
+        }
+        None
+    }
 }
 
 impl Keys for Terms {
@@ -153,9 +170,9 @@ struct Terminator {
 impl Model for Terminator {
     ghost use Rattle.std.specs.FinMap as maps;
     ghost use Rattle.std.specs.FinSet as sets;
-    ghost use Rattle.cfg_model.specs.State.{TerminatorEntry};
-    ghost use Rattle.cfg_model.specs.StateCode.{coded_terminator_entry};
-    ghost use Rattle.core_state.specs.Untold.{AreUntold};
+    ghost use Rattle.cfg_model.specs.Builder.State.{TerminatorEntry};
+    ghost use Rattle.cfg_model.specs.Builder.Codes.{coded_terminator_entry};
+    ghost use Rattle.core_state.specs.inner.Untold.{AreUntold};
 
     ghost Value = { TerminatorEntry };
 
@@ -207,9 +224,8 @@ impl Terminator {
         new
     }
 
-    /// Notes that `w` was told.
+    /// Notes that `w` was told, where it waits.
     fn tell(&mut self, w: Waiter)
-        requires { IsSome (maps.get self.old.waiters w) }
         ensures { self.new ≡ entry_with_told w self.old }
     {
         if let Some(told) = self.waiters.get_mut(&w) {
@@ -233,6 +249,27 @@ impl Terminator {
             self.untold.first().copied()
         } else {
             None
+        }
+    }
+
+    /// Work that is left at this terminator, which is at `k`: to deal with its ways on, or to tell a
+    /// waiter.
+    fn left(&self, k: u64) -> Option<Name>
+        ensures some { IfSome result (λ name. LeftAtTerminator k self.now (work_of name)) }
+        ensures none { IfNone result ((work : Work) → ¬ LeftAtTerminator k self.now work) }
+    {
+        if !self.done {
+            return Some(Name {
+                kind: WorkKind::Edges,
+                key: k,
+            });
+        }
+        match self.next_to_tell() {
+            Some(_) => Some(Name {
+                kind: WorkKind::Tell,
+                key: k,
+            }),
+            None => None,
         }
     }
 }

@@ -2,12 +2,16 @@
 
 ghost use Rattle.std.specs.Prelude.{◌≡◌};
 ghost use Rattle.std.specs.Option.{option_map};
-ghost use Rattle.cfg_model.specs.Instructions.{IsLawful};
+ghost use Rattle.cfg_model.specs.Program.Instructions.{IsLawful};
 ghost use Rattle.core_state.specs.Sample.{row_23};
 
-use crate::answer::Arrival;
+use crate::answer::{Arrival, Name, WorkKind};
+use crate::ends::Ends;
+use crate::starts::Starts;
 use crate::state::State;
+use crate::terms::Terms;
 use cfg_model::{Chains, Flow, Mark, WaitKind, Waiter};
+use std::marker::Send;
 use std::process::Abort;
 use std::test::Fail;
 
@@ -170,6 +174,33 @@ fn finish_first(rt: &impl Abort, state: &mut State) -> Result<(), Fail> {
     Ok(())
 }
 
+/// Work that is left: of an empty state the seeds, and of this one what was not dealt with.
+fn find_left(rt: &impl Abort, empty: &State, state: &State) {
+    let seed = Name {
+        kind: WorkKind::Want,
+        key: 0x10000,
+    };
+    assert_eq!(rt; empty.left(&Program, &[]), None);
+    assert_eq!(rt; empty.left(&Program, &[0x10000]), Some(seed));
+    assert!(rt; state.left(&Program, &[0x10000]).is_some());
+}
+
+/// Each change counts, whether it adds something or not.
+fn count_changes(rt: &impl Abort, empty: &State, state: &State) {
+    assert_eq!(rt; empty.changes(), 0);
+    assert_eq!(rt; state.changes(), 20);
+}
+
+/// A value that another thread may take.
+fn movable<T: Send>(_value: &T) {}
+
+#[test]
+fn shards_cross_threads(rt: HostRuntime) {
+    movable(&Starts::empty(rt.alloc()));
+    movable(&Ends::empty(rt.alloc()));
+    movable(&Terms::empty(rt.alloc()));
+}
+
 /// The keys in their order, near ones and one that is far from all others.
 fn walk_keys(rt: &impl Abort, state: &mut State) -> Result<(), Fail> {
     assert_eq!(rt; state.want(0x7fff_ffff_ffff_ffff)?, true);
@@ -197,5 +228,9 @@ fn row_23(rt: HostRuntime) -> Result<(), Fail> {
     wait_for_return(&rt, &mut state)?;
     tell_of_return(&rt, &mut state)?;
     finish_first(&rt, &mut state)?;
-    walk_keys(&rt, &mut state)
+    walk_keys(&rt, &mut state)?;
+    let empty = State::new(rt.alloc())?;
+    find_left(&rt, &empty, &state);
+    count_changes(&rt, &empty, &state);
+    Ok(())
 }

@@ -4,7 +4,7 @@ ghost use Rattle.std.specs.Prelude.{◌≡◌, ◌/◌, ◌<◌, ◌^◌, IsTrue
 ghost use Rattle.std.specs.Ordering.{nat_cmp};
 ghost use Rattle.std.specs.BTreeMap as tree;
 ghost use Rattle.core_state.specs.Least.{IsLeast, IsAbove};
-ghost use Rattle.core_state.specs.Walk.{IsKey, HaveOwn, lesser_of, is_in_line};
+ghost use Rattle.core_state.specs.inner.Walk.{IsKey, HaveOwn, lesser_of, is_in_line};
 
 use std::collections::BTreeMap;
 use std::ops::Bound;

@@ -1,20 +1,21 @@
 -- What an arrival and the changes after it leave of the ends, where the maps are told.
-use Rattle.std.proofs.Common.{◌≡◌, ℕ, List, Bool, true, false, refl, sym, ap, subst, ◌∙◌}
+use Rattle.std.proofs.Common.{◌≡◌, ℕ, ◌<◌, arith, List, Bool, true, false, refl, sym, ap, subst, ◌∙◌}
 use Rattle.std.specs.Prelude.{Option, Some, None, Result, Ok, Err, OnOk, OnErr, ◌==◌, if◌then◌else◌, min, max}
-use Rattle.std.specs.Option.{option_map}
+use Rattle.std.specs.Option.{ForSome, option_map}
 use Rattle.std.specs.FinMap as maps
 use mathlib.Core.Logic.{inl, inr}
 use Rattle.std.proofs.lemmas.Bool.{eq-eqb, ne_eqb}
-use Rattle.cfg_model.specs.Instructions.{InstructionMap}
-use Rattle.cfg_model.specs.State.{BuilderState, EndMap, EndEntry, IsNear, near_at}
-use Rattle.cfg_model.specs.Event.{Event, Steps, Arrives}
-use Rattle.cfg_model.proofs.MapFacts.{get_here}
-use Rattle.cfg_model.proofs.StateReads.{near_is}
+use Rattle.cfg_model.specs.Program.Instructions.{InstructionMap}
+use Rattle.cfg_model.specs.Builder.State.{BuilderState, EndMap, EndEntry, IsNear, IsMoved}
+use Rattle.cfg_model.specs.Builder.Event.{Event, Steps, Arrives, ArrivesAt, with_settled}
+use Rattle.cfg_model.proofs.Builder.MapFacts.{get_here}
+use Rattle.cfg_model.proofs.Builder.StateReads.{near_is}
 use Rattle.core_state.specs.declared.answer.Arrival.{Arrival}
 use Rattle.core_state.specs.declared.answer.Arrival.TheVariants.{Same, Split}
 use Rattle.core_state.specs.Answer.{arrival_of, split_into}
-use Rattle.core_state.specs.Place.{Makes, near_after, IsArrival}
-use Rattle.work_ops.specs.Going.{SameEnds}
+use Rattle.core_state.specs.Place.{Makes, WhereTold, near_after, IsArrival}
+use Rattle.core_state.specs.Least.{IsLeast}
+use Rattle.work_ops.specs.Going.{SameEnds, MovesStart, MovesFirst}
 
 same_told : (a b : BuilderState) → Some a ≡ Some b → a ≡ b
 same_told a b e = cc
@@ -87,3 +88,56 @@ module _ (map : InstructionMap) (seeds : List ℕ) (k s : ℕ) where
       let same : mid.ends ≡ maps.insert a.ends k entry = ap (λ (x : BuilderState). x.ends) (same_told mid new (sym is ∙ told) ∙ step) ∙ inserted in
       ap (near_after s) (answer a mid refl is m near)
       ∙ arrived_by map s m (maps.get a.ends k) entry arrives (near_inserted a.ends k m entry (subst (λ (e : EndMap). IsNear e k m) same near))
+
+-- Where the ends change, and other calls let them alone.
+
+module _ (R : EndMap → EndMap → Type 0) where
+  abbrev pub EndsGo : BuilderState → BuilderState → Type 0
+  EndsGo old new = R old.ends new.ends
+
+  pub ends_gone : (a b c : Option BuilderState) → WhereTold EndsGo a b → SameEnds b c → WhereTold EndsGo a c
+  ends_gone None b c none same = subst (λ o. SameEnds o c) none same
+  ends_gone (Some a) b c (mid, is, one) same = further (subst (λ o. SameEnds o c) is same)
+    where
+      further : SameEnds (Some mid) c → WhereTold EndsGo (Some a) c
+      further (last, is_last, ends) = (last, is_last, subst (R a.ends) (sym ends) one)
+
+  pub ends_come : (a b c : Option BuilderState) → SameEnds a b → WhereTold EndsGo b c → WhereTold EndsGo a c
+  ends_come None b c none goes = subst (λ o. WhereTold EndsGo o c) none goes
+  ends_come (Some a) b c (mid, is, ends) goes = further (subst (λ o. WhereTold EndsGo o c) is goes)
+    where
+      further : WhereTold EndsGo (Some mid) c → WhereTold EndsGo (Some a) c
+      further (last, is_last, one) = (last, is_last, subst (λ e. R e last.ends) ends one)
+
+module _ (map : InstructionMap) (seeds : List ℕ) (k s : ℕ) where
+  pub arrived_there : (a b : Option BuilderState) → Makes map seeds (Event.Arrive k s) a b → WhereTold (EndsGo (ArrivesAt map k s)) a b
+  arrived_there None b none = none
+  arrived_there (Some a) b (new, told, (may, (ends, arrives, step))) = (new, told, subst (ArrivesAt map k s a.ends) (sym (ap (λ (x : BuilderState). x.ends) step)) arrives)
+
+  pub settled_there : (a b c : Option BuilderState) → Makes map seeds (Event.Settle k s) a b → c ≡ b → WhereTold (EndsGo (λ old new. new ≡ with_settled old k s)) a c
+  settled_there None b c none same = same ∙ none
+  settled_there (Some a) b c (new, told, (may, step)) same = (new, same ∙ told, ap (λ (x : BuilderState). x.ends) step)
+
+-- a displaced start that arrived before its end and left it
+pub moved_before : (map : InstructionMap) (k x at : ℕ) → at < k → (a b c : Option BuilderState) → WhereTold (EndsGo (ArrivesAt map at x)) a b → WhereTold (EndsGo (λ old new. new ≡ with_settled old k x)) b c → WhereTold (MovesStart map k x) a c
+moved_before map k x at before None b c none settles = subst (λ o. WhereTold (EndsGo (λ old new. new ≡ with_settled old k x)) o c) none settles
+moved_before map k x at before (Some a) b c (mid, is, arrives) settles = further (subst (λ o. WhereTold (EndsGo (λ old new. new ≡ with_settled old k x)) o c) is settles)
+  where
+    further : WhereTold (EndsGo (λ old new. new ≡ with_settled old k x)) (Some mid) c → WhereTold (MovesStart map k x) (Some a) c
+    further (last, is_last, settled) = (last, is_last, record { at = at; before = before; mid = mid.ends; arrives = arrives; settles = settled })
+
+least_once : (P : ℕ → Type 0) (x y : ℕ) → IsLeast P (Some x) → IsLeast P (Some y) → x ≡ y
+least_once P x y one other = let low = one.1 y other.0 in let high = other.1 x one.0 in omega (arith, low, high)
+
+-- it was the least displaced one
+pub moved_first : (map : InstructionMap) (k x : ℕ) (o : Option ℕ) (old mid new : Option BuilderState) → o ≡ Some x → mid ≡ old → ForSome old (λ state. IsLeast (IsMoved state.ends k) o) → WhereTold (MovesStart map k x) mid new → WhereTold (MovesFirst map k) old new
+moved_first map k x o None mid new found same least moves = subst (λ p. WhereTold (MovesStart map k x) p new) same moves
+moved_first map k x o (Some old) mid new found same least moves = by (subst (λ p. WhereTold (MovesStart map k x) p new) same moves)
+  where
+    by : WhereTold (MovesStart map k x) (Some old) new → WhereTold (MovesFirst map k) (Some old) new
+    by (state, told, moved) = (state, told, λ y is. subst (λ z. MovesStart map k z old state) (least_once (IsMoved old.ends k) x y (subst (IsLeast (IsMoved old.ends k)) found (least old refl)) is) moved)
+
+-- and there was none
+pub moved_none : (map : InstructionMap) (k : ℕ) (o : Option ℕ) (old new : Option BuilderState) → o ≡ None → new ≡ old → ForSome old (λ state. IsLeast (IsMoved state.ends k) o) → WhereTold (MovesFirst map k) old new
+moved_none map k o None new none same least = same
+moved_none map k o (Some old) new none same least = (old, same, λ y is. absurd (subst (IsLeast (IsMoved old.ends k)) none (least old refl) y is.0))

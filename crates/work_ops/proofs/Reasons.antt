@@ -1,5 +1,5 @@
 -- The reasons for what an operation does, from what it read and did before.
-use Rattle.std.proofs.Common.{◌≡◌, ℕ, ◌<◌, List, [], ◌∷◌, length, refl, sym, ap, subst, ◌∙◌, arith}
+use Rattle.std.proofs.Common.{◌≡◌, ℕ, ◌<◌, List, [], length, refl, sym, ap, subst, ◌∙◌, arith}
 use Rattle.std.specs.Prelude.{Option, Some, None, IsSome, Contains, Bool, slice_get, option_to_list}
 use mathlib.Core.Logic.{inl, inr}
 use Rattle.std.specs.Option.{ForSome}
@@ -8,29 +8,28 @@ use Rattle.std.proofs.lemmas.List.Elements.{All-contains, Contains-append_right,
 use Rattle.cfg_model.specs.declared.flow.Flow.{Flow}
 use Rattle.cfg_model.specs.declared.flow.Flow.TheVariants.{Straight, Branch, Jump, Call, IndirectCall, Table, Return, Unknown, Stop}
 use Rattle.cfg_model.specs.declared.state.Waiter.{Waiter}
-use Rattle.cfg_model.specs.Instructions.{InstructionMap, IsLawful, flow_at, targets_at}
-use Rattle.cfg_model.specs.Chain.{OnChain, GoesOnTo, IsTerminator, IsTerminatorOf, EndsChain}
-use Rattle.cfg_model.specs.Successors.{IsSuccessor, IsCall, ReturnsByItself, successors_by, successors_of_flow}
-use Rattle.cfg_model.specs.Reach.{AreSeeds, Reached}
-use Rattle.cfg_model.specs.Rounds.{to_successor, to_target, to_fall}
-use Rattle.cfg_model.specs.Leader.{IsLeader}
-use Rattle.cfg_model.specs.Waiter.{follower, released}
-use Rattle.cfg_model.specs.Waits.{FollowsFrom, IsTarget, IsWait}
-use Rattle.cfg_model.specs.Fact.{Fact, IsReachedTerminator}
-use Rattle.cfg_model.specs.Reason.{SettleReason, ArriveReason, WaitReason, DoneReason}
-use Rattle.cfg_model.proofs.Steps.{leads_known, successor_from_flow, successor_to_flow}
-use Rattle.cfg_model.proofs.Listed.{none_in, in_cases, head_in}
-use Rattle.cfg_model.proofs.ChainFacts.{chain_up, goes_up}
-use Rattle.cfg_model.proofs.SettledLaws.{one_end}
+use Rattle.cfg_model.specs.Program.Instructions.{InstructionMap, IsLawful, flow_at, targets_at}
+use Rattle.cfg_model.specs.Program.Chain.{OnChain, GoesOnTo, IsTerminator, IsTerminatorOf, EndsChain}
+use Rattle.cfg_model.specs.Program.Successors.{IsSuccessor, IsCall, ReturnsByItself, successors_by, successors_of_flow}
+use Rattle.cfg_model.specs.Program.Reach.{AreSeeds, Reached}
+use Rattle.cfg_model.specs.Graph.Leader.{IsLeader}
+use Rattle.cfg_model.specs.Builder.Waiter.{follower, released}
+use Rattle.cfg_model.specs.Builder.Waits.{FollowsFrom, IsTarget, IsWait}
+use Rattle.cfg_model.specs.Builder.Fact.{Fact, IsReachedTerminator}
+use Rattle.cfg_model.specs.Builder.Reason.{SettleReason, ArriveReason, WaitReason, DoneReason}
+use Rattle.cfg_model.proofs.Program.Known.{successor_known, target_known, fall_known, successor_from_flow, successor_to_flow}
+use Rattle.cfg_model.proofs.Program.Listed.{none_in, in_cases, head_in}
+use Rattle.cfg_model.proofs.Program.ChainFacts.{chain_up, goes_up}
+use Rattle.cfg_model.proofs.Program.ChainEnds.{one_end}
 use Rattle.work_ops.specs.Done.{IsFollowed, AreFollowed, IsCalled, IsFreed}
 
 module _ (map : InstructionMap) where
   -- an instruction stands at each reachable address
   reached_stands : (seeds : List ℕ) → IsLawful map → AreSeeds map seeds → {a : ℕ} → Reached map seeds a → IsSome (map a)
   reached_stands seeds lawful are (Reached.seed {a = a} c) = All-contains (λ x. IsSome (map x)) seeds a are.known c
-  reached_stands seeds lawful are (Reached.onward {a = a} {b = b} r successor) = leads_known map lawful [] a b (to_successor successor)
-  reached_stands seeds lawful are (Reached.called {a = a} {target = target} r call) = leads_known map lawful [] a target (to_target call)
-  reached_stands seeds lawful are (Reached.past_call {a = a} {target = target} {fall = fall} r call back) = leads_known map lawful (target ∷ []) a fall (to_fall call (head_in target []))
+  reached_stands seeds lawful are (Reached.onward {a = a} {b = b} r successor) = successor_known map lawful a b successor
+  reached_stands seeds lawful are (Reached.called {a = a} {target = target} r call) = target_known map lawful a target call
+  reached_stands seeds lawful are (Reached.past_call {a = a} {target = target} {fall = fall} r call back) = fall_known map lawful a target fall call
 
   pub leader_stands : (seeds : List ℕ) → IsLawful map → AreSeeds map seeds → (a : ℕ) → IsLeader map seeds a → IsSome (map a)
   leader_stands seeds lawful are a lead = reached_stands seeds lawful are lead.reached

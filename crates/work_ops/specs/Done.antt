@@ -1,10 +1,10 @@
 -- What is known of a terminator once its edges were followed.
 use Rattle.std.specs.Prelude.{ℕ, Option, Some}
-use Rattle.cfg_model.specs.Instructions.{InstructionMap}
-use Rattle.cfg_model.specs.Chain.{IsTerminatorOf}
-use Rattle.cfg_model.specs.Successors.{IsSuccessor, IsCall}
-use Rattle.cfg_model.specs.Waiter.{follower, released}
-use Rattle.cfg_model.specs.Fact.{Fact}
+use Rattle.cfg_model.specs.Program.Instructions.{InstructionMap}
+use Rattle.cfg_model.specs.Program.Chain.{IsTerminatorOf}
+use Rattle.cfg_model.specs.Program.Successors.{IsSuccessor, IsCall}
+use Rattle.cfg_model.specs.Builder.Waiter.{follower, released}
+use Rattle.cfg_model.specs.Builder.Fact.{Fact}
 
 -- The way from the terminator k to this address was followed: it is a start, and k waits at the end of
 -- its chain.

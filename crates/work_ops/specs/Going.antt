@@ -1,13 +1,13 @@
 -- What an operation makes of the place that it works on.
-use Rattle.std.specs.Prelude.{◌≡◌, ℕ, ◌<◌, ◌≤◌, List, Option, MatchOption}
+use Rattle.std.specs.Prelude.{◌≡◌, ℕ, ◌<◌, ◌≤◌, List, Option, Some, MatchOption}
 use Rattle.std.specs.Option.{ForSome}
 use Rattle.cfg_model.specs.declared.state.Waiter.{Waiter}
-use Rattle.cfg_model.specs.Instructions.{InstructionMap}
-use Rattle.cfg_model.specs.State.{BuilderState, IsStart, IsNear, IsMoved, IsTold}
-use Rattle.cfg_model.specs.Chain.{IsTerminatorOf}
-use Rattle.cfg_model.specs.Event.{Event}
-use Rattle.cfg_model.specs.Fact.{Fact}
-use Rattle.cfg_model.specs.Run.{IsRun}
+use Rattle.cfg_model.specs.Program.Instructions.{InstructionMap}
+use Rattle.cfg_model.specs.Builder.State.{BuilderState, EndMap, IsStart, IsNear, IsMoved, IsTold}
+use Rattle.cfg_model.specs.Program.Chain.{IsTerminatorOf}
+use Rattle.cfg_model.specs.Builder.Event.{Event, ArrivesAt, with_settled}
+use Rattle.cfg_model.specs.Builder.Fact.{Fact}
+use Rattle.cfg_model.specs.Builder.Run.{IsRun}
 use Rattle.core_state.specs.declared.answer.PlaceEnd.{PlaceEnd}
 use Rattle.core_state.specs.declared.answer.PlaceEnd.TheVariants.{Busy, Memory}
 use Rattle.core_state.specs.Least.{IsLeast}
@@ -54,3 +54,19 @@ TellsNext k old new = (next : Option Waiter) × IsNextToTell old.terminators k n
 -- Where the maps are told, x is not displaced at k.
 abbrev pub IsMovedNoMore : ℕ → ℕ → Option BuilderState → Type 0
 IsMovedNoMore k x maps = ForSome maps (λ state. ¬ IsMoved state.ends k x)
+
+-- The displaced start x of the end k was placed: it arrived at an end before k, and left k then.
+pub record MovesBefore (map : InstructionMap) (k x : ℕ) (old new : EndMap) : Type 0 where
+  pub at : ℕ
+  pub before : at < k
+  pub mid : EndMap
+  pub arrives : ArrivesAt map at x old mid
+  pub settles : new ≡ with_settled mid k x
+
+abbrev pub MovesStart : InstructionMap → ℕ → ℕ → BuilderState → BuilderState → Type 0
+MovesStart map k x old new = MovesBefore map k x old.ends new.ends
+
+-- So was the least displaced start of k, where there was one.
+abbrev pub MovesFirst : InstructionMap → ℕ → BuilderState → BuilderState → Type 0
+MovesFirst map k old new =
+    (x : ℕ) → IsLeast (IsMoved old.ends k) (Some x) → MovesStart map k x old new

@@ -1,8 +1,8 @@
 //! What the code of a job tells of it.
 
 ghost use Rattle.std.specs.Prelude.{◌≡◌, ◌<◌, IsSome, Some, length, slice_get};
-ghost use Rattle.cfg_model.specs.Instructions.{IsLawful, flow_at, targets_at};
-ghost use Rattle.cfg_model.specs.Chain.{IsTerminatorOf};
+ghost use Rattle.cfg_model.specs.Program.Instructions.{IsLawful, flow_at, targets_at};
+ghost use Rattle.cfg_model.specs.Program.Chain.{IsTerminatorOf};
 
 use cfg_model::{Chains, Flow, term};
 use core_state::Job;

@@ -2,10 +2,10 @@
 
 ghost use Rattle.std.specs.Prelude.{◌≡◌, ℕ, ◌≤◌, ◌↔◌, OnOk, IfErr, IsTrue, Some, Contains, length};
 ghost use Rattle.std.specs.Option.{ForSome};
-ghost use Rattle.cfg_model.specs.Instructions.{IsLawful, flow_at, targets_at};
-ghost use Rattle.cfg_model.specs.Successors.{IsSuccessor, IsCall, LeavesFunction, ReturnsByItself};
-ghost use Rattle.cfg_model.specs.Reach.{AreSeeds};
-ghost use Rattle.cfg_model.specs.Fact.{Fact};
+ghost use Rattle.cfg_model.specs.Program.Instructions.{IsLawful, flow_at, targets_at};
+ghost use Rattle.cfg_model.specs.Program.Successors.{IsSuccessor, IsCall, LeavesFunction, ReturnsByItself};
+ghost use Rattle.cfg_model.specs.Program.Reach.{AreSeeds};
+ghost use Rattle.cfg_model.specs.Builder.Fact.{Fact};
 ghost use Rattle.core_state.specs.Place.{AreKept, Remembers};
 ghost use Rattle.work_ops.specs.Going.{Runs, RoseIfBusy, Went};
 ghost use Rattle.work_ops.specs.Done.{IsFollowed, AreFollowed, IsCalled};

@@ -8,16 +8,21 @@
 //! - [`move_op`]: places a start that was displaced by a split.
 //! - [`edges_op`]: follows the edges of a terminator.
 //! - [`tell_op`]: tells a waiter that a terminator returns.
+//! - [`finish`]: works on a whole state until nothing is left.
 #![tactic(auto)]
 
+mod closing;
 mod code;
+mod desk;
 mod edges;
 mod moves;
 mod parse;
 mod parts;
 mod tell;
 mod want;
+mod work;
 
+pub use closing::finish;
 pub use edges::edges_op;
 pub use moves::move_op;
 pub use parse::parse_op;

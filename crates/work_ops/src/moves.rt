@@ -1,13 +1,14 @@
 //! Placing a start that was displaced by a split.
 
 ghost use Rattle.std.specs.Prelude.{◌≡◌, ◌≢◌, ◌≤◌, ◌↔◌, OnOk, IfErr, IsSome, IsTrue};
-ghost use Rattle.cfg_model.specs.Instructions.{IsLawful};
-ghost use Rattle.cfg_model.specs.Chain.{OnChain, GoesOnTo};
-ghost use Rattle.cfg_model.specs.Reach.{AreSeeds};
-ghost use Rattle.cfg_model.specs.Fact.{Fact};
-ghost use Rattle.cfg_model.specs.Reason.{SettleReason};
+ghost use Rattle.cfg_model.specs.Program.Instructions.{IsLawful};
+ghost use Rattle.cfg_model.specs.Program.Chain.{OnChain, GoesOnTo};
+ghost use Rattle.cfg_model.specs.Program.Reach.{AreSeeds};
+ghost use Rattle.cfg_model.specs.Builder.Event.{with_settled};
+ghost use Rattle.cfg_model.specs.Builder.Fact.{Fact};
+ghost use Rattle.cfg_model.specs.Builder.Reason.{SettleReason};
 ghost use Rattle.core_state.specs.Place.{AreKept, WhereTold, Remembers};
-ghost use Rattle.work_ops.specs.Going.{Runs, RoseIfBusy, Went, PlacesFirst, IsMovedNoMore};
+ghost use Rattle.work_ops.specs.Going.{Runs, RoseIfBusy, Went, PlacesFirst, MovesFirst, MovesStart, IsMovedNoMore};
 
 use crate::code::ask;
 use crate::parts::{arrive_at, start};
@@ -32,6 +33,7 @@ pub fn move_op<J: Job, P: Place<J>, C: Chains>(
     ensures counted { P.busies place.old ≤ P.busies place.new }
     ensures busy { IfErr result (RoseIfBusy (P.busies place.old) (P.busies place.new)) }
     ensures moved { OnOk result (WhereTold (PlacesFirst k) (P.maps place.old) (P.maps place.new)) }
+    ensures placed { OnOk result (WhereTold (MovesFirst J.map k) (P.maps place.old) (P.maps place.new)) }
 {
     ask::<J, C>(code, k);
     let Some(x) = place.moved(k)? else {
@@ -87,6 +89,7 @@ fn place_before<J: Job, P: Place<J>, C: Chains>(
     ensures went { Went J.map J.seeds P.maps P.knows P.busies place.old place.new }
     ensures busy { IfErr result (RoseIfBusy (P.busies place.old) (P.busies place.new)) }
     ensures moved { OnOk result (IsMovedNoMore k x (P.maps place.new)) }
+    ensures placed { OnOk result (WhereTold (MovesStart J.map k x) (P.maps place.old) (P.maps place.new)) }
 {
     start::<J, P>(place, x)?;
     start::<J, P>(place, p)?;
@@ -103,6 +106,7 @@ fn leave<J: Job, P: Place<J>>(place: &mut P, k: u64, x: u64) -> Result<(), Place
     ensures went { Went J.map J.seeds P.maps P.knows P.busies place.old place.new }
     ensures busy { IfErr result (RoseIfBusy (P.busies place.old) (P.busies place.new)) }
     ensures moved { OnOk result (IsMovedNoMore k x (P.maps place.new)) }
+    ensures settled { OnOk result (WhereTold (λ old new. new.ends ≡ with_settled old.ends k x) (P.maps place.old) (P.maps place.new)) }
 {
     place.settle(k, x)?;
     place.found(Name {

@@ -2,10 +2,10 @@
 
 ghost use Rattle.std.specs.Prelude.{◌≡◌, ◌≤◌, OnOk, IfErr};
 ghost use Rattle.std.specs.Option.{ForSome};
-ghost use Rattle.cfg_model.specs.Instructions.{IsLawful};
-ghost use Rattle.cfg_model.specs.Chain.{IsTerminatorOf};
-ghost use Rattle.cfg_model.specs.Reach.{AreSeeds};
-ghost use Rattle.cfg_model.specs.Fact.{Fact};
+ghost use Rattle.cfg_model.specs.Program.Instructions.{IsLawful};
+ghost use Rattle.cfg_model.specs.Program.Chain.{IsTerminatorOf};
+ghost use Rattle.cfg_model.specs.Program.Reach.{AreSeeds};
+ghost use Rattle.cfg_model.specs.Builder.Fact.{Fact};
 ghost use Rattle.core_state.specs.Place.{AreKept, Remembers};
 ghost use Rattle.work_ops.specs.Going.{Runs, RoseIfBusy, Went, EndsInStart, SameEnds};
 

@@ -2,11 +2,11 @@
 
 ghost use Rattle.std.specs.Prelude.{◌≡◌, ◌≤◌, OnOk, IfErr};
 ghost use Rattle.std.specs.Option.{ForSome};
-ghost use Rattle.cfg_model.specs.Instructions.{IsLawful};
-ghost use Rattle.cfg_model.specs.Event.{Event};
-ghost use Rattle.cfg_model.specs.Fact.{Fact};
-ghost use Rattle.cfg_model.specs.Reason.{Reason};
-ghost use Rattle.core_state.specs.Place.{AreKept};
+ghost use Rattle.cfg_model.specs.Program.Instructions.{IsLawful};
+ghost use Rattle.cfg_model.specs.Builder.Event.{Event, ArrivesAt};
+ghost use Rattle.cfg_model.specs.Builder.Fact.{Fact};
+ghost use Rattle.cfg_model.specs.Builder.Reason.{Reason};
+ghost use Rattle.core_state.specs.Place.{AreKept, WhereTold};
 ghost use Rattle.work_ops.specs.Going.{Went, RoseIfBusy, NearIsStart, SameEnds};
 
 use cfg_model::{Chains, Waiter};
@@ -100,6 +100,7 @@ pub(crate) fn arrive_at<J: Job, P: Place<J>, C: Chains>(
     ensures busy { IfErr result (RoseIfBusy (P.busies place.old) (P.busies place.new)) }
     ensures anchored { OnOk result (P.knows place.new (Fact.Anchored s k)) }
     ensures near { OnOk result (ForSome (P.maps place.new) (NearIsStart k)) }
+    ensures arrived { OnOk result (WhereTold (λ old new. ArrivesAt J.map k s old.ends new.ends) (P.maps place.old) (P.maps place.new)) }
 {
     match place.arrive(code, k, s)? {
         Arrival::Split { near, .. } => {

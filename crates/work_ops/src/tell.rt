@@ -1,11 +1,11 @@
 //! Telling a waiter that a terminator returns.
 
 ghost use Rattle.std.specs.Prelude.{◌≡◌, ◌≤◌, OnOk, IfErr, Some};
-ghost use Rattle.cfg_model.specs.Instructions.{IsLawful};
-ghost use Rattle.cfg_model.specs.Reach.{AreSeeds};
-ghost use Rattle.cfg_model.specs.Fact.{Fact};
-ghost use Rattle.cfg_model.specs.Reason.{EffectStands, IsReleased};
-ghost use Rattle.cfg_model.specs.Waiter.{released};
+ghost use Rattle.cfg_model.specs.Program.Instructions.{IsLawful};
+ghost use Rattle.cfg_model.specs.Program.Reach.{AreSeeds};
+ghost use Rattle.cfg_model.specs.Builder.Fact.{Fact};
+ghost use Rattle.cfg_model.specs.Builder.Reason.{EffectStands, IsReleased};
+ghost use Rattle.cfg_model.specs.Builder.Waiter.{released};
 ghost use Rattle.core_state.specs.Place.{AreKept, WhereTold, Remembers};
 ghost use Rattle.work_ops.specs.Going.{Runs, RoseIfBusy, Went, TellsNext};
 ghost use Rattle.work_ops.specs.Done.{IsFreed};

@@ -1,9 +1,9 @@
 //! Making an address the start of a block.
 
 ghost use Rattle.std.specs.Prelude.{◌≡◌, ◌≤◌, OnOk, IfErr};
-ghost use Rattle.cfg_model.specs.Reach.{AreSeeds};
-ghost use Rattle.cfg_model.specs.Fact.{Fact};
-ghost use Rattle.cfg_model.specs.Reason.{WantReason};
+ghost use Rattle.cfg_model.specs.Program.Reach.{AreSeeds};
+ghost use Rattle.cfg_model.specs.Builder.Fact.{Fact};
+ghost use Rattle.cfg_model.specs.Builder.Reason.{WantReason};
 ghost use Rattle.core_state.specs.Place.{AreKept, Remembers};
 ghost use Rattle.work_ops.specs.Going.{Runs, RoseIfBusy};
 

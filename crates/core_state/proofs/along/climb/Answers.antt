@@ -1,8 +1,8 @@
 use Rattle.std.proofs.Common.{arith}
-use Rattle.cfg_model.specs.Chain.{OnChain}
-use Rattle.cfg_model.proofs.ChainSteps.{chain_step}
-use Rattle.cfg_model.proofs.ChainPlaces.{ends_at, still_ahead, stepped_over}
-use Rattle.cfg_model.proofs.Outline.Runs.{goes_up}
+use Rattle.cfg_model.specs.Program.Chain.{OnChain}
+use Rattle.cfg_model.proofs.Program.ChainSteps.{chain_step}
+use Rattle.cfg_model.proofs.Program.ChainPlaces.{ends_at, still_ahead, stepped_over}
+use Rattle.cfg_model.proofs.Graphs.Runs.{goes_up}
 use Rattle.core_state.proofs.along.climb.Goals as goal
 
 pub loop-next-init : goal.loop-next-init

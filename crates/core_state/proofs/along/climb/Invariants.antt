@@ -1,5 +1,5 @@
 use Rattle.std.proofs.Common.{ℕ, ◌-◌, ◌^◌, ◌≤◌, IsSome}
-use Rattle.cfg_model.specs.Chain.{OnChain}
+use Rattle.cfg_model.specs.Program.Chain.{OnChain}
 use Rattle.core_state.proofs.along.climb.Given as goal
 
 -- at is on the chain, and what lies at or above k is still ahead of it

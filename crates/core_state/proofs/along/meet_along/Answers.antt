@@ -1,4 +1,4 @@
-use Rattle.cfg_model.proofs.ChainPlaces.{Climbed, starts_up, steps_up, meets_at}
+use Rattle.cfg_model.proofs.Program.ChainPlaces.{Climbed, starts_up, steps_up, meets_at}
 use Rattle.core_state.proofs.along.meet_along.Goals as goal
 
 pub loop-a-init : goal.loop-a-init

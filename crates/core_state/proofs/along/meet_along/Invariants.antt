@@ -1,7 +1,7 @@
 use Rattle.std.proofs.Common.{◌-◌, ◌^◌, IsSome}
-use Rattle.cfg_model.specs.Instructions.{IsLawful}
-use Rattle.cfg_model.specs.Chain.{OnChain}
-use Rattle.cfg_model.proofs.ChainPlaces.{GoesUp}
+use Rattle.cfg_model.specs.Program.Instructions.{IsLawful}
+use Rattle.cfg_model.specs.Program.Chain.{OnChain}
+use Rattle.cfg_model.proofs.Program.ChainPlaces.{GoesUp}
 use Rattle.core_state.proofs.along.meet_along.Given as goal
 
 -- the two walks go up side by side, and the first one still leads to k

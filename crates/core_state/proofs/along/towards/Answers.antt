@@ -1,4 +1,4 @@
-use Rattle.cfg_model.proofs.ChainPlaces.{ends_at}
+use Rattle.cfg_model.proofs.Program.ChainPlaces.{ends_at}
 use Rattle.core_state.proofs.along.towards.Goals as goal
 
 pub returns-in-None-clause-above : goal.returns-in-None-clause-above

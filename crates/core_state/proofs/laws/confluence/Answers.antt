@@ -1,4 +1,4 @@
-use Rattle.cfg_model.proofs.ClosedLaws as closed
+use Rattle.status_laws.proofs.ClosedLaws as closed
 use Rattle.core_state.proofs.laws.confluence.Goals as goal
 
 pub returns : goal.returns

@@ -1,4 +1,4 @@
-use Rattle.cfg_model.proofs.StepLaws.{empty_is_kept, events_keep_kept}
+use Rattle.status_laws.proofs.KeptLaws.{empty_is_kept, events_keep_kept}
 use Rattle.core_state.proofs.laws.events_keep_the_state.Goals as goal
 
 pub returns : goal.returns

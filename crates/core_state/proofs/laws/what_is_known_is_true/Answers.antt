@@ -1,4 +1,4 @@
-use Rattle.cfg_model.proofs.SoundLaws.{kept_is_sound, sound_facts_hold, events_keep_sound}
+use Rattle.status_laws.proofs.SoundLaws.{kept_is_sound, sound_facts_hold, events_keep_sound}
 use Rattle.core_state.proofs.laws.what_is_known_is_true.Goals as goal
 
 pub returns : goal.returns

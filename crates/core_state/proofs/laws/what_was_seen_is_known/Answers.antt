@@ -1,4 +1,4 @@
-use Rattle.cfg_model.proofs.BroughtLaws.{events_bring_facts, standing_is_known}
+use Rattle.status_laws.proofs.BroughtLaws.{events_bring_facts, standing_is_known}
 use Rattle.core_state.proofs.laws.what_was_seen_is_known.Goals as goal
 
 pub returns : goal.returns

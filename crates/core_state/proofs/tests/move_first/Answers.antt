@@ -1,4 +1,4 @@
-use Rattle.cfg_model.specs.Chain.{OnChain}
+use Rattle.cfg_model.specs.Program.Chain.{OnChain}
 use Rattle.core_state.proofs.tests.move_first.Goals as goal
 
 pub arrive-requires-clause-arriving : goal.arrive-requires-clause-arriving

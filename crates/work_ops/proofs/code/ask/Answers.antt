@@ -1,5 +1,5 @@
 use Rattle.std.proofs.Common.{subst}
-use Rattle.cfg_model.specs.Instructions.{InstructionMap, IsLawful}
+use Rattle.cfg_model.specs.Program.Instructions.{InstructionMap, IsLawful}
 use Rattle.work_ops.proofs.code.ask.Goals as goal
 
 pub returns : goal.returns

@@ -1,6 +1,6 @@
 use Rattle.std.proofs.Common.{ap, ◌∙◌}
 use Rattle.std.specs.Prelude.{Some}
-use Rattle.cfg_model.specs.Fact.{Fact}
+use Rattle.cfg_model.specs.Builder.Fact.{Fact}
 use Rattle.work_ops.proofs.GoingOn.{rests, on_ok_both}
 use Rattle.std.proofs.lemmas.Result.{on_ok_weaker}
 use Rattle.work_ops.proofs.Reasons.{fall_is_way, branch_followed, past_followed, table_followed, none_followed}

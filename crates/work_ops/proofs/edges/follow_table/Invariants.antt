@@ -1,6 +1,6 @@
 use Rattle.std.proofs.Common.{ℕ, ◌<◌, ◌≡◌}
 use Rattle.std.specs.Prelude.{slice_get, Some}
-use Rattle.cfg_model.specs.Instructions.{targets_at}
+use Rattle.cfg_model.specs.Program.Instructions.{targets_at}
 use Rattle.work_ops.specs.Going.{Went}
 use Rattle.work_ops.specs.Done.{IsFollowed}
 use Rattle.work_ops.proofs.edges.follow_table.Given as goal

@@ -1,6 +1,7 @@
-use Rattle.cfg_model.specs.Event.{Event}
+use Rattle.cfg_model.specs.Builder.Event.{Event}
 use Rattle.work_ops.proofs.GoingOn.{changes, reads, goes_on}
 use Rattle.work_ops.proofs.Told.{gone}
+use Rattle.work_ops.proofs.EndsTold.{settled_there}
 use Rattle.work_ops.proofs.moves.leave.Goals as goal
 
 pub returns-in_err-settle-clause-went : goal.returns-in_err-settle-clause-went
@@ -16,3 +17,6 @@ returns-clause-went g c =
 pub returns-clause-moved : goal.returns-clause-moved
 returns-clause-moved g c =
     gone _ _ c.args.k c.args.x _ _ _ c.in_ok-settle.ensures.step c.found.ensures.same
+
+pub returns-clause-settled : goal.returns-clause-settled
+returns-clause-settled g c = settled_there g.J.Job.map g.J.Job.seeds c.args.k c.args.x _ _ _ c.in_ok-settle.ensures.step c.found.ensures.same

@@ -1,11 +1,12 @@
 use Rattle.std.proofs.Common.{◌∙◌}
 use Rattle.std.specs.Prelude.{IsTrue}
-use Rattle.cfg_model.specs.Fact.{Fact}
+use Rattle.cfg_model.specs.Builder.Fact.{Fact}
 use Rattle.work_ops.proofs.GoingOn.{runs_then, runs_none, kept_along}
 use Rattle.std.proofs.lemmas.Option.{MatchOption-at_some}
 use Rattle.std.proofs.lemmas.Result.{on_ok_weaker}
 use Rattle.work_ops.proofs.Reasons.{leader_stands}
 use Rattle.work_ops.proofs.Told.{places, places_none, never, near_there, reaches_near}
+use Rattle.work_ops.proofs.EndsTold.{moved_first, moved_none}
 use Rattle.work_ops.proofs.moves.move_op.Goals.{then-x-p-via-then-x-p, then-x-p-via-else-x-p+then-not-leads}
 use Rattle.work_ops.proofs.moves.move_op.Goals as goal
 
@@ -61,3 +62,28 @@ returns-clause-moved g c =
     (runs_then _ _ _ _ _ (runs_none _ _ _ _ c.near.ensures.same) c.place_before.ensures.went.run)
     c.in_ok-x.ensures.answer left)
     c.place_before.ensures.moved
+
+pub returns-in_default-clause-placed : goal.returns-in_default-clause-placed
+returns-in_default-clause-placed g c =
+    moved_none g.J.Job.map c.args.k c.in_ok-x.field-0 _ _ c.in_default.is c.moved.ensures.same c.in_ok-x.ensures.answer
+
+pub returns-in_default-2-clause-placed : goal.returns-in_default-2-clause-placed
+returns-in_default-2-clause-placed g c =
+    never _ _ _ (c.near.ensures.same ∙ c.moved.ensures.same)
+    (near_there g.J.Job.map g.J.Job.seeds c.args.k c.in-Some.x c.in_ok-x.field-0 c.in_ok-p.field-0 _ _ c.moved.ensures.same c.in-Some.is c.in_ok-x.ensures.answer c.in_default-2.is c.in_ok-p.ensures.answer)
+
+pub returns-then-x-p-clause-placed : goal.returns-then-x-p-clause-placed
+returns-then-x-p-clause-placed g c =
+    never _ _ _ (c.near.ensures.same ∙ c.moved.ensures.same)
+    (λ state is.
+    let reaches = reaches_near _ _ c.args.k c.in-Some.x c.in-Some-2.p c.in_ok-x.field-0 c.in_ok-p.field-0 _ _ c.moved.ensures.same c.requires.kept c.in-Some.is c.in_ok-x.ensures.answer c.in-Some-2.is c.in_ok-p.ensures.answer state is in
+    elim c.then-x-p.branch [
+      | then-x-p-via-then-x-p w ↦ reaches.0 w.if-x-p.true
+      | then-x-p-via-else-x-p+then-not-leads w ↦ (let yes : IsTrue w.leads.result = w.leads.ensures.1 reaches.1 in cc)
+    ])
+
+pub returns-clause-placed : goal.returns-clause-placed
+returns-clause-placed g c =
+    on_ok_weaker c.place_before.result
+    (λ moves. moved_first g.J.Job.map c.args.k c.in-Some.x c.in_ok-x.field-0 _ _ _ c.in-Some.is (c.near.ensures.same ∙ c.moved.ensures.same) c.in_ok-x.ensures.answer moves)
+    c.place_before.ensures.placed

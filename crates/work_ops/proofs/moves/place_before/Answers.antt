@@ -1,6 +1,11 @@
-use Rattle.cfg_model.specs.Fact.{Fact}
+use Rattle.std.proofs.Common.{arith}
+use Rattle.std.proofs.lemmas.Result.{on_ok_weaker}
+use Rattle.cfg_model.specs.Builder.Event.{ArrivesAt}
+use Rattle.cfg_model.specs.Builder.Fact.{Fact}
+use Rattle.cfg_model.proofs.Program.ChainFacts.{goes_up, chain_up}
+use Rattle.work_ops.proofs.EndsTold.{ends_then, ends_come, moved_before}
 use Rattle.work_ops.proofs.GoingOn.{goes_on}
-use Rattle.cfg_model.specs.Reason.{WantReason}
+use Rattle.cfg_model.specs.Builder.Reason.{WantReason}
 use Rattle.work_ops.proofs.Reasons.{leader_stands, leave_reason}
 use Rattle.work_ops.proofs.moves.place_before.Goals as goal
 
@@ -46,3 +51,11 @@ returns-clause-went g c =
     (goes_on _ _ _ _ _ _ _ _
     c.arrive_at.ensures.went
     c.leave.ensures.went))
+
+pub returns-clause-placed : goal.returns-clause-placed
+returns-clause-placed g c =
+    let onward = (g.met.P.Place.sound c.args.place.now c.requires.kept (Fact.Anchored c.args.p c.args.k) c.requires.near).1 in
+    let arrived = ends_come (ArrivesAt g.J.Job.map c.just_before-at.result c.args.x) _ _ _ (ends_then _ _ _ c.start.ensures.ends c.start-2.ensures.ends) c.in_ok-arrive_at.ensures.arrived in
+    on_ok_weaker c.leave.result
+    (λ settled. moved_before g.J.Job.map c.args.k c.args.x c.just_before-at.result (omega (arith, goes_up c.requires.lawful c.just_before-at.result c.args.p c.just_before-at.ensures.onward, chain_up c.requires.lawful onward)) _ _ _ arrived settled)
+    c.leave.ensures.settled

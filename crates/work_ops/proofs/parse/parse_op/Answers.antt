@@ -1,11 +1,11 @@
-use Rattle.std.proofs.Common.{sym, subst}
+use Rattle.std.proofs.Common.{subst}
 use Rattle.std.specs.Option.{ForSome}
-use Rattle.cfg_model.specs.State.{EndMap, BuilderState, IsNear}
-use Rattle.cfg_model.proofs.SettledLaws.{one_end}
+use Rattle.cfg_model.specs.Builder.State.{EndMap, IsNear}
+use Rattle.cfg_model.proofs.Program.ChainEnds.{one_end}
 use Rattle.work_ops.specs.Going.{EndsInStart}
 use Rattle.work_ops.proofs.GoingOn.{always}
 use Rattle.work_ops.proofs.EndsTold.{ends_back}
-use Rattle.cfg_model.specs.Fact.{Fact}
+use Rattle.cfg_model.specs.Builder.Fact.{Fact}
 use Rattle.work_ops.proofs.GoingOn.{runs_then}
 use Rattle.work_ops.proofs.Reasons.{leader_stands}
 use Rattle.work_ops.proofs.parse.parse_op.Goals as goal

@@ -1,4 +1,4 @@
-use Rattle.cfg_model.specs.Event.{Event}
+use Rattle.cfg_model.specs.Builder.Event.{Event}
 use Rattle.work_ops.proofs.GoingOn.{changes, reads, goes_on}
 use Rattle.work_ops.proofs.EndsTold.{ends_call, ends_then, ends_same, term_leaves, parsed_leaves}
 use Rattle.work_ops.proofs.parse.parse_up_to.Goals as goal

@@ -1,14 +1,14 @@
 use Rattle.std.proofs.Common.{subst}
 use Rattle.core_state.specs.declared.answer.Arrival.{Arrival}
-use Rattle.cfg_model.specs.Event.{Event}
-use Rattle.cfg_model.specs.Fact.{Fact}
-use Rattle.cfg_model.specs.Reason.{WantReason}
+use Rattle.cfg_model.specs.Builder.Event.{Event, ArrivesAt}
+use Rattle.cfg_model.specs.Builder.Fact.{Fact}
+use Rattle.cfg_model.specs.Builder.Reason.{WantReason}
 use Rattle.core_state.specs.Place.{near_after}
 use Rattle.std.proofs.Common.{sym, ap, ◌∙◌}
 use Rattle.std.proofs.lemmas.Result.{on_ok_weaker}
-use Rattle.cfg_model.specs.State.{EndMap, BuilderState, IsNear, IsStart}
-use Rattle.work_ops.proofs.GoingOn.{changes, reads, goes_on}
-use Rattle.work_ops.proofs.EndsTold.{ends_back, arrived}
+use Rattle.cfg_model.specs.Builder.State.{EndMap, IsNear, IsStart}
+use Rattle.work_ops.proofs.GoingOn.{changes, reads, goes_on, always}
+use Rattle.work_ops.proofs.EndsTold.{ends_back, ends_then, ends_same, ends_gone, arrived, arrived_there}
 use Rattle.work_ops.proofs.parts.arrive_at.Goals as goal
 
 pub returns-in_err-near-clause-went : goal.returns-in_err-near-clause-went
@@ -56,3 +56,15 @@ returns-in-Same-clause-near g c state told near at =
     let same = arrived g.J.Job.map g.J.Job.seeds c.args.k c.args.s _ _ c.in_ok-near.field-0 state c.in_ok-near.ensures.step c.in_ok-near.ensures.answer told near at in
     subst (IsStart state.starts) (sym (ap (near_after c.args.s) c.in-Same.is) ∙ same)
     ((g.met.P.Place.exact c.arrive.new.self state told (Fact.Start c.args.s)).0 (c.arrive.ensures.remembers _ c.requires.reason.start))
+
+pub returns-in-Split-clause-arrived : goal.returns-in-Split-clause-arrived
+returns-in-Split-clause-arrived g c =
+    always c.start.result _
+    (ends_gone (ArrivesAt g.J.Job.map c.args.k c.args.s) _ _ _ (arrived_there g.J.Job.map g.J.Job.seeds c.args.k c.args.s _ _ c.in_ok-near.ensures.step)
+    (ends_then _ _ _ (ends_same _ _ c.found.ensures.same) c.start.ensures.ends))
+
+pub returns-in-First-clause-arrived : goal.returns-in-First-clause-arrived
+returns-in-First-clause-arrived g c = arrived_there g.J.Job.map g.J.Job.seeds c.args.k c.args.s _ _ c.in_ok-near.ensures.step
+
+pub returns-in-Same-clause-arrived : goal.returns-in-Same-clause-arrived
+returns-in-Same-clause-arrived g c = arrived_there g.J.Job.map g.J.Job.seeds c.args.k c.args.s _ _ c.in_ok-near.ensures.step

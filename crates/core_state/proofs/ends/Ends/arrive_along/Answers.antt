@@ -3,7 +3,7 @@ use Rattle.std.specs.Option.{option_copied_mut, is_some}
 use Rattle.std.specs.Prelude.{Some, None}
 use Rattle.core_state.specs.declared.answer.Arrival.TheVariants.{First}
 use Rattle.std.proofs.lemmas.Result.{IfOk-weaker, on_ok_weaker, on_err_weaker}
-use Rattle.cfg_model.proofs.StateReads.{near_here}
+use Rattle.cfg_model.proofs.Builder.StateReads.{near_here}
 use Rattle.core_state.proofs.Seen.{entry, stays}
 use Rattle.core_state.proofs.EndChanges.{arrives_known, arrives_first, answers}
 use Rattle.core_state.proofs.ends.Ends.arrive_along.Goals as goal

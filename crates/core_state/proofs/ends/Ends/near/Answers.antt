@@ -1,7 +1,7 @@
 use Rattle.std.proofs.Common.{sym, ap, ◌∙◌}
 use Rattle.std.specs.Prelude.{Some, None}
 use Rattle.std.specs.Option.{option_copied}
-use Rattle.cfg_model.specs.State.{EndEntry}
+use Rattle.cfg_model.specs.Builder.State.{EndEntry}
 use Rattle.core_state.proofs.EndChanges.{near_known}
 use Rattle.core_state.proofs.ends.Ends.near.Goals as goal
 

@@ -1,4 +1,4 @@
-use Rattle.cfg_model.specs.Event.{Event}
+use Rattle.cfg_model.specs.Builder.Event.{Event}
 use Rattle.core_state.proofs.StatePlace.{makes, keeps, brings, remembers}
 use Rattle.core_state.proofs.state_place.StatePlace.wait.Goals as goal
 

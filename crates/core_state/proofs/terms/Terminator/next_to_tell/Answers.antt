@@ -1,5 +1,5 @@
 use Rattle.std.proofs.Common.{sym, ap, ◌∙◌}
-use Rattle.cfg_model.specs.State.{TerminatorEntry}
+use Rattle.cfg_model.specs.Builder.State.{TerminatorEntry}
 use Rattle.core_state.proofs.WaiterChanges.{next_of}
 use Rattle.core_state.proofs.terms.Terminator.next_to_tell.Goals as goal
 

@@ -2,7 +2,7 @@ use Rattle.std.proofs.Common.{refl, sym, ap, false, ◌∙◌}
 use Rattle.std.specs.Prelude.{is_some}
 use Rattle.std.specs.FinMap as maps
 use Rattle.std.specs.FinSet as sets
-use Rattle.cfg_model.specs.State.{TerminatorEntry}
+use Rattle.cfg_model.specs.Builder.State.{TerminatorEntry}
 use Rattle.core_state.proofs.Seen.{not_there}
 use Rattle.core_state.proofs.Displaced.{refused}
 use Rattle.core_state.proofs.WaiterChanges.{waiter_there, waiter_put, put_and_taken, untold_put, untold_as, untold_with, accepted, waits_again, waits_now}

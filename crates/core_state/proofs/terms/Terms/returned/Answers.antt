@@ -1,6 +1,6 @@
 use Rattle.std.proofs.Common.{sym, ap, ◌∙◌}
 use Rattle.std.specs.Option.{option_copied_mut}
-use Rattle.cfg_model.specs.Event.{entry_with_return}
+use Rattle.cfg_model.specs.Builder.Event.{entry_with_return}
 use Rattle.core_state.proofs.Seen.{none_is_not, known}
 use Rattle.core_state.proofs.TermChanges.{changes, newly_returned}
 use Rattle.core_state.proofs.terms.Terms.returned.Goals as goal

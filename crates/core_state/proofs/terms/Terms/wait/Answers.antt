@@ -1,7 +1,7 @@
 use Rattle.std.proofs.Common.{sym, ap, ◌∙◌}
 use Rattle.std.specs.Option.{option_copied_mut}
 use Rattle.std.proofs.lemmas.Result.{IfOk-weaker, on_ok_weaker, on_err_weaker}
-use Rattle.cfg_model.specs.Event.{entry_with_waiter}
+use Rattle.cfg_model.specs.Builder.Event.{entry_with_waiter}
 use Rattle.core_state.proofs.Seen.{none_is_not, known, stays}
 use Rattle.core_state.proofs.TermChanges.{changes, newly_waits}
 use Rattle.core_state.proofs.terms.Terms.wait.Goals as goal

@@ -1,0 +1,60 @@
+-- Work that is left in the shards of a map, one after the other.
+use Rattle.std.proofs.Common.{◌≡◌, ℕ, ◌+◌, ◌<◌, ◌≤◌, List, length, get_or, subst, sym, ap, ◌∙◌, arith, below_more}
+use Rattle.std.specs.Prelude.{Option, Some, None, is_some, IfSome, IfNone}
+use Rattle.std.specs.Ordering.{nat_cmp}
+use Rattle.std.specs.FinMap as maps
+use Rattle.std.proofs.lemmas.List.{get_or_read}
+use Rattle.cfg_model.specs.Builder.Shard.{shard_of}
+use Rattle.cfg_model.specs.Builder.Left.{Work}
+use Rattle.core_state.proofs.Shards.{shard_below, read_joined}
+use Rattle.core_state.specs.Joined.{AreShards, joined}
+use Rattle.core_state.specs.inner.Remaining.{LeftAmong, LeftIn}
+
+module _ {X : Type 0} (At : ℕ → X → Work → Type 0) (shards : List (maps.FinMap nat_cmp X)) where
+  -- nothing is left in the first n shards
+  abbrev pub ArePassed : ℕ → Type 0
+  ArePassed n = (i : ℕ) → i < n → (work : Work) → ¬ LeftAmong At (get_or shards i maps.empty) work
+
+  pub none_passed : ArePassed 0
+  none_passed i below work left = absurd (omega (arith, below))
+
+  pub passed_more : (n : ℕ) (shard : maps.FinMap nat_cmp X) → n < length shards → shard ≡ get_or shards n shard → ArePassed n → ((work : Work) → ¬ LeftAmong At shard work) → ArePassed (n + 1)
+  passed_more n shard within is passed none = below_more (λ i. (work : Work) → ¬ LeftAmong At (get_or shards i maps.empty) work) n passed (λ work left. none work (subst (λ m. LeftAmong At m work) (sym (get_or_read shards n shard within is maps.empty)) left))
+
+  pub found_in : (n : ℕ) (shard : maps.FinMap nat_cmp X) → n < length shards → shard ≡ get_or shards n shard → (work : Work) → LeftAmong At shard work → LeftIn At shards work
+  found_in n shard within is work left = record { shard = n; within = within; left = subst (λ m. LeftAmong At m work) (get_or_read shards n shard within is maps.empty) left }
+
+  pub passed_all : (n : ℕ) → length shards ≤ n → ArePassed n → (work : Work) → ¬ LeftIn At shards work
+  passed_all n all passed work left = passed left.shard (omega (arith, left.within, all)) work left.left
+
+-- the shards of a map, and the map that they are together
+module _ {X : Type 0} (At : ℕ → X → Work → Type 0) (shards : List (maps.FinMap nat_cmp X)) (are : AreShards shards) (m : maps.FinMap nat_cmp X) (seen : joined shards ≡ m) where
+  pub among_joined : (work : Work) → LeftIn At shards work → LeftAmong At m work
+  among_joined work left = record {
+    key = left.left.key;
+    entry = left.left.entry;
+    has =
+        ap (λ (n : maps.FinMap nat_cmp X). maps.get n left.left.key) (sym seen) ∙ read_joined shards are left.left.key
+        ∙ ap (λ i. maps.get (get_or shards i maps.empty) left.left.key) (are.own left.shard left.left.key (ap is_some left.left.has)) ∙ left.left.has;
+    left = left.left.left;
+  }
+
+  pub in_shards : (work : Work) → LeftAmong At m work → LeftIn At shards work
+  in_shards work left = record {
+    shard = shard_of left.key;
+    within = subst (λ n. shard_of left.key < n) (sym are.count) (shard_below left.key);
+    left = record {
+      key = left.key;
+      entry = left.entry;
+      has = sym (read_joined shards are left.key) ∙ ap (λ (n : maps.FinMap nat_cmp X). maps.get n left.key) seen ∙ left.has;
+      left = left.left;
+    };
+  }
+
+  pub some_joined : {T : Type 0} (o : Option T) (work_by : T → Work) (items : List (maps.FinMap nat_cmp X)) → items ≡ shards → IfSome o (λ x. LeftIn At items (work_by x)) → IfSome o (λ x. LeftAmong At m (work_by x))
+  some_joined None work_by items same left = tt
+  some_joined (Some x) work_by items same left = among_joined (work_by x) (subst (λ (ms : List (maps.FinMap nat_cmp X)). LeftIn At ms (work_by x)) same left)
+
+  pub none_joined : {T : Type 0} (o : Option T) (items : List (maps.FinMap nat_cmp X)) → items ≡ shards → IfNone o ((work : Work) → ¬ LeftIn At items work) → IfNone o ((work : Work) → ¬ LeftAmong At m work)
+  none_joined None items same none = λ work left. none work (subst (λ (ms : List (maps.FinMap nat_cmp X)). LeftIn At ms work) (sym same) (in_shards work left))
+  none_joined (Some x) items same none = tt

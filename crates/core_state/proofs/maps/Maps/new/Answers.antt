@@ -1,0 +1,21 @@
+use Rattle.std.proofs.Common.{◌∙◌}
+use Rattle.core_state.proofs.Shards.{empty_shards, empty_joined}
+use Rattle.core_state.proofs.maps.Maps.new.Goals as goal
+
+pub of_shards-requires-clause-starts : goal.of_shards-requires-clause-starts
+of_shards-requires-clause-starts c = empty_shards _ c.in_ok-starts.ensures.count c.in_ok-starts.ensures.empty
+
+pub of_shards-requires-clause-ends : goal.of_shards-requires-clause-ends
+of_shards-requires-clause-ends c = empty_shards _ c.in_ok-ends.ensures.count c.in_ok-ends.ensures.empty
+
+pub of_shards-requires-clause-terms : goal.of_shards-requires-clause-terms
+of_shards-requires-clause-terms c = empty_shards _ c.in_ok-terms.ensures.count c.in_ok-terms.ensures.empty
+
+pub returns : goal.returns
+returns c =
+    c.of_shards.ensures
+    ∙ (λ i. record {
+      starts = empty_joined _ c.in_ok-starts.ensures.count c.in_ok-starts.ensures.empty i;
+      ends = empty_joined _ c.in_ok-ends.ensures.count c.in_ok-ends.ensures.empty i;
+      terminators = empty_joined _ c.in_ok-terms.ensures.count c.in_ok-terms.ensures.empty i;
+    })

@@ -1,0 +1,21 @@
+-- What becomes of a state that is worked on until nothing is left, with a list of names of work.
+use Rattle.std.specs.Prelude.{ℕ, ◌+◌, ◌*◌, ◌^◌, ◌<◌, List}
+use Rattle.cfg_model.specs.Program.Instructions.{InstructionMap}
+use Rattle.cfg_model.specs.Builder.State.{BuilderState}
+use Rattle.cfg_model.specs.Builder.Fact.{Holds}
+use Rattle.cfg_model.specs.Builder.Kept.{IsKept}
+use Rattle.core_state.specs.Place.{Remembers}
+use Rattle.work_ops.specs.inner.Measure.{work_left}
+
+-- The state is kept, and what was known is known.
+pub record Continues (map : InstructionMap) (seeds : List ℕ) (old new : BuilderState) : Type 0 where
+  pub kept : IsKept map seeds new
+  pub remembers : Remembers (Holds map old) (Holds map new)
+
+-- Less work is left than before.
+abbrev pub Lowers : BuilderState → BuilderState → Type 0
+Lowers old new = work_left new < work_left old
+
+-- What there is to do: the work that is left counts first, and then the number of names that are listed.
+unfoldable pub to_do : BuilderState → ℕ → ℕ
+to_do state names = work_left state * 2 ^ 64 + names

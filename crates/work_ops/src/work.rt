@@ -1,0 +1,159 @@
+//! One piece of work after the other.
+
+ghost use Rattle.std.specs.Prelude.{◌≡◌, ◌≢◌, ◌<◌, ◌⊎◌, IfOk, OnOk, IsTrue, vec_len};
+ghost use Rattle.cfg_model.specs.Program.Reach.{AreSeeds};
+ghost use Rattle.cfg_model.specs.Builder.Kept.{IsKept};
+ghost use Rattle.cfg_model.specs.Builder.Left.{Work, IsLeft, HasNothingLeft};
+ghost use Rattle.core_state.specs.declared.answer.WorkKind.TheVariants as kinds;
+ghost use Rattle.core_state.specs.Work.{work_of};
+ghost use Rattle.work_ops.specs.inner.Working.{Continues, Lowers, to_do};
+
+use crate::code::ask;
+use crate::desk::Desk;
+use crate::{edges_op, move_op, parse_op, tell_op, want_op};
+use cfg_model::{Chains, Mark};
+use core_state::{Job, Name, PlaceEnd, WorkKind};
+
+/// Makes all seeds starts, the highest first: so the list names the lowest last, and it is parsed first.
+/// A run with many starts is then cut from its front, and each start is displaced once at most.
+pub(crate) fn want_all<J: Job, C: Chains>(
+    desk: &mut Desk,
+    code: &C,
+    seeds: &[u64],
+) -> Result<(), PlaceEnd>
+    requires code { C.map code.now ≡ J.map }
+    requires job { seeds.now ≡ J.seeds }
+    requires seeds { AreSeeds J.map J.seeds }
+    requires kept { IsKept J.map J.seeds desk.old.state.maps }
+    ensures { Continues J.map J.seeds desk.old.state.maps desk.new.state.maps }
+{
+    for seed in seeds.iter().rev() {
+        want_op::<J, Desk, C>(desk, code, *seed)?;
+    }
+    Ok(())
+}
+
+/// Does some work: from the list, or else what is left in the state. Answers whether there was any; less
+/// is to do then.
+pub(crate) fn work_on<J: Job, C: Chains>(
+    desk: &mut Desk,
+    code: &C,
+    seeds: &[u64],
+) -> Result<bool, PlaceEnd>
+    requires code { C.map code.now ≡ J.map }
+    requires job { seeds.now ≡ J.seeds }
+    requires seeds { AreSeeds J.map J.seeds }
+    requires kept { IsKept J.map J.seeds desk.old.state.maps }
+    ensures works { Continues J.map J.seeds desk.old.state.maps desk.new.state.maps }
+    ensures some { IfOk result (λ some. IsTrue some → to_do desk.new.state.maps (vec_len desk.new.names) < to_do desk.old.state.maps (vec_len desk.old.names)) }
+    ensures none { IfOk result (λ some. ¬ IsTrue some → HasNothingLeft J.seeds desk.new.state.maps) }
+{
+    if let Some(name) = desk.names.pop() {
+        do_listed::<J, C>(desk, code, name)?;
+        return Ok(true);
+    }
+    match desk.state.left(code, seeds) {
+        Some(name) => {
+            do_left::<J, C>(desk, code, name)?;
+            Ok(true)
+        }
+        None => Ok(false),
+    }
+}
+
+/// Does work that is left in the state.
+fn do_left<J: Job, C: Chains>(desk: &mut Desk, code: &C, name: Name) -> Result<(), PlaceEnd>
+    requires code { C.map code.now ≡ J.map }
+    requires seeds { AreSeeds J.map J.seeds }
+    requires kept { IsKept J.map J.seeds desk.old.state.maps }
+    requires left { IsLeft J.seeds desk.old.state.maps (work_of name) }
+    ensures works { Continues J.map J.seeds desk.old.state.maps desk.new.state.maps }
+    ensures less { OnOk result (Lowers desk.old.state.maps desk.new.state.maps) }
+{
+    ask::<J, C>(code, name.key);
+    match name.kind {
+        WorkKind::Want => want_op::<J, Desk, C>(desk, code, name.key),
+        _ => do_listed::<J, C>(desk, code, name),
+    }
+}
+
+/// Does work that was listed, where it is still to be done. To want a start is never listed.
+fn do_listed<J: Job, C: Chains>(desk: &mut Desk, code: &C, name: Name) -> Result<(), PlaceEnd>
+    requires code { C.map code.now ≡ J.map }
+    requires seeds { AreSeeds J.map J.seeds }
+    requires kept { IsKept J.map J.seeds desk.old.state.maps }
+    ensures works { Continues J.map J.seeds desk.old.state.maps desk.new.state.maps }
+    ensures less { OnOk result (Lowers desk.old.state.maps desk.new.state.maps ⊎ (desk.new ≡ desk.old)) }
+    ensures left { OnOk result (IsLeft J.seeds desk.old.state.maps (work_of name) → name.kind ≢ kinds.Want → Lowers desk.old.state.maps desk.new.state.maps) }
+{
+    match name.kind {
+        WorkKind::Want => Ok(()),
+        WorkKind::Parse => parse::<J, C>(desk, code, name.key),
+        WorkKind::Move => place_next::<J, C>(desk, code, name.key),
+        WorkKind::Edges => follow_edges::<J, C>(desk, code, name.key),
+        WorkKind::Tell => tell_next::<J, C>(desk, code, name.key),
+    }
+}
+
+/// Follows the chain of `s`, where that is a start and not parsed.
+fn parse<J: Job, C: Chains>(desk: &mut Desk, code: &C, s: u64) -> Result<(), PlaceEnd>
+    requires code { C.map code.now ≡ J.map }
+    requires seeds { AreSeeds J.map J.seeds }
+    requires kept { IsKept J.map J.seeds desk.old.state.maps }
+    ensures works { Continues J.map J.seeds desk.old.state.maps desk.new.state.maps }
+    ensures less { OnOk result (Lowers desk.old.state.maps desk.new.state.maps ⊎ (desk.new ≡ desk.old)) }
+    ensures left { OnOk result (IsLeft J.seeds desk.old.state.maps (Work.Parse s) → Lowers desk.old.state.maps desk.new.state.maps) }
+{
+    match desk.state.start(s) {
+        Some(Mark::Wanted) => parse_op::<J, Desk, C>(desk, code, s),
+        Some(Mark::Parsed) => Ok(()),
+        None => Ok(()),
+    }
+}
+
+/// Places a displaced start of the end `k`, where it has any.
+fn place_next<J: Job, C: Chains>(desk: &mut Desk, code: &C, k: u64) -> Result<(), PlaceEnd>
+    requires code { C.map code.now ≡ J.map }
+    requires seeds { AreSeeds J.map J.seeds }
+    requires kept { IsKept J.map J.seeds desk.old.state.maps }
+    ensures works { Continues J.map J.seeds desk.old.state.maps desk.new.state.maps }
+    ensures less { OnOk result (Lowers desk.old.state.maps desk.new.state.maps ⊎ (desk.new ≡ desk.old)) }
+    ensures left { OnOk result (IsLeft J.seeds desk.old.state.maps (Work.Move k) → Lowers desk.old.state.maps desk.new.state.maps) }
+{
+    ask::<J, C>(code, k);
+    match desk.state.moved(k) {
+        Some(_) => move_op::<J, Desk, C>(desk, code, k),
+        None => Ok(()),
+    }
+}
+
+/// Follows the edges of the terminator `k`, where it is entered and not dealt with.
+fn follow_edges<J: Job, C: Chains>(desk: &mut Desk, code: &C, k: u64) -> Result<(), PlaceEnd>
+    requires code { C.map code.now ≡ J.map }
+    requires seeds { AreSeeds J.map J.seeds }
+    requires kept { IsKept J.map J.seeds desk.old.state.maps }
+    ensures works { Continues J.map J.seeds desk.old.state.maps desk.new.state.maps }
+    ensures less { OnOk result (Lowers desk.old.state.maps desk.new.state.maps ⊎ (desk.new ≡ desk.old)) }
+    ensures left { OnOk result (IsLeft J.seeds desk.old.state.maps (Work.Edges k) → Lowers desk.old.state.maps desk.new.state.maps) }
+{
+    match desk.state.done(k) {
+        Some(false) => edges_op::<J, Desk, C>(desk, code, k),
+        _ => Ok(()),
+    }
+}
+
+/// Tells a waiter of the terminator `k` that it returns, where it does and has any to tell.
+fn tell_next<J: Job, C: Chains>(desk: &mut Desk, code: &C, k: u64) -> Result<(), PlaceEnd>
+    requires code { C.map code.now ≡ J.map }
+    requires seeds { AreSeeds J.map J.seeds }
+    requires kept { IsKept J.map J.seeds desk.old.state.maps }
+    ensures works { Continues J.map J.seeds desk.old.state.maps desk.new.state.maps }
+    ensures less { OnOk result (Lowers desk.old.state.maps desk.new.state.maps ⊎ (desk.new ≡ desk.old)) }
+    ensures left { OnOk result (IsLeft J.seeds desk.old.state.maps (Work.Tell k) → Lowers desk.old.state.maps desk.new.state.maps) }
+{
+    ask::<J, C>(code, k);
+    match desk.state.untold(k) {
+        Some(_) => tell_op::<J, Desk, C>(desk, code, k),
+        None => Ok(()),
+    }
+}
