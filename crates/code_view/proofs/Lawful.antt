@@ -12,7 +12,7 @@ use Rattle.elf_image.specs.Number.{u32_at}
 use Rattle.elf_image.specs.Sections.{file_offset}
 use Rattle.elf_image.specs.Code.{is_code, code_section_of, half_at, word_at, word_in}
 use Rattle.elf_image.specs.Faults.{IsImage}
-use Rattle.elf_image.specs.Found.{IsFoundAt}
+use Rattle.elf_image.specs.Inner.Found.{IsFoundAt}
 use Rattle.elf_image.proofs.Accepted.{code_section-found}
 use Rattle.elf_image.proofs.LaidOut.{holds-true}
 use Rattle.rv_decode.specs.declared.instructions.Insn.{Insn}
@@ -25,7 +25,7 @@ use Rattle.jump_table.specs.declared.table.Table.{Table}
 use Rattle.jump_table.specs.Table.{table_at, table_targets}
 use Rattle.jump_table.proofs.Targets.{IsTable, is_table}
 use Rattle.cfg_model.specs.declared.flow.Flow.{Flow}
-use Rattle.cfg_model.specs.Instructions.{Instruction, IsLawfulAt, IsLawful, FlowFits, named_by, length_at, flow_at, targets_at}
+use Rattle.cfg_model.specs.Program.Instructions.{Instruction, IsLawfulAt, IsLawful, FlowFits, named_by, length_at, flow_at, targets_at}
 use Rattle.code_view.specs.Cuts.{CutsFit}
 use Rattle.code_view.specs.Flow.{in_code, straight_flow, jump_flow, call_flow, table_flow, flow_by, kept_by, kept_entries}
 use Rattle.code_view.specs.Program.{instruction_at, program_under}

@@ -5,7 +5,7 @@ use Rattle.std.specs.Ordering.{nat_cmp}
 use Rattle.std.proofs.lemmas.Option.{none-some}
 use Rattle.elf_image.specs.Faults.{IsImage}
 use Rattle.jump_table.specs.Table.{table_at}
-use Rattle.cfg_model.specs.Instructions.{IsLawful, targets_at}
+use Rattle.cfg_model.specs.Program.Instructions.{IsLawful, targets_at}
 use Rattle.code_view.specs.Cuts.{Counts, cut_of, CutsFit}
 use Rattle.code_view.specs.FileCode.{FileCode, program_of}
 use Rattle.code_view.proofs.Lawful.{program-lawful, IsKeptOf, kept-at}

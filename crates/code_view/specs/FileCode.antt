@@ -2,7 +2,7 @@
 use Rattle.std.specs.Prelude.{ℕ, List, refl}
 use Rattle.std.specs.Coded.{Coded, code_by, coded×, coded_ℕ, coded_list}
 use Rattle.std.specs.FinMap as map
-use Rattle.cfg_model.specs.Instructions.{InstructionMap}
+use Rattle.cfg_model.specs.Program.Instructions.{InstructionMap}
 use Rattle.code_view.specs.Cuts.{Counts, cut_of}
 use Rattle.code_view.specs.Program.{program_under}
 

@@ -2,4 +2,4 @@ pub mod Cuts
 pub mod Flow
 pub mod Program
 pub mod FileCode
-pub mod View
+pub mod Inner

@@ -5,7 +5,7 @@ use Rattle.rv_flow.specs.Placed.{placed_at}
 use Rattle.rv_flow.specs.Raw.{raw_flow_at}
 use Rattle.jump_table.specs.declared.table.Table.{Table}
 use Rattle.jump_table.specs.Table.{table_at}
-use Rattle.cfg_model.specs.Instructions.{Instruction, InstructionMap}
+use Rattle.cfg_model.specs.Program.Instructions.{Instruction, InstructionMap}
 use Rattle.code_view.specs.Flow.{flow_by, kept_by}
 
 -- The instruction at a code address, with the tables and the cuts that count, by address of the jump.

@@ -29,7 +29,7 @@ impl<'a> Model for Code<'a> {
 
     ghost view = { λ c. record { bytes = c.image.now; cuts = c.cuts.now } };
 
-    ghost use Rattle.code_view.specs.View.{IsCutToFit};
+    ghost use Rattle.code_view.specs.Inner.{IsCutToFit};
 
     ghost invariant = { IsCutToFit };
 }

@@ -1,30 +1,29 @@
 -- What a closed state says of its ends, of the callees at them, and where it has no ends.
 use Rattle.std.proofs.Common.{◌≡◌, ℕ, List, [], Bool, true, false, refl, sym, ap, subst, ◌∙◌}
-use Rattle.std.specs.Prelude.{◌⊎◌, ◌↔◌, Contains, Option, Some, None, IsSome, IsTrue, is_some}
+use Rattle.std.specs.Prelude.{◌↔◌, Contains, Option, Some, None, IsSome, IsTrue, is_some}
 use Rattle.std.specs.Option.{option_eq, option_map, option_map_or}
 use mathlib.Core.Bool.{beq}
 use mathlib.Core.Logic.{inl, inr}
 use Rattle.std.specs.FinMap as maps
 use Rattle.cfg_model.specs.declared.flow.Flow.{Flow}
-use Rattle.cfg_model.specs.Instructions.{InstructionMap, Instruction, IsLawful, flow_at, targets_at}
-use Rattle.cfg_model.specs.Chain.{GoesOnTo, OnChain, IsTerminator, IsTerminatorOf, EndsChain}
-use Rattle.cfg_model.specs.Successors.{IsSuccessor, IsCall, LeavesFunction, successors_of_flow}
-use Rattle.cfg_model.specs.Status.{Returns}
-use Rattle.cfg_model.specs.Reach.{Reached}
-use Rattle.cfg_model.specs.Leader.{IsLeader}
-use Rattle.cfg_model.specs.Waits.{IsTarget}
-use Rattle.cfg_model.specs.Fact.{Fact, IsReachedTerminator}
-use Rattle.cfg_model.specs.Kept.{IsClosed}
-use Rattle.cfg_model.specs.Shown.{ShowsGraph}
-use Rattle.cfg_model.specs.State.{BuilderState, EndEntry, TerminatorEntry, HasEnd, IsNear, IsMoved, StandsAt, IsStart, IsReturned}
-use Rattle.cfg_model.proofs.Listed.{none_in, in_cases}
-use Rattle.cfg_model.proofs.StateGrowth.{false_true, none_is_some}
-use Rattle.cfg_model.proofs.StatusLaws.{returns_along}
-use Rattle.cfg_model.proofs.LeaderFacts.{target_leads, reached_along as reached_on}
-use Rattle.cfg_model.proofs.SettledLaws.{starts_are_near_once}
-use Rattle.cfg_model.proofs.SoundLaws.{kept_is_sound, sound_facts_hold}
-use Rattle.cfg_model.proofs.ClosedLaws.{settled, closed_shows_graph}
-use Rattle.cfg_model.proofs.Outline.Blocks.{reached_along}
+use Rattle.cfg_model.specs.Program.Instructions.{InstructionMap, Instruction, IsLawful, flow_at, targets_at}
+use Rattle.cfg_model.specs.Program.Chain.{GoesOnTo, OnChain, IsTerminator, IsTerminatorOf, EndsChain}
+use Rattle.cfg_model.specs.Program.Successors.{IsSuccessor, IsCall, LeavesFunction, successors_of_flow}
+use Rattle.cfg_model.specs.Program.Status.{Returns}
+use Rattle.cfg_model.specs.Program.Reach.{Reached}
+use Rattle.cfg_model.specs.Builder.Waits.{IsTarget}
+use Rattle.cfg_model.specs.Builder.Fact.{Fact}
+use Rattle.cfg_model.specs.Builder.Kept.{IsClosed}
+use Rattle.cfg_model.specs.Builder.Shown.{ShowsGraph}
+use Rattle.cfg_model.specs.Builder.State.{BuilderState, EndEntry, TerminatorEntry, HasEnd, IsNear, StandsAt, IsStart, IsReturned}
+use Rattle.cfg_model.proofs.Program.Listed.{none_in, in_cases}
+use Rattle.cfg_model.proofs.Builder.StateGrowth.{none_is_some}
+use Rattle.cfg_model.proofs.Program.Along.{returns_along}
+use Rattle.cfg_model.proofs.Graphs.LeaderFacts.{target_leads, reached_along as reached_on}
+use Rattle.split_laws.proofs.SettledLaws.{starts_are_near_once}
+use Rattle.status_laws.proofs.SoundLaws.{kept_is_sound, sound_facts_hold}
+use Rattle.status_laws.proofs.ClosedLaws.{settled, closed_shows_graph}
+use Rattle.cfg_model.proofs.Program.Known.{reached_along}
 use Rattle.finaliser.specs.Closed.{IsClosedFromSome}
 
 -- an end where a start is near is there, and where an end is there, a start is near

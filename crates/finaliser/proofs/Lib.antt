@@ -1,5 +1,4 @@
 pub mod Closed
-pub mod WaysOn
 pub mod Starts
 pub mod Read
 pub mod Whole

@@ -1,23 +1,24 @@
 -- A walk over the ends of a closed state, end by end, and what it has read up to an address.
-use Rattle.std.proofs.Common.{◌≡◌, ◌≢◌, ℕ, suc, ◌+◌, ◌<◌, ◌≤◌, ◌⊎◌, List, [], ◌∷◌, ◌++◌, length, get_or, Option, Some, None, refl, sym, ap, ◌∙◌, subst, inl, inr, ⊎_elim, arith}
-use Rattle.std.specs.List.{AllPairs, Contains}
+use Rattle.std.proofs.Common.{◌≡◌, ◌≢◌, ℕ, ◌+◌, ◌<◌, ◌≤◌, ◌⊎◌, List, [], ◌∷◌, ◌++◌, get_or, Option, Some, None, sym, ◌∙◌, subst, inl, inr, ⊎_elim, arith}
+use Rattle.std.specs.List.{AllPairs}
 use Rattle.std.proofs.lemmas.Bool.{cases_lt}
 use Rattle.std.proofs.lemmas.Option.{same_Some}
 use Rattle.std.proofs.lemmas.List.Elements.{Contains-get_or}
 use Rattle.std.proofs.lemmas.List.Quantifiers.{all_pairs_push}
 use Rattle.cfg_model.specs.declared.graph.Block.{Block}
 use Rattle.cfg_model.specs.declared.graph.Edge.{Edge}
-use Rattle.cfg_model.specs.Instructions.{InstructionMap, IsLawful}
-use Rattle.cfg_model.specs.Edge.{LeadsTo}
-use Rattle.cfg_model.specs.Gains.{Gains}
-use Rattle.cfg_model.specs.Runs.{IsBlockOf}
-use Rattle.cfg_model.specs.State.{BuilderState, HasEnd, IsNear}
-use Rattle.cfg_model.proofs.Outline.Lists.{Contains-none}
-use Rattle.cfg_model.proofs.Outline.Gaining.{Gains-none, Gains-pushed, Gains-same, Gains-then}
-use Rattle.cfg_model.proofs.Outline.OneBlock.{one_block_of}
+use Rattle.cfg_model.specs.Program.Instructions.{InstructionMap, IsLawful}
+use Rattle.cfg_model.specs.Graph.Edge.{LeadsTo, Leaves}
+use Rattle.cfg_model.specs.Program.Status.{Returns}
+use Rattle.cfg_model.specs.Graph.Listing.{Gains}
+use Rattle.cfg_model.specs.Graph.Block.{IsBlockOf}
+use Rattle.cfg_model.specs.Builder.State.{BuilderState, HasEnd, IsNear}
+use Rattle.cfg_model.proofs.Graphs.Lists.{Contains-none}
+use Rattle.cfg_model.proofs.Graphs.Gaining.{Gains-none, Gains-pushed, Gains-same, Gains-then}
+use Rattle.cfg_model.proofs.Graphs.OneBlock.{one_block_of}
 use Rattle.core_state.specs.Least.{IsAbove, IsLeast}
 use Rattle.finaliser.specs.Closed.{IsClosedFromSome}
-use Rattle.finaliser.specs.Shown.{IsShownBlock, IsShownEdge, Leaves, StartApart}
+use Rattle.finaliser.specs.Inner.Shown.{IsShownBlock, IsShownEdge, StartApart}
 use Rattle.finaliser.proofs.Closed.{near_has, near_once}
 
 -- k was passed where the walk stands at this address
@@ -35,7 +36,7 @@ abbrev pub ReadBlock : InstructionMap → BuilderState → Option ℕ → Block 
 ReadBlock map state at block = (k : ℕ) × IsPassed at k × IsNear state.ends k block.start × IsBlockOf map block.start k block
 
 abbrev pub ReadEdge : InstructionMap → BuilderState → Option ℕ → Edge → Type 0
-ReadEdge map state at edge = (k : ℕ) × IsPassed at k × IsNear state.ends k edge.from × LeadsTo map k edge.to edge.kind
+ReadEdge map state at edge = (k : ℕ) × IsPassed at k × IsNear state.ends k edge.from × LeadsTo map (Returns map) k edge.to edge.kind
 
 -- the program is lawful where an end was passed
 abbrev pub IsLawfulFrom : InstructionMap → Option ℕ → Type 0
@@ -111,15 +112,15 @@ module _ (map : InstructionMap) (state : BuilderState) (at : Option ℕ) (s k : 
       last : (x : Block) → IsNear state.ends k x.start → IsBlockOf map x.start k x → x ≡ block
       last x here is = one_block_of map s k x block (subst (λ t. IsBlockOf map t k x) (one_near state k x.start s here near) is) of
 
-  edges_more : (old new : List Edge) → Gains [] old (ReadEdge map state at) → Gains old new (Leaves map s k) → Gains [] new (ReadEdge map state (Some k))
+  edges_more : (old new : List Edge) → Gains [] old (ReadEdge map state at) → Gains old new (Leaves map (Returns map) s k) → Gains [] new (ReadEdge map state (Some k))
   edges_more old new before gains =
-      Gains-same [] new (λ x. ReadEdge map state at x ⊎ Leaves map s k x) (ReadEdge map state (Some k))
-      (λ x h. ⊎_elim (λ read. earlier x read) (λ leaves. (k, low, subst (IsNear state.ends k) (sym leaves.0) near, leaves.1)) h)
+      Gains-same [] new (λ x. ReadEdge map state at x ⊎ Leaves map (Returns map) s k x) (ReadEdge map state (Some k))
+      (λ x h. ⊎_elim (λ read. earlier x read) (λ leaves. (k, low, subst (IsNear state.ends k) (sym leaves.from) near, leaves.leads)) h)
       (λ x read. ⊎_elim
       (λ was. inl (read.0, was, read.2, read.3))
-      (λ e. inr (one_near state k x.from s (subst (λ j. IsNear state.ends j x.from) e read.2) near, subst (λ j. LeadsTo map j x.to x.kind) e read.3))
+      (λ e. inr (record { from = one_near state k x.from s (subst (λ j. IsNear state.ends j x.from) e read.2) near; leads = subst (λ j. LeadsTo map (Returns map) j x.to x.kind) e read.3 }))
       (up_to state at k read.0 next (near_has state read.0 x.from read.2) read.1))
-      (Gains-then [] old new (ReadEdge map state at) (Leaves map s k) before gains)
+      (Gains-then [] old new (ReadEdge map state at) (Leaves map (Returns map) s k) before gains)
     where
       earlier : (x : Edge) → ReadEdge map state at x → ReadEdge map state (Some k) x
       earlier x read = let up : read.0 < k = passed_less at read.0 k read.1 next.0.1 in (read.0, omega arith, read.2, read.3)
@@ -141,7 +142,7 @@ module _ (map : InstructionMap) (state : BuilderState) (at : Option ℕ) (s k : 
         (before.nothing_else (get_or old i d) (Contains-get_or old i d within))))
 
     pub read_more : (blocks new_blocks : List Block) (edges new_edges : List Edge) (block : Block)
-        → IsReading map state at blocks edges → new_blocks ≡ blocks ++ block ∷ [] → IsBlockOf map s k block → Gains edges new_edges (Leaves map s k)
+        → IsReading map state at blocks edges → new_blocks ≡ blocks ++ block ∷ [] → IsBlockOf map s k block → Gains edges new_edges (Leaves map (Returns map) s k)
         → IsReading map state (Some k) new_blocks new_edges
     read_more blocks new_blocks edges new_edges block reading is of gains = record {
       lawful = lawful;

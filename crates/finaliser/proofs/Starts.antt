@@ -1,5 +1,5 @@
 -- Blocks that start apart, in the order of their starts.
-use Rattle.std.proofs.Common.{◌≡◌, ℕ, ◌<◌, ◌≤◌, List, length, get_or, Bool, eqb, sym, ◌∙◌, ⊎_elim, arith}
+use Rattle.std.proofs.Common.{◌≡◌, ℕ, ◌≤◌, List, get_or, Bool, eqb, sym, ◌∙◌, ⊎_elim, arith}
 use Rattle.std.specs.List.{AllPairs, Contains, IsDistinct}
 use Rattle.std.specs.List.Sorted.{IsNonDecreasingBy, IsPermutation}
 use Rattle.std.specs.Prelude.{◌↔◌}
@@ -7,8 +7,8 @@ use Rattle.std.proofs.lemmas.Bool.{cases_eq, eqb-false, eq-eqb, ne_eqb}
 use Rattle.std.proofs.lemmas.List.Sorted.{Contains-permutation, IsPermutation-sym}
 use Rattle.std.proofs.lemmas.Map.Keys.{IsDistinct-from_apart, IsDistinct-IsPermutation, apart_from_distinct}
 use Rattle.cfg_model.specs.declared.graph.Block.{Block}
-use Rattle.cfg_model.specs.Graph.{BlockBefore}
-use Rattle.finaliser.specs.Shown.{StartApart}
+use Rattle.cfg_model.specs.Graph.Graph.{BlockBefore}
+use Rattle.finaliser.specs.Inner.Shown.{StartApart}
 
 eqb-flips : (a b : ℕ) → eqb a b ≡ eqb b a
 eqb-flips a b = ⊎_elim (λ e. eq-eqb a b e ∙ sym (eq-eqb b a (sym e))) (λ ne. ne_eqb a b ne ∙ sym (ne_eqb b a (λ e. ne (sym e)))) (cases_eq a b)

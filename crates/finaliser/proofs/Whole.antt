@@ -1,20 +1,20 @@
 -- What the ends of a closed state show are the blocks and edges of the program.
-use Rattle.std.proofs.Common.{ℕ, ◌⊎◌, List, [], refl, ⊎_elim}
+use Rattle.std.proofs.Common.{ℕ, ◌⊎◌, List, [], ⊎_elim}
 use Rattle.std.specs.List.{AllPairs, Contains}
 use Rattle.std.specs.Prelude.{◌↔◌}
 use Rattle.cfg_model.specs.declared.graph.Block.{Block}
 use Rattle.cfg_model.specs.declared.graph.Edge.{Edge}
-use Rattle.cfg_model.specs.Instructions.{InstructionMap, IsLawful}
-use Rattle.cfg_model.specs.Block.{IsBlock}
-use Rattle.cfg_model.specs.Edge.{IsEdge}
-use Rattle.cfg_model.specs.Gains.{Gains}
-use Rattle.cfg_model.specs.Graph.{BlockBefore, EdgeBefore, IsOutline}
-use Rattle.cfg_model.specs.Listing.{Lists}
-use Rattle.cfg_model.specs.Kept.{IsClosed}
-use Rattle.cfg_model.specs.State.{BuilderState, HasEnd}
-use Rattle.cfg_model.proofs.ClosedLaws.{closed_shows_graph}
-use Rattle.cfg_model.proofs.Outline.Lists.{Contains-none}
-use Rattle.finaliser.specs.Shown.{IsShownBlock, IsShownEdge}
+use Rattle.cfg_model.specs.Program.Instructions.{InstructionMap, IsLawful}
+use Rattle.cfg_model.specs.Graph.Block.{IsBlock}
+use Rattle.cfg_model.specs.Graph.Edge.{IsEdge}
+use Rattle.cfg_model.specs.Graph.Listing.{Gains}
+use Rattle.cfg_model.specs.Graph.Graph.{BlockBefore, EdgeBefore, IsOutline}
+use Rattle.cfg_model.specs.Graph.Listing.{Lists}
+use Rattle.cfg_model.specs.Builder.Kept.{IsClosed}
+use Rattle.cfg_model.specs.Builder.State.{BuilderState, HasEnd}
+use Rattle.status_laws.proofs.ClosedLaws.{closed_shows_graph}
+use Rattle.cfg_model.proofs.Graphs.Lists.{Contains-none}
+use Rattle.finaliser.specs.Inner.Shown.{IsShownBlock, IsShownEdge}
 use Rattle.finaliser.proofs.Closed.{near_has, none_reached}
 
 -- a list that gained what holds, put in order, lists what it is the same as
@@ -32,8 +32,8 @@ module _ (map : InstructionMap) (seeds : List ℕ) (state : BuilderState) (close
     block_is : (block : Block) → IsShownBlock map state block ↔ IsBlock map seeds block
     block_is block =
         let shows = closed_shows_graph map seeds lawful state closed in (
-          λ shown. let is = (shows.blocks block.start shown.0).0 shown.1 in (shown.0, record { leader = is.0; last = is.1; ends = shown.2.ends; kind = shown.2.kind }),
-          λ is. (is.0, (shows.blocks block.start is.0).1 (is.1.leader, is.1.last), record { start = refl; ends = is.1.ends; kind = is.1.kind }),
+          λ shown. let is = (shows.blocks block.start shown.0).0 shown.1 in (shown.0, record { leader = is.0; last = is.1; of = shown.2 }),
+          λ is. (is.0, (shows.blocks block.start is.0).1 (is.1.leader, is.1.last), is.1.of),
         )
 
     edge_is : (edge : Edge) → IsShownEdge map state edge ↔ IsEdge map seeds edge

@@ -1,9 +1,17 @@
--- A builder's state from which a graph can be read off.
+-- A builder's state from which a graph can be read off, and what is read off it.
 use Rattle.std.specs.Prelude.{ℕ, List}
-use Rattle.cfg_model.specs.Instructions.{InstructionMap}
-use Rattle.cfg_model.specs.State.{BuilderState}
-use Rattle.cfg_model.specs.Kept.{IsClosed}
+use Rattle.cfg_model.specs.Program.Instructions.{InstructionMap}
+use Rattle.cfg_model.specs.Graph.Graph.{IsOutline}
+use Rattle.cfg_model.specs.Builder.State.{BuilderState}
+use Rattle.cfg_model.specs.Builder.Kept.{IsClosed}
+use Rattle.finaliser.specs.declared.outline.Outline.{Outline}
 
 -- The state is closed for some seeds: it is kept, and nothing is left to do.
 abbrev pub IsClosedFromSome : InstructionMap → BuilderState → Type 0
 IsClosedFromSome map state = (seeds : List ℕ) × IsClosed map seeds state
+
+-- The outline of a state: for whatever seeds it is closed, the blocks and edges of the program.
+abbrev pub IsOutlineOf : InstructionMap → BuilderState → Outline → Type 0
+IsOutlineOf map state outline =
+    (seeds : List ℕ) → IsClosed map seeds state
+    → IsOutline map seeds outline.blocks outline.edges

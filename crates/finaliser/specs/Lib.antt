@@ -1,2 +1,2 @@
 pub mod Closed
-pub mod Shown
+pub mod Inner

@@ -17,3 +17,9 @@ impl<T: Drop> From<AllocFailed<T>> for Memory {
         Memory
     }
 }
+
+impl From<cfg_model::Memory> for Memory {
+    fn from(_: cfg_model::Memory) -> Self {
+        Memory
+    }
+}

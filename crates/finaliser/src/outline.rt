@@ -1,18 +1,16 @@
 //! The blocks and edges that a closed state shows.
 
-ghost use Rattle.std.specs.Prelude.{◌⊎◌, ℕ, List, [], AllPairs, IfOk};
-ghost use Rattle.cfg_model.specs.Gains.{Gains};
-ghost use Rattle.cfg_model.specs.Graph.{IsOutline};
-ghost use Rattle.cfg_model.specs.Instructions.{IsLawful};
-ghost use Rattle.cfg_model.specs.Kept.{IsClosed};
-ghost use Rattle.cfg_model.specs.State.{HasEnd, IsNear};
-ghost use Rattle.finaliser.specs.Closed.{IsClosedFromSome};
-ghost use Rattle.finaliser.specs.Shown.{IsShownBlock, IsShownEdge, StartApart};
+ghost use Rattle.std.specs.Prelude.{◌⊎◌, ℕ, [], AllPairs, IfOk};
+ghost use Rattle.cfg_model.specs.Graph.Listing.{Gains};
+ghost use Rattle.cfg_model.specs.Program.Instructions.{IsLawful};
+ghost use Rattle.cfg_model.specs.Builder.State.{HasEnd, IsNear};
+ghost use Rattle.finaliser.specs.Closed.{IsClosedFromSome, IsOutlineOf};
+ghost use Rattle.finaliser.specs.Inner.Shown.{IsShownBlock, IsShownEdge, StartApart};
 
-use crate::blocks::{block_of, by_start};
-use crate::edges::{add_edges, in_order};
+use crate::blocks::by_start;
+use crate::edges::add_ways;
 use crate::memory::Memory;
-use cfg_model::{Block, Blocks, Chains, Edge, Edges};
+use cfg_model::{Block, Blocks, Chains, Edge, Edges, block_of, edges_in_order};
 use core_state::State;
 use std::alloc::Global;
 
@@ -38,13 +36,13 @@ pub fn blocks_and_edges<C: Chains>(
     code: &C,
     state: &State,
 ) -> Result<Outline, Memory>
-    requires closed { IsClosedFromSome (C.map code.now) state.now }
-    ensures outline { IfOk result (λ outline. (seeds : List ℕ) → IsClosed (C.map code.now) seeds state.now → IsOutline (C.map code.now) seeds outline.blocks outline.edges) }
+    requires closed { IsClosedFromSome (C.map code.now) state.now.maps }
+    ensures outline { IfOk result (IsOutlineOf (C.map code.now) state.now.maps) }
 {
     let (blocks, edges) = read_ends(alloc, code, state)?;
     Ok(Outline {
         blocks: Blocks::from_vec(by_start(blocks)),
-        edges: Edges::from_vec(in_order(edges)),
+        edges: Edges::from_vec(edges_in_order(edges)),
     })
 }
 
@@ -55,18 +53,18 @@ fn read_ends<C: Chains>(
     code: &C,
     state: &State,
 ) -> Result<(Vec<Block>, Vec<Edge>), Memory>
-    requires closed { IsClosedFromSome (C.map code.now) state.now }
-    ensures lawful { IfOk result (λ _. IsLawful (C.map code.now) ⊎ ((k : ℕ) → ¬ HasEnd state.now.ends k)) }
-    ensures blocks { IfOk result (λ o. Gains [] o.0.items (IsShownBlock (C.map code.now) state.now)) }
+    requires closed { IsClosedFromSome (C.map code.now) state.now.maps }
+    ensures lawful { IfOk result (λ _. IsLawful (C.map code.now) ⊎ ((k : ℕ) → ¬ HasEnd state.now.maps.ends k)) }
+    ensures blocks { IfOk result (λ o. Gains [] o.0.items (IsShownBlock (C.map code.now) state.now.maps)) }
     ensures apart { IfOk result (λ o. AllPairs StartApart o.0.items) }
-    ensures edges { IfOk result (λ o. Gains [] o.1.items (IsShownEdge (C.map code.now) state.now)) }
+    ensures edges { IfOk result (λ o. Gains [] o.1.items (IsShownEdge (C.map code.now) state.now.maps)) }
 {
     let mut blocks = Vec::new(alloc);
     let mut edges = Vec::new(alloc);
     let mut at = None;
     while let Some(k) = state.end_after(at) {
         let s = start_at(state, k);
-        add_edges(code, state, s, k, &mut edges)?;
+        add_ways(code, state, s, k, &mut edges)?;
         blocks.push(block_of(code, s, k))?;
         at = Some(k);
     }
@@ -75,8 +73,8 @@ fn read_ends<C: Chains>(
 
 /// The start of the block that ends at `k`.
 fn start_at(state: &State, k: u64) -> u64
-    requires { HasEnd state.now.ends k }
-    ensures { IsNear state.now.ends k result }
+    requires { HasEnd state.now.maps.ends k }
+    ensures { IsNear state.now.maps.ends k result }
 {
     match state.near(k) {
         Some(s) => s,

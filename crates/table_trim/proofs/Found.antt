@@ -9,7 +9,7 @@ use Rattle.std.proofs.lemmas.Option.{same_Some, none-some}
 use borrow.Author.Count.{below_more}
 use Rattle.jump_table.specs.declared.table.Table.{Table}
 use Rattle.jump_table.specs.Table.{table_at}
-use Rattle.table_trim.specs.Bases.{IsBaseOf, AreBases}
+use Rattle.table_trim.specs.Inner.{IsBaseOf, AreBases}
 
 -- The base of the table of jump k is there.
 abbrev pub HasBase : List ℕ → List ℕ → List ℕ → ℕ → Type 0

@@ -11,11 +11,11 @@ use borrow.Author.Count.{below_more}
 use Rattle.jump_table.specs.declared.table.Table.{Table}
 use Rattle.jump_table.specs.Table.{table_at}
 use Rattle.jump_table.proofs.Targets.{is_table}
-use Rattle.cfg_model.specs.Cuts.{Extent, IsBaseInside, IsCutTo, AreCuts}
-use Rattle.cfg_model.proofs.MapFacts.{same_or_other, get_here, get_apart}
+use Rattle.cfg_model.specs.Program.Cuts.{Extent, IsBaseInside, IsCutTo, AreCuts}
+use Rattle.cfg_model.proofs.Builder.MapFacts.{same_or_other, get_here, get_apart}
 use Rattle.code_view.specs.Cuts.{Counts, cut_of, CutsFit, CanBeKept}
 use Rattle.table_trim.specs.Extents.{extent_of, extent_at}
-use Rattle.table_trim.specs.Bases.{IsBaseOf, AreBases, IsInside, IsCutBy, CutBy, JumpCutBy}
+use Rattle.table_trim.specs.Inner.{IsBaseOf, AreBases, IsInside, IsCutBy, CutBy, JumpCutBy}
 
 -- A jump whose table is cut to this many entries.
 pub record IsCutJump (bytes jumps bases : List ℕ) (j kept : ℕ) : Type 0 where

@@ -6,7 +6,7 @@ use Rattle.std.proofs.lemmas.Bool.{leb-true, leb-false, cases_order}
 use Rattle.std.proofs.lemmas.List.{get_or_default}
 use Rattle.std.proofs.lemmas.List.Elements.{Contains-get_or}
 use Rattle.jump_table.specs.declared.table.Table.{Table}
-use Rattle.table_trim.specs.Bases.{IsInside, IsCutBy}
+use Rattle.table_trim.specs.Inner.{IsInside, IsCutBy}
 
 -- The bases up to place i are those not above the start.
 pub record IsSplit (bases : List ℕ) (start i : ℕ) : Type 0 where

@@ -1,3 +1,6 @@
 pub mod Found
 pub mod Least
 pub mod Kept
+pub mod Flows
+pub mod Walk
+pub mod Reached

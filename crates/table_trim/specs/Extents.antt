@@ -3,7 +3,7 @@ use Rattle.std.specs.Prelude.{List, ℕ}
 use Rattle.std.specs.Option.{option_map}
 use Rattle.jump_table.specs.declared.table.Table.{Table}
 use Rattle.jump_table.specs.Table.{table_at}
-use Rattle.cfg_model.specs.Cuts.{Extent, Tables}
+use Rattle.cfg_model.specs.Program.Cuts.{Extent, Tables}
 
 -- Where a jump table lies.
 abbrev pub extent_of : Table → Extent

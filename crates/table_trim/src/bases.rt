@@ -3,7 +3,7 @@
 ghost use Rattle.std.specs.Prelude.{◌≡◌, IsTrue, IfOk, All};
 ghost use Rattle.std.specs.List.Sorted.{IsNonDecreasing};
 ghost use Rattle.elf_image.specs.Code.{is_code};
-ghost use Rattle.table_trim.specs.Bases.{AreBases, CutBy};
+ghost use Rattle.table_trim.specs.Inner.{AreBases, CutBy};
 
 use code_view::{Code, Memory};
 use jump_table::Table;

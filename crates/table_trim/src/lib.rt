@@ -2,11 +2,15 @@
 //!
 //! The entries of a table lie one after another, and the bound test in front of its jump may allow more
 //! than belong to it. A table ends at the latest where the next one begins, so it is cut there.
+//!
+//! - `jumps`: the table jumps that a closed state shows. - `bases`: where their tables begin.
+//! - `trim`: the cuts of these tables.
 #![tactic(auto)]
 
 mod bases;
-mod cuts;
+mod jumps;
 #[cfg(test)]
 mod tests;
+mod trim;
 
-pub use cuts::cuts_of;
+pub use trim::cuts;

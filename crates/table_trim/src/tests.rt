@@ -3,7 +3,8 @@
 ghost use Rattle.std.specs.Prelude.{IsSome};
 ghost use Rattle.code_view.specs.FileCode.{program_of};
 
-use crate::cuts_of;
+use crate::cuts;
+use alone::build_alone;
 use cfg_model::{Chains, Flow};
 use cfg_vectors::row_file;
 use code_view::{Code, Cuts};
@@ -16,6 +17,9 @@ use std::test::Fail;
 const FIRST: u64 = 0x1001C;
 
 const SECOND: u64 = 0x10048;
+
+/// The entry of its file and the other symbol.
+const SEEDS: [u64; 2] = [0x10000, 0x10028];
 
 /// The kept targets of the jump at `a`.
 fn kept_targets(alloc: Global, code: &Code<'_>, a: u64) -> Result<Vec<u64>, AllocFailed<u64>>
@@ -45,7 +49,9 @@ fn cuts_a_table_where_another_begins(rt: HostRuntime) -> Result<(), Fail> {
     let targets = kept_targets(rt.alloc(), &code, SECOND)?;
     assert_eq!(rt; targets.as_slice(), [0x10054, 0x10054].as_slice());
 
-    let cuts = cuts_of(rt.alloc(), &code, &[FIRST, SECOND])?;
+    assert!(rt; code.has(SEEDS[0]) && code.has(SEEDS[1]));
+    let state = build_alone(rt.alloc(), &code, &SEEDS)?;
+    let cuts = cuts(rt.alloc(), &code, &state)?;
     assert!(rt; none.is_empty() && !cuts.is_empty());
     assert_eq!(rt; cuts.count(FIRST), Some(2));
     assert_eq!(rt; cuts.count(SECOND), None);

@@ -1,7 +1,0 @@
--- What `Code` keeps. No public clause names what stands here.
-use Rattle.code_view.specs.declared.code.Code.TheInside.{Inside}
-use Rattle.code_view.specs.Cuts.{cut_of, CutsFit}
-
--- The cuts are those of tables of the file.
-abbrev pub IsCutToFit : Inside → Type 0
-IsCutToFit c = CutsFit c.image.now (cut_of c.cuts.now)

@@ -1,0 +1,2 @@
+-- Words of private functions, which no public contract cites.
+pub mod Shown

@@ -1,0 +1,115 @@
+-- In an outline that was read off a closed state, a block starts at each leader, so each edge joins two
+-- blocks.
+use Rattle.std.proofs.Common.{◌≡◌, ℕ, ◌+◌, List, [], ◌∷◌, refl, sym, ap, ◌∙◌, subst, ⊎_elim}
+use Rattle.std.specs.Prelude.{Contains, Option, Some, None, option_to_list}
+use Rattle.std.specs.Option.{option_map}
+use Rattle.std.proofs.lemmas.List.Elements.{Contains-append_left, Contains-push}
+use Rattle.cfg_model.specs.declared.flow.Flow.{Flow}
+use Rattle.cfg_model.specs.declared.flow.Flow.TheVariants.{Straight, Branch, Jump, IndirectCall, Table}
+use Rattle.cfg_model.specs.declared.graph.Block.{Block}
+use Rattle.cfg_model.specs.declared.graph.Edge.{Edge}
+use Rattle.cfg_model.specs.declared.graph.EdgeKind.{EdgeKind}
+use Rattle.cfg_model.specs.Program.Instructions.{InstructionMap, Instruction, IsLawful, flow_at, targets_at}
+use Rattle.cfg_model.specs.Program.Chain.{EndsChain, IsTerminator}
+use Rattle.cfg_model.specs.Program.Meeting.{GoesOnInto, IsStop}
+use Rattle.cfg_model.specs.Program.Reach.{Reached}
+use Rattle.cfg_model.specs.Graph.Leader.{IsLeader, StartsBlock}
+use Rattle.cfg_model.specs.Graph.Block.{IsLastOf, end_kind}
+use Rattle.cfg_model.specs.Graph.Edge.{LeadsTo, IsEdge}
+use Rattle.cfg_model.specs.Graph.Function.{IsEntry}
+use Rattle.cfg_model.specs.Graph.Graph.{IsOutline}
+use Rattle.cfg_model.specs.Builder.Kept.{IsClosed}
+use Rattle.cfg_model.specs.Builder.Shown.{ShowsGraph}
+use Rattle.cfg_model.specs.Builder.State.{BuilderState, IsStart}
+use Rattle.cfg_model.specs.Program.Successors.{IsSuccessor, successors_by, successors_of_flow}
+use Rattle.cfg_model.specs.Builder.Waits.{IsTarget}
+use Rattle.status_laws.proofs.ClosedLaws.{settled, closed_shows_graph}
+use Rattle.cfg_model.proofs.Graphs.LeaderFacts.{target_leads}
+use Rattle.split_laws.proofs.SettledLaws.{starts_are_near_once}
+use Rattle.cfg_model.proofs.Program.Known.{reached_along}
+use Rattle.cfg_model.proofs.Graphs.Lists.{Contains-here}
+use Rattle.func_bodies.specs.Inner.Ways.{HasBlockAt, JoinsBlocks}
+use Rattle.cfg_model.specs.Program.Status.{Returns}
+
+successor_by : (map : InstructionMap) (k a : ℕ) (flow : Flow) → flow_at map k ≡ Some flow → Contains (successors_by (targets_at map k) flow) a → IsSuccessor map k a
+successor_by map k a flow h c = subst (λ o. Contains (successors_of_flow (targets_at map k) o) a) (sym h) c
+
+-- an instruction stands where a block ends
+
+ends_stand : (o : Option Instruction) → EndsChain (option_map (λ (i : Instruction). i.flow) o) → (i : Instruction) × (o ≡ Some i)
+ends_stand None h = absurd h
+ends_stand (Some i) h = (i, refl)
+
+goes_stand : (o : Option Instruction) (next : ℕ) → option_map (λ (i : Instruction). i.flow) o ≡ Some (Straight next) → (i : Instruction) × (o ≡ Some i)
+goes_stand None next h = cc
+goes_stand (Some i) next h = (i, refl)
+
+module _ (map : InstructionMap) (seeds : List ℕ) where
+  last_stands : (s k : ℕ) → IsLastOf map (IsLeader map seeds) s k → (i : Instruction) × (map k ≡ Some i)
+  last_stands s k last =
+      ⊎_elim
+      (λ (ends : IsTerminator map k). ends_stand (map k) ends)
+      (λ (meets : GoesOnInto map (IsLeader map seeds) k). goes_stand (map k) meets.0 meets.1)
+      last.stops
+
+  -- each way on from the end of a block leads to a leader
+  leads_on : {k to : ℕ} {kind : EdgeKind} → Reached map seeds k → IsStop map (IsLeader map seeds) k → LeadsTo map (Returns map) k to kind → IsLeader map seeds to
+  leads_on r stops (LeadsTo.straight {k = k} {to = to} h) =
+      ⊎_elim
+      (λ (ends : IsTerminator map k). absurd (subst EndsChain h ends))
+      (λ (meets : GoesOnInto map (IsLeader map seeds) k). let same : meets.0 ≡ to = next_of meets.0 to (sym meets.1 ∙ h) in subst (IsLeader map seeds) same meets.2)
+      stops
+    where
+      next_of : (a b : ℕ) → Some (Straight a) ≡ Some (Straight b) → a ≡ b
+      next_of a b e = cc
+  leads_on r stops (LeadsTo.not_taken {k = k} {to = to} {taken = taken} h) =
+      target_leads map seeds k to r (subst EndsChain (sym h) tt) (IsTarget.onward (successor_by map k to (Branch taken (Some to)) h (Contains-push (option_to_list taken) to)))
+  leads_on r stops (LeadsTo.taken {k = k} {to = to} {fall = fall} h) =
+      target_leads map seeds k to r (subst EndsChain (sym h) tt) (IsTarget.onward (successor_by map k to (Branch (Some to) fall) h (Contains-append_left (to ∷ []) (option_to_list fall) to (Contains-here to []))))
+  leads_on r stops (LeadsTo.jump {k = k} {to = to} h) =
+      target_leads map seeds k to r (subst EndsChain (sym h) tt) (IsTarget.onward (successor_by map k to (Jump to) h (Contains-here to [])))
+  leads_on r stops (LeadsTo.call {k = k} {to = to} h) = target_leads map seeds k to r (subst EndsChain (sym h) tt) (IsTarget.called h)
+  leads_on r stops (LeadsTo.after_indirect {k = k} {to = to} h) =
+      target_leads map seeds k to r (subst EndsChain (sym h) tt) (IsTarget.onward (successor_by map k to (IndirectCall (Some to)) h (Contains-here to [])))
+  leads_on r stops (LeadsTo.after_call h back) = record { reached = Reached.past_call r h back; starts = StartsBlock.past_call r h back }
+  leads_on r stops (LeadsTo.table {k = k} {to = to} {entries = entries} {full = full} h c) =
+      target_leads map seeds k to r (subst EndsChain (sym h) tt) (IsTarget.onward (successor_by map k to (Table entries full) h c))
+
+  pub edge_leads : (edge : Edge) → IsEdge map seeds edge → IsLeader map seeds edge.to
+  edge_leads edge is = leads_on (reached_along is.from.reached is.ends.runs) is.ends.stops is.leads
+
+  -- an entry is a leader
+  pub entry_leads : {a : ℕ} → IsEntry map seeds a → IsLeader map seeds a
+  entry_leads (IsEntry.seed c) = record { reached = Reached.seed c; starts = StartsBlock.seed c }
+  entry_leads (IsEntry.called {k = k} {a = a} r call) = target_leads map seeds k a r (subst EndsChain (sym call) tt) (IsTarget.called call)
+
+  module _ (lawful : IsLawful map) (state : BuilderState) (closed : IsClosed map seeds state) where
+    shows : ShowsGraph map seeds state
+    shows = closed_shows_graph map seeds lawful state closed
+
+    pub leader_starts : (a : ℕ) → IsLeader map seeds a → IsStart state.starts a
+    leader_starts a leader = (shows.starts a).1 leader
+
+    module _ (blocks : List Block) (edges : List Edge) (outline : IsOutline map seeds blocks edges) where
+      pub leader_listed : (a : ℕ) → IsLeader map seeds a → HasBlockAt blocks a
+      leader_listed a leader =
+          let once = starts_are_near_once map seeds lawful state closed.kept.blocks (settled seeds state closed.nothing_left) a (leader_starts a leader) in
+          let last = ((shows.blocks a once.end).0 once.near).1 in
+          let i = last_stands a once.end last in
+          let block : Block = record { start = a; end = once.end + i.0.bytes; kind = end_kind i.0.flow } in (
+            block,
+            outline.all_blocks.complete block (
+              once.end,
+              record {
+                leader = leader;
+                last = last;
+                of = record { start = refl; ends = (i.0.bytes, ap (λ o. option_map (λ (x : Instruction). x.bytes) o) i.1, refl); kind = (i.0.flow, ap (λ o. option_map (λ (x : Instruction). x.flow) o) i.1, refl) };
+              },
+            ),
+            refl,
+          )
+
+      pub edge_joins : (edge : Edge) → Contains edges edge → JoinsBlocks blocks edge
+      edge_joins edge h =
+          let is : IsEdge map seeds edge = outline.all_edges.sound edge h in
+          record { leaves = leader_listed edge.from is.from; enters = leader_listed edge.to (edge_leads edge is) }

@@ -1,0 +1,14 @@
+pub mod Search
+pub mod Sides
+pub mod Numbers
+pub mod Stamps
+pub mod Extending
+pub mod Following
+pub mod Sorting
+pub mod MakingWays
+pub mod Marks
+pub mod Marked
+pub mod Together
+pub mod BlocksListed
+pub mod Whole
+pub mod Parts

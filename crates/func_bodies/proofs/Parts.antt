@@ -1,0 +1,68 @@
+-- What is made from an outline, part by part, for the functions of a program.
+use Rattle.std.proofs.Common.{◌≡◌, ℕ, ◌<◌, List, length, get_or, sym, ◌∙◌, subst}
+use Rattle.std.specs.List.{All, AllZip, Contains}
+use Rattle.std.proofs.lemmas.List.Elements.{Contains-get_or}
+use Rattle.cfg_model.specs.declared.graph.Block.{Block}
+use Rattle.cfg_model.specs.declared.graph.Edge.{Edge}
+use Rattle.cfg_model.specs.declared.graph.Function.{Function}
+use Rattle.cfg_model.specs.Program.Instructions.{InstructionMap, IsLawful}
+use Rattle.cfg_model.specs.Graph.Function.{IsFunction}
+use Rattle.cfg_model.specs.Graph.Graph.{FunctionBefore, IsOutline}
+use Rattle.cfg_model.specs.Builder.Kept.{IsClosed}
+use Rattle.cfg_model.specs.Graph.Leader.{IsLeader}
+use Rattle.cfg_model.specs.Graph.Listing.{Lists}
+use Rattle.cfg_model.specs.Builder.State.{BuilderState, IsStart}
+use Rattle.func_bodies.specs.declared.ways.Way.{Way}
+use Rattle.func_bodies.specs.Listed.{AreOrdered, HaveEachEntry}
+use Rattle.func_bodies.specs.Inner.Entries.{AreEntriesBy}
+use Rattle.func_bodies.specs.Inner.Ways.{HasBlockAt, JoinsBlocks, AreWaysOf}
+use Rattle.func_bodies.specs.Inner.Bodies.{IsFunctionBy}
+use Rattle.func_bodies.proofs.BlocksListed.{edge_joins, entry_leads, leader_listed, leader_starts}
+use Rattle.func_bodies.proofs.Whole.{entry_exact, functions_exact, each_entry, functions_ordered}
+
+-- these are all functions of the program
+pub record AreAll (map : InstructionMap) (seeds : List ℕ) (functions : List Function) : Type 0 where
+  pub exact : Lists FunctionBefore (IsFunction map seeds) functions
+  pub complete : HaveEachEntry map seeds functions
+  pub ordered : AreOrdered functions
+
+pub same_outline : (map : InstructionMap) (seeds : List ℕ) (blocks shown : List Block) (edges ways : List Edge) → blocks ≡ shown → edges ≡ ways → IsOutline map seeds shown ways → IsOutline map seeds blocks edges
+same_outline map seeds blocks shown edges ways b e outline =
+    subst (λ l. IsOutline map seeds l edges) (sym b) (subst (λ l. IsOutline map seeds shown l) (sym e) outline)
+
+-- the targets of ways are blocks
+pub ways_within : (blocks : List Block) (edges : List Edge) (entries : List ℕ) (ways given : List Way) → given ≡ ways → AreWaysOf blocks entries edges ways → All (λ way. way.to < length blocks) given
+ways_within blocks edges entries ways given same they = λ k d lt.
+    let way : Way = get_or given k d in
+    let listed : Contains ways way = subst (λ l. Contains l way) same (Contains-get_or given k d lt) in
+    (they.sound way listed).2.leads.within
+
+module _ (map : InstructionMap) (seeds : List ℕ) (lawful : IsLawful map) (state : BuilderState) (closed : IsClosed map seeds state)
+    (blocks : List Block) (edges : List Edge) (outline : IsOutline map seeds blocks edges) where
+  pub edges_join : All (JoinsBlocks blocks) edges
+  edges_join = λ k d lt. edge_joins map seeds lawful state closed blocks edges outline (get_or edges k d) (Contains-get_or edges k d lt)
+
+  module _ (entries given : List ℕ) (same : given ≡ entries) (are : AreEntriesBy edges seeds entries) where
+    entry_at : (k d : ℕ) → k < length given → IsLeader map seeds (get_or given k d)
+    entry_at k d lt =
+        let a : ℕ = get_or given k d in
+        let listed : Contains entries a = subst (λ l. Contains l a) same (Contains-get_or given k d lt) in
+        entry_leads map seeds ((entry_exact map seeds blocks edges outline entries are a).0 listed)
+
+    pub entries_start : All (IsStart state.starts) given
+    entries_start = λ k d lt. leader_starts map seeds lawful state closed (get_or given k d) (entry_at k d lt)
+
+    pub entries_listed : All (HasBlockAt blocks) given
+    entries_listed = λ k d lt. leader_listed map seeds lawful state closed blocks edges outline (get_or given k d) (entry_at k d lt)
+
+  pub assembled : (entries first given : List ℕ) (ways given_ways : List Way) (functions made : List Function) → first ≡ entries → given ≡ entries → given_ways ≡ ways → made ≡ functions
+      → AreEntriesBy edges seeds entries → AreWaysOf blocks first edges ways → AllZip (IsFunctionBy map blocks given_ways) given functions → AreAll map seeds made
+  assembled entries first given ways given_ways functions made one two three four are they each =
+      let are_given : AreEntriesBy edges seeds given = subst (AreEntriesBy edges seeds) (sym two) are in
+      let they_given : AreWaysOf blocks given edges given_ways =
+      subst (λ l. AreWaysOf blocks given edges l) (sym three) (subst (λ l. AreWaysOf blocks l edges ways) (one ∙ sym two) they) in
+      subst (AreAll map seeds) (sym four) (record {
+        exact = functions_exact map seeds blocks edges outline given are_given given_ways they_given functions each;
+        complete = each_entry map seeds blocks edges outline given are_given given_ways they_given functions each;
+        ordered = functions_ordered map seeds blocks edges outline given are_given given_ways they_given functions each;
+      })

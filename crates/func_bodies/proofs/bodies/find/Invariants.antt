@@ -1,0 +1,14 @@
+use Rattle.std.proofs.Common.{◌≡◌, ◌-◌, ◌^◌, length}
+use Rattle.func_bodies.specs.Inner.Found.{AreStamped}
+use Rattle.func_bodies.proofs.Following.{IsBodySoFar}
+use Rattle.func_bodies.proofs.bodies.find.Given as goal
+
+abbrev pub invariant-loop-i : goal.invariant-loop-i
+invariant-loop-i l = record {
+  stamped : AreStamped l.stamp l.found.order.items l.found.stamps.items;
+  so_far : IsBodySoFar l.ways l.entry l.found.order.items l.i;
+  as_many : length l.found.stamps.items ≡ length l.fn.found.stamps.items;
+}
+
+abbrev pub decreases-loop-i : goal.decreases-loop-i
+decreases-loop-i l = 2 ^ 64 - l.i

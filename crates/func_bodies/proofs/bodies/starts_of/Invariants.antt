@@ -1,0 +1,7 @@
+use Rattle.std.proofs.Common.{take}
+use Rattle.std.specs.List.{AllZip}
+use Rattle.func_bodies.specs.Inner.Ways.{IsNumber}
+use Rattle.func_bodies.proofs.bodies.starts_of.Given as goal
+
+abbrev pub invariant-loop-i : goal.invariant-loop-i
+invariant-loop-i l = AllZip (IsNumber l.blocks) (take l.i-index l.numbers) l.starts.items

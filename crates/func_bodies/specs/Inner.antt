@@ -1,0 +1,6 @@
+-- Words of private functions, which no public contract cites.
+pub mod Entries
+pub mod Ways
+pub mod Found
+pub mod Bodies
+pub mod Marking

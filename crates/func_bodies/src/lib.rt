@@ -1,0 +1,21 @@
+//! The functions of a program, and which of its jumps are tail calls, from the closed state of its
+//! builder and the blocks and edges that were read off it.
+//!
+//! - [`listing`]: the functions, in the order of their entries.
+//! - [`tails`]: tail calls among the edges.
+//! - [`memory`]: the one free answer, want of memory.
+#![tactic(auto)]
+
+mod bodies;
+mod entries;
+mod found;
+pub mod listing;
+pub mod memory;
+pub mod tails;
+#[cfg(test)]
+mod tests;
+mod ways;
+
+pub use listing::functions;
+pub use memory::Memory;
+pub use tails::mark_tails;

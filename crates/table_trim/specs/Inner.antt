@@ -1,0 +1,51 @@
+-- Words that no public clause cites: the bases of the tables of some jumps, how they cut a table, and
+-- the table jumps that a state shows.
+use Rattle.std.specs.Prelude.{◌≡◌, ℕ, ◌+◌, ◌-◌, ◌*◌, ◌/◌, ◌<◌, ◌≤◌, List, Contains, Option, Some, None}
+use Rattle.std.specs.Option.{MatchOption}
+use Rattle.jump_table.specs.declared.table.Table.{Table}
+use Rattle.jump_table.specs.Table.{table_at}
+use Rattle.cfg_model.specs.Builder.State.{BuilderState, IsEntered}
+
+-- The instruction at j is a jump that has a table.
+pub record HasTable (bytes : List ℕ) (j : ℕ) : Type 0 where
+  pub table : Table
+  pub at_jump : table_at bytes j ≡ Some table
+
+-- The terminator at j is known to the state, and has a table.
+abbrev pub IsTableJump : List ℕ → BuilderState → ℕ → Type 0
+IsTableJump bytes state j = IsEntered state.terminators j × HasTable bytes j
+
+-- b is the base of the table of one of the jumps.
+pub record IsBaseOf (bytes jumps : List ℕ) (b : ℕ) : Type 0 where
+  pub jump : ℕ
+  pub counts : Contains jumps jump
+  pub table : Table
+  pub at_jump : table_at bytes jump ≡ Some table
+  pub base : table.base ≡ b
+
+-- These are the bases of the tables of the jumps.
+pub record AreBases (bytes jumps bases : List ℕ) : Type 0 where
+  pub sound : (b : ℕ) → Contains bases b → IsBaseOf bytes jumps b
+  pub complete : (b : ℕ) → IsBaseOf bytes jumps b → Contains bases b
+
+-- b lies strictly inside a table.
+pub record IsInside (table : Table) (b : ℕ) : Type 0 where
+  pub above : table.base < b
+  pub below : b < table.base + 4 * table.count
+
+-- A table is cut to this many entries: up to the least of the bases inside it.
+pub record IsCutBy (bases : List ℕ) (table : Table) (kept : ℕ) : Type 0 where
+  pub base : ℕ
+  pub there : Contains bases base
+  pub inside : IsInside table base
+  pub least : (b : ℕ) → Contains bases b → IsInside table b → base ≤ b
+  pub entries : kept ≡ (base - table.base) / 4
+
+-- How many entries are kept of a table, where one of the bases lies inside it.
+abbrev pub CutBy : List ℕ → Table → Option ℕ → Type 0
+CutBy bases table o =
+    MatchOption o ((b : ℕ) → Contains bases b → ¬ IsInside table b) (IsCutBy bases table)
+
+-- The same of the table of the jump at j, where it has one.
+abbrev pub JumpCutBy : List ℕ → List ℕ → ℕ → Option ℕ → Type 0
+JumpCutBy bytes bases j o = MatchOption (table_at bytes j) (o ≡ None) (λ table. CutBy bases table o)
