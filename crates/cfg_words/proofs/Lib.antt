@@ -1,3 +1,3 @@
 pub mod Number
 pub mod Taken
-pub mod Examples
+pub mod Worked

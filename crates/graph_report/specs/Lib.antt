@@ -3,3 +3,4 @@ pub mod Name
 pub mod Words
 pub mod Line
 pub mod Report
+pub mod Summary

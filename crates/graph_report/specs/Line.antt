@@ -32,7 +32,8 @@ edges_line count = line (codes "edges" ∷ decimal count ∷ [])
 
 -- A function: its entry, whether it may return, how many blocks its body has, and its name.
 abbrev pub function_line : Names → Function → List ℕ
-function_line names f = line (codes "function" ∷ address_digits f.entry ∷ status_word f.returns ∷ decimal (length f.body) ∷ name_field (names f.entry) ∷ [])
+function_line names f =
+    line (codes "function" ∷ address_digits f.entry ∷ status_word f.returns ∷ decimal (length f.body) ∷ name_field (names f.entry) ∷ [])
 
 -- A block of the function above, by where it starts.
 abbrev pub in_line : ℕ → List ℕ
@@ -40,11 +41,24 @@ in_line block = line (codes "in" ∷ address_digits block ∷ [])
 
 -- A block: where it starts, the address behind it, and what it ends with.
 abbrev pub block_line : Block → List ℕ
-block_line b = line (codes "block" ∷ address_digits b.start ∷ address_digits b.end ∷ end_word b.kind ∷ [])
+block_line b =
+    line (codes "block" ∷ address_digits b.start ∷ address_digits b.end ∷ end_word b.kind ∷ [])
 
 -- An edge: the starts of its two blocks, and its kind.
 abbrev pub edge_line : Edge → List ℕ
-edge_line e = line (codes "edge" ∷ address_digits e.from ∷ address_digits e.to ∷ edge_word e.kind ∷ [])
+edge_line e =
+    line (codes "edge" ∷ address_digits e.from ∷ address_digits e.to ∷ edge_word e.kind ∷ [])
+
+-- The first line of the summary of a made program: how many functions were asked for.
+abbrev pub made_line : ℕ → List ℕ
+made_line n = line (codes "cfg-made" ∷ decimal n ∷ [])
+
+-- How many functions may return, and how many may not.
+abbrev pub may_return_line : ℕ → List ℕ
+may_return_line count = line (codes "may-return" ∷ decimal count ∷ [])
+
+abbrev pub no_return_line : ℕ → List ℕ
+no_return_line count = line (codes "no-return" ∷ decimal count ∷ [])
 
 -- The last line.
 abbrev pub end_line : List ℕ

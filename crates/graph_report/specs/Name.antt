@@ -19,7 +19,8 @@ escaped_byte byte = codes "\\x" ++ hex_digit (byte / 16) ∷ hex_digit (byte % 1
 -- A byte of a name: a backslash is doubled, another visible byte stands for itself, and every other
 -- byte is escaped.
 abbrev pub name_byte : ℕ → List ℕ
-name_byte byte = if byte == 92 then codes "\\\\" else (if is_visible byte then byte ∷ [] else escaped_byte byte)
+name_byte byte =
+    if byte == 92 then codes "\\\\" else (if is_visible byte then byte ∷ [] else escaped_byte byte)
 
 -- The name that is one dash.
 abbrev pub is_dash : List ℕ → Bool

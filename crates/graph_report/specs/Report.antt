@@ -20,7 +20,8 @@ function_lines names f = function_line names f ++ flat_map in_line f.body
 
 -- The three sections: how many items there are, and the items in their order.
 abbrev pub functions_section : Names → List Function → List ℕ
-functions_section names functions = functions_line (length functions) ++ flat_map (function_lines names) functions
+functions_section names functions =
+    functions_line (length functions) ++ flat_map (function_lines names) functions
 
 abbrev pub blocks_section : List Block → List ℕ
 blocks_section blocks = blocks_line (length blocks) ++ flat_map block_line blocks
@@ -30,7 +31,10 @@ edges_section edges = edges_line (length edges) ++ flat_map edge_line edges
 
 -- The sections that a report of each kind has: all of them, or the one of its name.
 abbrev pub sections : ReportKind → Names → Graph → List ℕ
-sections reports.Graph names graph = functions_section names graph.functions ++ blocks_section graph.blocks ++ edges_section graph.edges
+sections reports.Graph names graph =
+    functions_section names graph.functions
+    ++ blocks_section graph.blocks
+    ++ edges_section graph.edges
 sections reports.Functions names graph = functions_section names graph.functions
 sections reports.Blocks names graph = blocks_section graph.blocks
 sections reports.Edges names graph = edges_section graph.edges

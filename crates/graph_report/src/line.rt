@@ -2,7 +2,7 @@
 
 ghost use Rattle.std.specs.Prelude.{◌≡◌, ◌++◌, OnOk};
 ghost use Rattle.std.specs.Option.{option_map};
-ghost use Rattle.graph_report.specs.Line.{first_line, entry_line, functions_line, function_line, in_line, blocks_line, block_line, edges_line, edge_line, end_line};
+ghost use Rattle.graph_report.specs.Line.{first_line, entry_line, functions_line, function_line, in_line, blocks_line, block_line, edges_line, edge_line, made_line, may_return_line, no_return_line, end_line};
 
 use crate::field::{
     edge_word, end_word, push_address, push_count, push_field, push_number, push_text, push_word,
@@ -96,6 +96,30 @@ pub fn push_edge(out: &mut Vec<u8>, edge: &Edge) -> Result<(), Memory>
     push_address(out, edge.from)?;
     push_address(out, edge.to)?;
     push_word(out, edge_word(edge.kind))
+}
+
+/// Appends the first line of the summary of the program that is made from `n`.
+pub fn push_made(out: &mut Vec<u8>, n: u32) -> Result<(), Memory>
+    ensures { OnOk result (out.new.items ≡ out.old.items ++ made_line n) }
+{
+    push_text(out, b"cfg-made")?;
+    push_count(out, n as usize)
+}
+
+/// Appends the line that says how many functions may return.
+pub fn push_may_return_count(out: &mut Vec<u8>, count: usize) -> Result<(), Memory>
+    ensures { OnOk result (out.new.items ≡ out.old.items ++ may_return_line count) }
+{
+    push_text(out, b"may-return")?;
+    push_count(out, count)
+}
+
+/// Appends the line that says how many functions may not.
+pub fn push_no_return_count(out: &mut Vec<u8>, count: usize) -> Result<(), Memory>
+    ensures { OnOk result (out.new.items ≡ out.old.items ++ no_return_line count) }
+{
+    push_text(out, b"no-return")?;
+    push_count(out, count)
 }
 
 /// Appends the last line.

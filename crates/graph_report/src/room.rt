@@ -8,6 +8,10 @@ use elf_symbols::Seeds;
 /// `cfg-report 1`, 23 of `entry`, 31, 28 and 27 of the counts, and 4 of `end`.
 pub const FRAME: usize = 126;
 
+/// The length of the longest summary, with counts of twenty digits and a number of ten: 20 bytes of
+/// `cfg-made`, and 31, 28, 27, 32 and 31 of the counts.
+pub const SUMMARY: usize = 169;
+
 /// The length of the longest line of a function without its name: `function ENTRY may-return`, a
 /// count of twenty digits, a space and the newline.
 const FUNCTION_LINE: usize = 59;

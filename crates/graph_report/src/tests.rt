@@ -10,8 +10,8 @@ use std::alloc::{AllocError, Global};
 use std::test::*;
 
 /// A file of six instructions, each of four bytes: a jump to the next one, a return, a jump by 12
-/// bytes, a return, `ebreak` and a return. The four instructions behind the first are functions with
-/// names: a dash, an `a` and a `b` with a space or a backslash between them, and the byte 80
+/// bytes, a return, `ebreak` and a return. The four instructions behind the first are functions
+/// with names: a dash, an `a` and a `b` with a space or a backslash between them, and the byte 80
 /// (hexadecimal).
 const NAMED_FILE: [u8; 480] = [
     0x7F, 0x45, 0x4C, 0x46, 2, 1, 1, 0, 0, 0, 0, 0, 0, 0, 0, 0, 2, 0, 0xF3, 0, 1, 0, 0, 0, 0, 0, 1,
@@ -158,5 +158,20 @@ fn reports_of_each_kind(rt: HostRuntime) -> Result<(), Fail> {
         let text = report(rt.alloc(), &image, &seeds, &graph, kind)?;
         assert_eq!(rt; text.as_slice(), want.as_slice(), "{kind:?}");
     }
+    Ok(())
+}
+
+#[test]
+fn summary_of_counts(rt: HostRuntime) -> Result<(), Fail> {
+    let want = "\
+        cfg-made 4000000000\n\
+        functions 5\n\
+        blocks 6\n\
+        edges 2\n\
+        may-return 4\n\
+        no-return 1\n";
+    let graph = named_graph(rt.alloc())?;
+    let text = summary(rt.alloc(), 4_000_000_000, &graph)?;
+    assert_eq!(rt; text.as_slice(), want.as_bytes());
     Ok(())
 }

@@ -9,6 +9,7 @@ use Rattle.graph_report.specs.Number.{address_digits, hex_digits}
 use Rattle.graph_report.specs.Name.{Names, name_field}
 use Rattle.graph_report.specs.Line.{functions_line, blocks_line, function_line, edge_line}
 use Rattle.graph_report.specs.Report.{report_text}
+use Rattle.graph_report.specs.Summary.{summary_text}
 
 -- no address has a name
 abbrev nameless : Names
@@ -72,6 +73,11 @@ eleven_blocks = refl
 tail_call : edge_line (record { from = 0x1000c; to = 0x10000; kind = kinds.Tail }) ≡ codes "edge 000000000001000c 0000000000010000 tail\n"
 unfolding hex_digits
 tail_call = refl
+
+-- their summary, as if they had been made from the number 5000
+two_functions_summary : summary_text 5000 two_functions ≡ codes "cfg-made 5000\nfunctions 2\nblocks 3\nedges 1\nmay-return 1\nno-return 1\n"
+unfolding digits
+two_functions_summary = refl
 
 -- counts and addresses
 no_functions : functions_line 0 ≡ codes "functions 0\n"

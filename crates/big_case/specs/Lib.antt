@@ -1,0 +1,5 @@
+pub mod Pair
+pub mod Places
+pub mod Slots
+pub mod Tables
+pub mod BigCase

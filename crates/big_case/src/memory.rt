@@ -1,0 +1,25 @@
+//! Want of memory.
+
+use std::alloc::{AllocError, AllocFailed};
+
+/// Memory ran out.
+#[derive(Clone, Copy, Debug, PartialEq, Eq)]
+pub struct Memory;
+
+impl From<AllocError> for Memory {
+    fn from(_: AllocError) -> Self {
+        Memory
+    }
+}
+
+impl<T: Drop> From<AllocFailed<T>> for Memory {
+    fn from(_: AllocFailed<T>) -> Self {
+        Memory
+    }
+}
+
+impl From<elf_maker::Memory> for Memory {
+    fn from(_: elf_maker::Memory) -> Self {
+        Memory
+    }
+}

@@ -1,0 +1,44 @@
+//! The summary of the graph of a program that was made from a number.
+
+ghost use Rattle.std.specs.Prelude.{◌≡◌, IfOk};
+ghost use Rattle.graph_report.specs.Summary.{may_return_count, no_return_count, summary_text};
+
+use crate::line::{
+    push_block_count, push_edge_count, push_function_count, push_made, push_may_return_count,
+    push_no_return_count,
+};
+use crate::memory::Memory;
+use crate::room::SUMMARY;
+use cfg_model::{Function, Graph};
+use std::alloc::Global;
+
+/// The summary of `graph`, the graph of the program that is made from `n`, or want of memory: how
+/// many functions, blocks and edges it has, and how many functions may return and may not.
+///
+/// It takes time linear in the number of functions. Room for the text is taken once.
+pub fn summary(alloc: Global, n: u32, graph: &Graph) -> Result<Vec<u8>, Memory>
+    ensures text { IfOk result (λ v. v.items ≡ summary_text n graph.now) }
+{
+    let mut out = Vec::with_capacity(alloc, SUMMARY)?;
+    push_made(&mut out, n)?;
+    push_function_count(&mut out, graph.functions.as_slice().len())?;
+    push_block_count(&mut out, graph.blocks.as_slice().len())?;
+    push_edge_count(&mut out, graph.edges.as_slice().len())?;
+    push_may_return_count(&mut out, may_return_count(graph.functions.as_slice()))?;
+    push_no_return_count(&mut out, no_return_count(graph.functions.as_slice()))?;
+    Ok(out)
+}
+
+/// How many of these functions may return.
+fn may_return_count(functions: &[Function]) -> usize
+    ensures { result ≡ may_return_count functions.now }
+{
+    functions.iter().filter(|f| f.returns).count()
+}
+
+/// How many of these functions may not return.
+fn no_return_count(functions: &[Function]) -> usize
+    ensures { result ≡ no_return_count functions.now }
+{
+    functions.iter().filter(|f| !f.returns).count()
+}
