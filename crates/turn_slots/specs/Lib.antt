@@ -1,0 +1,5 @@
+pub mod TurnsId
+pub mod Seat
+pub mod Rule
+pub mod TurnLaws
+pub mod Inner

@@ -1,0 +1,35 @@
+//! What a try of a turn answers.
+
+use std::alloc::{AllocError, AllocFailed};
+
+/// The value of one slot, out with the seat that took it. It must be given back, so it has no
+/// `Drop`.
+pub struct Hold<V> {
+    /// The slot that it came from.
+    pub slot: u32,
+    /// Its value, which may be changed, as long as it fits the slot when it is given back.
+    pub value: V,
+}
+
+/// The turn of a slot stood taken at the one try.
+#[derive(Clone, Copy, Debug, PartialEq, Eq)]
+pub struct Taken {
+    /// The slot asked for.
+    pub slot: u32,
+}
+
+/// Memory ran out.
+#[derive(Clone, Copy, Debug, PartialEq, Eq)]
+pub struct Memory;
+
+impl From<AllocError> for Memory {
+    fn from(_: AllocError) -> Self {
+        Memory
+    }
+}
+
+impl<T: Drop> From<AllocFailed<T>> for Memory {
+    fn from(_: AllocFailed<T>) -> Self {
+        Memory
+    }
+}

@@ -1,0 +1,32 @@
+//! What holds between any two steps, whatever the threads do, and what a take and a give change.
+//! Each law is the contract of a function that does nothing.
+ghost use Rattle.turn_slots.specs.TurnLaws.{TakenIsHeldByOne, FreeHasItsValue, HeldOnce, SharesAddUp, SpentHoldsNothing, FreshHoldsNothing, TakeAddsOneSlot, GiveTakesOneSlot, GiveUndoesTake};
+
+use crate::rule::Fits;
+
+/// A turn word stands taken only while one seat, and no other, holds its slot. Where it does not,
+/// the value lies in its slot and fits.
+pub fn a_taken_turn_has_one_holder<V, F: Fits<V>>()
+    ensures taken { TakenIsHeldByOne F.fits }
+    ensures free { FreeHasItsValue F.fits }
+{}
+
+/// No two seats hold one slot.
+pub fn a_slot_is_held_once<V, F: Fits<V>>()
+    ensures { HeldOnce F.fits }
+{}
+
+/// The shares of all seats add up to one, and a seat that is spent holds nothing.
+pub fn the_shares_of_all_seats_add_up<V, F: Fits<V>>()
+    ensures one { SharesAddUp F.fits }
+    ensures spent { SpentHoldsNothing F.fits }
+{}
+
+/// A new seat holds nothing; a take adds the slot alone to what the seat holds, and a give takes
+/// the slot alone away. So a seat that gives back what it took is as it was.
+pub fn a_call_moves_its_own_slot_alone()
+    ensures fresh { FreshHoldsNothing }
+    ensures take { TakeAddsOneSlot }
+    ensures give { GiveTakesOneSlot }
+    ensures undone { GiveUndoesTake }
+{}

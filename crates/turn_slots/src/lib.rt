@@ -1,0 +1,25 @@
+//! Values behind turns: each value lies in a slot of its own, and whoever has the turn of a slot
+//! has its value, alone, until it is given back. No call waits: a try either wins the turn or finds
+//! it taken.
+//!
+//! - [`Fits`]: what holds of the value of each slot, at every moment.
+//! - [`Turns`]: the slots with their turn words, which threads share by reference.
+//! - [`TurnSeat`]: what one thread takes turns with, and gives them back. A seat may be split for another
+//!   thread and joined again; the only seat closes the slots.
+//! - [`Hold`]: the value of one slot, out with a seat.
+//! - [`laws`]: what holds between any two steps, whatever the threads do.
+#![tactic(auto)]
+
+mod hold;
+pub mod laws;
+mod rule;
+mod seat;
+mod table;
+#[cfg(test)]
+mod tests;
+mod view;
+
+pub use hold::{Hold, Memory, Taken};
+pub use rule::Fits;
+pub use seat::TurnSeat;
+pub use table::Turns;
