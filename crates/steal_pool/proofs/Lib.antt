@@ -1,0 +1,9 @@
+pub mod Sums
+pub mod Lists
+pub mod HandTries
+pub mod Takings
+pub mod Making
+pub mod Gathering
+pub mod TestHands
+pub mod Rules
+pub mod Rounds

@@ -1,0 +1,6 @@
+pub mod Often
+pub mod Rose
+pub mod Tries
+pub mod Pool
+pub mod Taking
+pub mod inner
