@@ -1,4 +1,4 @@
 pub mod Pieces
-pub mod Chains
-pub mod Tables
+pub mod UnderCuts
 pub mod Endings
+pub mod Unique

@@ -1,27 +1,50 @@
--- The answer to a file: what its bytes and the kind of report alone decide.
-use Rattle.std.specs.Prelude.{◌≡◌, ℕ, List, [], Some, None}
+-- The answer to a run: what its words, and the bytes of the file that they name, alone decide.
+use Rattle.std.specs.Prelude.{◌≡◌, ℕ, List, [], Option, Some, None}
 use Rattle.elf_image.specs.declared.fault.Fault.{Fault}
 use Rattle.elf_image.specs.Faults.{first_fault}
 use Rattle.elf_image.specs.Seeds.{seed_name}
 use Rattle.cfg_model.specs.declared.graph.Graph.{Graph}
 use Rattle.graph_report.specs.declared.kind.ReportKind.{ReportKind}
 use Rattle.graph_report.specs.Report.{report_text}
-use Rattle.cfg.specs.declared.refusal.Refusal.{Refusal}
+use Rattle.graph_report.specs.Summary.{summary_text}
+use Rattle.elf_maker.specs.MadeFile.{made_file}
+use Rattle.big_case.specs.BigCase.{big_parts}
+use Rattle.cfg_words.specs.Request.{Asked, of_file, of_made}
 use Rattle.cfg.specs.declared.refusal.Refusal.TheVariants as refusals
 use Rattle.cfg.specs.declared.status.Status.{Status}
 use Rattle.cfg.specs.declared.status.Status.TheVariants as statuses
 use Rattle.cfg.specs.FileGraph.{IsGraphOf}
+use Rattle.cfg.specs.Lines.{refusal_line}
 
--- The status and the standard output that a file's bytes ask for: the name of its first fault, and
--- nothing on standard output; or the report of its graph, of the kind that is wanted.
-pub data Answers (bytes : List ℕ) (kind : ReportKind) : Status → List ℕ → Type 0 where
-  malformed : {fault : Fault} → first_fault bytes ≡ Some fault → Answers bytes kind statuses.Malformed []
-  done : {graph : Graph} → first_fault bytes ≡ None → IsGraphOf bytes graph → Answers bytes kind statuses.Done (report_text kind (seed_name bytes) graph)
+-- An exit status, and what goes to standard output and to standard error.
+pub record Answer : Type 0 where
+  pub status : Status
+  pub output : List ℕ
+  pub error : List ℕ
 
--- The bytes that a refusal is true of.
-abbrev pub IsRefusedWith : List ℕ → Refusal → Type 0
-IsRefusedWith bytes refusals.Usage = ⊥
-IsRefusedWith bytes (refusals.Malformed fault) = first_fault bytes ≡ Some fault
-IsRefusedWith bytes refusals.ReadFault = ⊥
-IsRefusedWith bytes refusals.WriteFault = ⊥
-IsRefusedWith bytes refusals.Memory = Unit {0}
+-- The words were refused.
+abbrev pub usage_answer : Answer
+usage_answer = record { status = statuses.Usage; output = []; error = refusal_line refusals.Usage }
+
+-- The file has this fault.
+abbrev pub malformed_answer : Fault → Answer
+malformed_answer fault =
+    record { status = statuses.Malformed; output = []; error = refusal_line (refusals.Malformed fault) }
+
+-- This is the report or the summary.
+abbrev pub text_answer : List ℕ → Answer
+text_answer text = record { status = statuses.Done; output = text; error = [] }
+
+-- The answer to what is asked for, over a file of these bytes: words that ask for nothing are refused;
+-- of a file with a fault the first one is named; of any other the graph is reported; and of the graph
+-- of a made program, for which the bytes do not count, there is the summary.
+pub data IsAnswer (bytes : List ℕ) : Option Asked → Answer → Type 0 where
+  usage : IsAnswer bytes None usage_answer
+  malformed : {path : List ℕ} {workers : ℕ} {kind : ReportKind} {fault : Fault}
+      → first_fault bytes ≡ Some fault
+      → IsAnswer bytes (Some (of_file path workers kind)) (malformed_answer fault)
+  done : {path : List ℕ} {workers : ℕ} {kind : ReportKind} {graph : Graph}
+      → first_fault bytes ≡ None → IsGraphOf bytes graph
+      → IsAnswer bytes (Some (of_file path workers kind)) (text_answer (report_text kind (seed_name bytes) graph))
+  made : {n workers : ℕ} {graph : Graph} → IsGraphOf (made_file (big_parts n)) graph
+      → IsAnswer bytes (Some (of_made n workers)) (text_answer (summary_text n graph))

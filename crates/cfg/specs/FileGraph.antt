@@ -4,10 +4,10 @@ use Rattle.std.specs.FinMap as map
 use Rattle.elf_image.specs.Header.{entry}
 use Rattle.elf_image.specs.Seeds.{seeds}
 use Rattle.cfg_model.specs.declared.graph.Graph.{Graph}
-use Rattle.cfg_model.specs.Instructions.{InstructionMap}
-use Rattle.cfg_model.specs.Reach.{Reached}
-use Rattle.cfg_model.specs.Cuts.{AreCuts}
-use Rattle.cfg_model.specs.Graph.{IsGraph}
+use Rattle.cfg_model.specs.Program.Instructions.{InstructionMap}
+use Rattle.cfg_model.specs.Program.Reach.{Reached}
+use Rattle.cfg_model.specs.Program.Cuts.{AreCuts}
+use Rattle.cfg_model.specs.Graph.Graph.{IsGraph}
 use Rattle.code_view.specs.Cuts.{Counts, cut_of}
 use Rattle.code_view.specs.Program.{program_under}
 use Rattle.table_trim.specs.Extents.{extent_at}

@@ -1,9 +1,9 @@
 pub mod Words
 pub mod FileGraph
-pub mod Answer
 pub mod Status
 pub mod Refusal
 pub mod Lines
-pub mod Outcome
+pub mod Answer
 pub mod Run
-pub mod Tables
+pub mod Laws
+pub mod Inner

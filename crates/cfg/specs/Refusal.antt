@@ -24,11 +24,3 @@ refusal_of errors.Memory = refusals.Memory
 abbrev pub refusal_of_words : WordsError → Refusal
 refusal_of_words words.Usage = refusals.Usage
 refusal_of_words words.Memory = refusals.Memory
-
--- Why words make no report: they ask for none, or memory ran out.
-abbrev pub IsOfWords : Type 0 → Refusal → Type 0
-IsOfWords none refusals.Usage = none
-IsOfWords none (refusals.Malformed fault) = ⊥
-IsOfWords none refusals.ReadFault = ⊥
-IsOfWords none refusals.WriteFault = ⊥
-IsOfWords none refusals.Memory = Unit {0}

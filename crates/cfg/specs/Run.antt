@@ -1,48 +1,72 @@
 -- What a run may leave behind.
-use Rattle.std.specs.Prelude.{◌≡◌, ℕ, ◌⊎◌, List, [], Option, Some, IfSome, Bool}
+use Rattle.std.specs.Prelude.{◌≡◌, ℕ, ◌⊎◌, List, [], Option, Some, None, Bool}
 use Rattle.elf_image.specs.declared.fault.Fault.{Fault}
-use Rattle.elf_image.specs.Faults.{first_fault}
 use Rattle.cfg_io.specs.Told.{Appends, AppendsPrefix}
 use Rattle.cfg_io.specs.Opened.{Opened, Nothing, Something, told_path}
-use Rattle.graph_report.specs.declared.kind.ReportKind.{ReportKind}
+use Rattle.cfg_words.specs.Request.{Asked, of_file, of_made}
 use Rattle.cfg.specs.declared.status.Status.{Status}
 use Rattle.cfg.specs.declared.status.Status.TheVariants as statuses
 use Rattle.cfg.specs.declared.refusal.Refusal.TheVariants as refusals
 use Rattle.cfg.specs.Lines.{refusal_line}
-use Rattle.cfg.specs.Answer.{Answers}
+use Rattle.cfg.specs.Words.{IsForFile}
+use Rattle.cfg.specs.Answer.{Answer, IsAnswer}
 
--- The text was appended whole; or a write failed in this call, and a part from its front was.
-abbrev pub Tells : Option (List ℕ) → List ℕ → Option (List ℕ) → Type 0 → Type 0
-Tells old text new failed = Appends old text new ⊎ (failed × AppendsPrefix old text new)
+-- What was written grew by the text.
+abbrev pub Grows : Option (List ℕ) → Option (List ℕ) → List ℕ → Type 0
+Grows old new text = Appends old text new
 
--- The status says what the file's bytes are.
-abbrev pub IsAnswer : Status → Type 0
-IsAnswer statuses.Done = Unit {0}
-IsAnswer statuses.Usage = ⊥
-IsAnswer statuses.Malformed = Unit {0}
-IsAnswer statuses.ReadFault = ⊥
-IsAnswer statuses.WriteFault = ⊥
-IsAnswer statuses.Memory = ⊥
+-- It did; or a write failed in this call, and it grew by a part of the text from its front.
+abbrev pub Tells : Option (List ℕ) → Option (List ℕ) → Type 0 → List ℕ → Type 0
+Tells old new failed text = Appends old text new ⊎ (failed × AppendsPrefix old text new)
 
--- A run that gave the answer to these bytes, by the kind of report that is wanted: standard output
--- grew by it.
-abbrev pub HasAnswered : List ℕ → ReportKind → Status → Option (List ℕ) → Option (List ℕ) → Type 0
-HasAnswered bytes kind status old new = (text : List ℕ) × Answers bytes kind status text × Appends old text new
+-- The words and the bytes decided the status: nothing failed, and memory sufficed.
+abbrev pub IsDecided : Status → Type 0
+IsDecided statuses.Done = Unit {0}
+IsDecided statuses.Usage = Unit {0}
+IsDecided statuses.Malformed = Unit {0}
+IsDecided statuses.ReadFault = ⊥
+IsDecided statuses.WriteFault = ⊥
+IsDecided statuses.Memory = ⊥
 
--- A run whose writing failed: standard output grew by a part, from its front, of the report.
-abbrev pub HasBegunToAnswer : List ℕ → ReportKind → Option (List ℕ) → Option (List ℕ) → Type 0
-HasBegunToAnswer bytes kind old new = (text : List ℕ) × Answers bytes kind statuses.Done text × AppendsPrefix old text new
+-- A file is asked for, and the status says that it was read.
+abbrev pub HasRead : Option Asked → Status → Type 0
+HasRead asked statuses.Done = IsForFile asked
+HasRead asked statuses.Usage = ⊥
+HasRead asked statuses.Malformed = IsForFile asked
+HasRead asked statuses.ReadFault = ⊥
+HasRead asked statuses.WriteFault = IsForFile asked
+HasRead asked statuses.Memory = ⊥
 
--- The text that a status puts on standard error, over an input of these bytes where it tells them.
--- The fault that a malformed file's line names is the file's first.
-pub data ErrorText (bytes : Option (List ℕ)) : Status → List ℕ → Type 0 where
-  done : ErrorText bytes statuses.Done []
-  usage : ErrorText bytes statuses.Usage (refusal_line refusals.Usage)
-  malformed : (fault : Fault) → IfSome bytes (λ b. first_fault b ≡ Some fault) → ErrorText bytes statuses.Malformed (refusal_line (refusals.Malformed fault))
-  read_fault : ErrorText bytes statuses.ReadFault (refusal_line refusals.ReadFault)
-  write_fault : ErrorText bytes statuses.WriteFault (refusal_line refusals.WriteFault)
-  memory : ErrorText bytes statuses.Memory (refusal_line refusals.Memory)
+-- A run that ended in this way gave the answer: its status is the answer's, and standard output and
+-- standard error took the texts of it.
+pub record Gives
+    (bytes : List ℕ) (asked : Option Asked) (end : Status) (Output Error : List ℕ → Type 0) : Type 0 where
+  pub answer : Answer
+  pub is_answer : IsAnswer bytes asked answer
+  pub status : end ≡ answer.status
+  pub output : Output answer.output
+  pub error : Error answer.error
 
--- The input was opened by this path, or nothing was opened.
-abbrev pub OpenedBy : Bool → List ℕ → Opened → Type 0
-OpenedBy tells path opened = (opened ≡ Nothing) ⊎ (opened ≡ Something (told_path tells path))
+-- A run whose writing failed: standard output grew by a part, from its front, of the text.
+pub record GivesPart (bytes : List ℕ) (asked : Option Asked) (old new : Option (List ℕ)) : Type 0 where
+  pub answer : Answer
+  pub is_answer : IsAnswer bytes asked answer
+  pub status : answer.status ≡ statuses.Done
+  pub output : AppendsPrefix old answer.output new
+
+-- The line that a status puts on standard error. Which fault a malformed file has, the answer says.
+abbrev pub IsLineOf : Status → List ℕ → Type 0
+IsLineOf statuses.Done text = text ≡ []
+IsLineOf statuses.Usage text = text ≡ refusal_line refusals.Usage
+IsLineOf statuses.Malformed text = (fault : Fault)
+    × (text ≡ refusal_line (refusals.Malformed fault))
+IsLineOf statuses.ReadFault text = text ≡ refusal_line refusals.ReadFault
+IsLineOf statuses.WriteFault text = text ≡ refusal_line refusals.WriteFault
+IsLineOf statuses.Memory text = text ≡ refusal_line refusals.Memory
+
+-- Nothing was opened, or the file that is asked for by its path.
+abbrev pub OpenedFor : Option Asked → Bool → Opened → Type 0
+OpenedFor None tells opened = opened ≡ Nothing
+OpenedFor (Some (of_file path workers kind)) tells opened = (opened ≡ Nothing)
+    ⊎ (opened ≡ Something (told_path tells path))
+OpenedFor (Some (of_made n workers)) tells opened = opened ≡ Nothing

@@ -1,25 +1,31 @@
-//! The graph of a file: the closure without cuts, the cuts of its jump tables, the closure under them.
+//! The graph of a file, step by step: the closed state without cuts, the cuts of its jump tables, the
+//! closed state under them, and what is read off it.
 
 ghost use Rattle.std.specs.Prelude.{◌≡◌, ℕ, ◌<◌, length, All, Contains, IsTrue, IfOk, IfErr};
 ghost use Rattle.std.specs.List.Sorted.{IsStrictlyIncreasing};
-ghost use Rattle.std.specs.FinMap as map;
 ghost use Rattle.elf_image.specs.Code.{is_code};
 ghost use Rattle.elf_image.specs.Header as header;
 ghost use Rattle.elf_image.specs.Seeds as spec;
-ghost use Rattle.cfg.specs.FileGraph.{IsGraphUnder, IsGraphOf};
-ghost use Rattle.cfg.specs.Tables.{AreReachedTables, IsUncutBlock, IsJumpOf};
+ghost use Rattle.cfg_model.specs.Graph.Graph.{IsGraph};
+ghost use Rattle.cfg_model.specs.Builder.Kept.{IsClosed};
+ghost use Rattle.code_view.specs.FileCode.{program_of};
+ghost use Rattle.cfg.specs.FileGraph.{IsGraphOf};
 
 use crate::refusal::Refusal;
-use cfg_model::{Block, EndKind, Graph, plain_graph, term};
-use code_view::{Code, Cuts, Memory};
+use alone::build_alone;
+use cfg_model::Graph;
+use code_view::{Code, Cuts};
+use core_state::State;
 use elf_image::Image;
+use finaliser::{Outline, blocks_and_edges};
+use func_bodies::{functions, mark_tails};
 use std::alloc::Global;
-use table_trim::cuts_of;
+use table_trim::cuts;
 
 /// The graph of a file from its seeds.
 ///
-/// Where a table is cut, the closure under the cuts is made anew: what only the entries that are cut
-/// away lead to is not in it.
+/// Where a table is cut, the closed state under the cuts is made anew: what only the entries that are
+/// cut away lead to is not in it.
 pub fn graph_of(alloc: Global, image: &Image, seeds: &[u64]) -> Result<Graph, Refusal>
     requires all { seeds.now ≡ spec.seeds image.now }
     requires rising { IsStrictlyIncreasing seeds.now }
@@ -31,40 +37,36 @@ pub fn graph_of(alloc: Global, image: &Image, seeds: &[u64]) -> Result<Graph, Re
 {
     let none = Cuts::none(alloc);
     let uncut = Code::new(image, &none);
-    let graph = plain_graph(alloc, &uncut, seeds, image.entry())?;
-    let jumps = table_jumps(alloc, &uncut, &graph)?;
-    let cuts = cuts_of(alloc, &uncut, &jumps)?;
+    let state = build_alone(alloc, &uncut, seeds)?;
+    let cuts = cuts(alloc, &uncut, &state)?;
     if cuts.is_empty() {
-        return Ok(graph);
+        return graph_from(alloc, &uncut, seeds, &state, image.entry());
     }
     let code = Code::new(image, &cuts);
-    Ok(plain_graph(alloc, &code, seeds, image.entry())?)
+    let state = build_alone(alloc, &code, seeds)?;
+    graph_from(alloc, &code, seeds, &state, image.entry())
 }
 
-// The addresses of the table jumps that are reached where no table is cut. Each ends a block.
-fn table_jumps(alloc: Global, uncut: &Code, graph: &Graph) -> Result<Vec<u64>, Memory>
-    requires uncut { uncut.now.cuts ≡ map.empty }
-    requires graph { IsGraphUnder uncut.now.bytes map.empty graph.now }
-    ensures code { IfOk result (λ jumps. All (λ j. IsTrue (is_code uncut.now.bytes j)) jumps.items) }
-    ensures jumps { IfOk result (λ jumps. AreReachedTables uncut.now.bytes jumps.items) }
+/// The graph that a closed state shows: its outline, the functions, and the tail calls among the edges.
+fn graph_from(
+    alloc: Global,
+    code: &Code,
+    seeds: &[u64],
+    state: &State,
+    entry: u64,
+) -> Result<Graph, Refusal>
+    requires closed { IsClosed (program_of code.now) seeds.now state.now.maps }
+    ensures graph { IfOk result (IsGraph (program_of code.now) seeds.now entry) }
+    ensures memory { IfErr result (λ refusal. refusal ≡ Refusal.Memory) }
 {
-    let mut jumps = Vec::new(alloc);
-    for block in graph.blocks.as_slice() {
-        if let Some(jump) = table_jump(uncut, block) {
-            jumps.push(jump)?;
-        }
-    }
-    Ok(jumps)
-}
-
-// The address of the table jump that ends the block, where one does.
-fn table_jump(uncut: &Code, block: &Block) -> Option<u64>
-    requires uncut { uncut.now.cuts ≡ map.empty }
-    requires block { IsUncutBlock uncut.now.bytes block.now }
-    ensures { IsJumpOf uncut.now.bytes block.now result }
-{
-    match block.kind {
-        EndKind::Table | EndKind::TableCut => Some(term(uncut, block.start)),
-        _ => None,
-    }
+    let outline = blocks_and_edges(alloc, code, state)?;
+    let functions = functions(alloc, code, seeds, state, &outline)?;
+    let Outline { blocks, mut edges } = outline;
+    mark_tails(&functions, &mut edges);
+    Ok(Graph {
+        entry,
+        functions,
+        blocks,
+        edges,
+    })
 }

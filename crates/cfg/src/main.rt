@@ -1,8 +1,8 @@
 //! `cfg FILE`: the control-flow graph of a RISC-V executable.
 //!
-//! - `words`: what the command line asks for. `answer`: from a file's bytes to the text of its report.
-//! - `graph`: the graph of a file, under the cuts of its jump tables.
 //! - `run`: a whole run over any input and any sinks, and what is proved of it.
+//! - `reading`: the bytes of the file. `answer`: from these to the text of the report. `graph`: the graph
+//!   of a file, under the cuts of its jump tables.
 //! - `status`, `refusal`: how a run ends, and the line that tells it.
 //! - `gate`: where a test may hold workers, once there are any.
 #![tactic(auto)]
@@ -10,12 +10,13 @@
 mod answer;
 mod gate;
 mod graph;
+mod laws;
+mod reading;
 mod refusal;
 mod run;
 mod status;
 #[cfg(test)]
 mod tests;
-mod words;
 
 use crate::gate::OpenGate;
 use crate::refusal::Refusal;

@@ -34,18 +34,42 @@ impl From<ElfError> for Refusal {
     }
 }
 
-impl From<cfg_model::Memory> for Refusal {
-    ghost from_gives = { λ _ r. r ≡ refusals.Memory };
-
-    fn from(_: cfg_model::Memory) -> Self {
-        Refusal::Memory
-    }
-}
-
 impl From<code_view::Memory> for Refusal {
     ghost from_gives = { λ _ r. r ≡ refusals.Memory };
 
     fn from(_: code_view::Memory) -> Self {
+        Refusal::Memory
+    }
+}
+
+impl From<core_state::Memory> for Refusal {
+    ghost from_gives = { λ _ r. r ≡ refusals.Memory };
+
+    fn from(_: core_state::Memory) -> Self {
+        Refusal::Memory
+    }
+}
+
+impl From<finaliser::Memory> for Refusal {
+    ghost from_gives = { λ _ r. r ≡ refusals.Memory };
+
+    fn from(_: finaliser::Memory) -> Self {
+        Refusal::Memory
+    }
+}
+
+impl From<func_bodies::Memory> for Refusal {
+    ghost from_gives = { λ _ r. r ≡ refusals.Memory };
+
+    fn from(_: func_bodies::Memory) -> Self {
+        Refusal::Memory
+    }
+}
+
+impl From<big_case::Memory> for Refusal {
+    ghost from_gives = { λ _ r. r ≡ refusals.Memory };
+
+    fn from(_: big_case::Memory) -> Self {
         Refusal::Memory
     }
 }
@@ -110,7 +134,7 @@ impl Refusal {
 
     /// Writes its line, without taking memory. Where a write fails, a part of the line went out.
     pub fn tell<E: Sink>(&self, err: &mut E)
-        ensures { Tells (E.written err.old) (refusal_line self.now) (E.written err.new) (Rose (E.faults err.old) (E.faults err.new)) }
+        ensures { Tells (E.written err.old) (E.written err.new) (Rose (E.faults err.old) (E.faults err.new)) (refusal_line self.now) }
     {
         let _ = self.write_line(err);
     }

@@ -1,33 +1,35 @@
 //! One whole run of the program, over any input and any two sinks.
 
-ghost use Rattle.std.specs.Prelude.{◌≡◌, ◌≢◌, ℕ, ◌+◌, ◌≤◌, ◌<◌, ◌⊎◌, List, [], Some, None, map, string_bytes, length, IfSome, IfOk, IfErr, IsErrOf, OnErr, OnOk};
+ghost use Rattle.std.specs.Prelude.{◌≡◌, ◌≢◌, ℕ, ◌+◌, ◌≤◌, ◌<◌, ◌⊎◌, List, [], Some, None, length, string_bytes, IfSome, IfOk, IfErr};
 ghost use Rattle.cfg_io.specs.Fault.{Rose};
 ghost use Rattle.cfg_io.specs.Opened.{Nothing};
-ghost use Rattle.cfg_io.specs.Told.{Takes, TakesCount};
-ghost use Rattle.cfg.specs.Words.{report_asked};
-ghost use Rattle.cfg.specs.Answer.{Answers};
-ghost use Rattle.cfg.specs.Outcome.{IsTrueOf, IsAnswered, IsReadingRefusal};
-ghost use Rattle.cfg.specs.Run.{Tells, IsAnswer, HasAnswered, HasBegunToAnswer, ErrorText, OpenedBy};
+ghost use Rattle.cfg_io.specs.Told.{TakesCount, TakesAtMost};
+ghost use Rattle.cfg_words.specs.Request.{asked, of_file};
+ghost use Rattle.cfg.specs.Words.{asked_by, IsForFile, CanBeMade};
+ghost use Rattle.cfg.specs.Answer.{IsAnswer, text_answer};
+ghost use Rattle.cfg.specs.Refusal.{status_of};
+ghost use Rattle.cfg.specs.Lines.{refusal_line};
+ghost use Rattle.cfg.specs.Inner.{IsTrueOf, IsOfFile, IsFaultless};
+ghost use Rattle.cfg.specs.Run.{Grows, Tells, IsDecided, HasRead, Gives, GivesPart, IsLineOf, OpenedFor};
 
-use crate::answer::report_of;
+use crate::answer::{report_of, summary_of};
 use crate::gate::Gate;
+use crate::reading::{FILE_LIMIT, read_file};
 use crate::refusal::Refusal;
 use crate::status::Status;
-use crate::words::{FileReport, report_asked};
-use cfg_io::{Failed, Input, ReadEnd, Sink, read_whole, write_whole};
-use elf_image::Fault;
+use cfg_io::{Failed, Input, Sink, write_whole};
+use cfg_words::{Request, request};
+use graph_report::ReportKind;
 use std::alloc::Global;
 
-/// The largest file that is read, in bytes: 64 MiB.
-pub const FILE_LIMIT: usize = 67_108_864;
-
 /// Runs the program: reads the file that `words` ask for from `input`, writes the report of its
-/// control-flow graph to `out`, and tells on `err` why it did not.
+/// control-flow graph to `out`, and tells on `err` why it did not. Of a made program, for which nothing
+/// is read, it writes the summary.
 ///
-/// The clause `report` is what the program is for: where neither the input nor standard output failed
-/// in this run, the words ask for a file and memory sufficed, the status and standard output are
-/// exactly those that the file's bytes ask for. The other clauses say what holds where something
-/// failed.
+/// The clause `answer` is what the program is for: where the words and the bytes decide the end of a
+/// run, its status, standard output and standard error are exactly those of the answer to them. By
+/// `complete` they do wherever neither the input nor standard output failed in this run and memory
+/// sufficed. The other clauses say what holds where something failed.
 pub fn run<I: Input, O: Sink, E: Sink, G: Gate>(
     alloc: Global,
     words: &[String],
@@ -38,127 +40,163 @@ pub fn run<I: Input, O: Sink, E: Sink, G: Gate>(
 ) -> Status
     requires { I.opened input.old ≡ Nothing }
 
-    ensures report { IfSome (I.rest input.old) (λ bytes. IfSome (report_asked (map (λ w. string_bytes w) words.now)) (λ asked.
-        ¬ Rose (I.faults input.old) (I.faults input.new)
+    ensures answer { IfSome (I.rest input.old) (λ bytes. IsDecided result
+        → Gives bytes (asked_by words.now) result (Grows (O.written out.old) (O.written out.new))
+        (Tells (E.written err.old) (E.written err.new) (Rose (E.faults err.old) (E.faults err.new)))) }
+    ensures complete { ¬ Rose (I.faults input.old) (I.faults input.new)
         → ¬ Rose (O.faults out.old) (O.faults out.new)
-        → result ≢ Status.Memory
-        → HasAnswered bytes asked.kind result (O.written out.old) (O.written out.new))) }
-
-    // An answer is true of the file's bytes, whatever failed.
-    ensures answer { IfSome (I.rest input.old) (λ bytes. IfSome (report_asked (map (λ w. string_bytes w) words.now)) (λ asked.
-        IsAnswer result → HasAnswered bytes asked.kind result (O.written out.old) (O.written out.new))) }
+        → IsDecided result ⊎ (result ≡ Status.Memory) }
 
     // When each other status comes. Want of memory alone is free.
-    ensures usage { result ≡ Status.Usage → report_asked (map (λ w. string_bytes w) words.now) ≡ None }
-    ensures refused_words { report_asked (map (λ w. string_bytes w) words.now) ≡ None → (result ≡ Status.Usage) ⊎ (result ≡ Status.Memory) }
-    ensures read_fault { result ≡ Status.ReadFault → Rose (I.faults input.old) (I.faults input.new) }
+    ensures usage { result ≡ Status.Usage → asked_by words.now ≡ None }
+    ensures refused_words { asked_by words.now ≡ None → (result ≡ Status.Usage)
+        ⊎ (result ≡ Status.Memory) }
+    ensures malformed { result ≡ Status.Malformed → IsForFile (asked_by words.now) }
+    ensures read_fault { result ≡ Status.ReadFault → IsForFile (asked_by words.now)
+        × Rose (I.faults input.old) (I.faults input.new) }
     ensures write_fault { result ≡ Status.WriteFault → Rose (O.faults out.old) (O.faults out.new) }
 
     // What else standard output holds, and what standard error does.
-    ensures cut_off { result ≡ Status.WriteFault → IfSome (I.rest input.old) (λ bytes. IfSome (report_asked (map (λ w. string_bytes w) words.now)) (λ asked.
-        HasBegunToAnswer bytes asked.kind (O.written out.old) (O.written out.new))) }
-    ensures silent { result ≢ Status.Done → result ≢ Status.WriteFault → O.written out.new ≡ O.written out.old }
-    ensures error_line { (text : List ℕ) × ErrorText (I.rest input.old) result text
-        × Tells (E.written err.old) text (E.written err.new) (Rose (E.faults err.old) (E.faults err.new)) }
+    ensures cut_off { IfSome (I.rest input.old) (λ bytes. result ≡ Status.WriteFault
+        → GivesPart bytes (asked_by words.now) (O.written out.old) (O.written out.new)) }
+    ensures silent { result ≢ Status.Done → result ≢ Status.WriteFault
+        → O.written out.new ≡ O.written out.old }
+    ensures error_line { (text : List ℕ) × IsLineOf result text
+        × Tells (E.written err.old) (E.written err.new) (Rose (E.faults err.old) (E.faults err.new)) text }
 
     // What was done to the input.
-    ensures opened { IfSome (report_asked (map (λ w. string_bytes w) words.now)) (λ asked. OpenedBy (I.tells_path input.old) asked.path (I.opened input.new)) }
-    ensures untouched { report_asked (map (λ w. string_bytes w) words.now) ≡ None
-        → (I.opened input.new ≡ Nothing) × (I.rest input.new ≡ I.rest input.old) × (I.faults input.new ≡ I.faults input.old) }
-    ensures read_to_end { IfSome (I.rest input.old) (λ bytes. length bytes ≤ FILE_LIMIT → IsAnswer result → I.rest input.new ≡ Some []) }
-    ensures too_large { IfSome (I.rest input.old) (λ bytes. FILE_LIMIT < length bytes → IsAnswer result → TakesCount (I.rest input.old) (FILE_LIMIT + 1) (I.rest input.new)) }
+    ensures opened { OpenedFor (asked_by words.now) (I.tells_path input.old) (I.opened input.new) }
+    ensures untouched { ¬ IsForFile (asked_by words.now) → (I.rest input.new ≡ I.rest input.old)
+        × (I.faults input.new ≡ I.faults input.old) }
+    ensures read_to_end { IfSome (I.rest input.old) (λ bytes. length bytes ≤ FILE_LIMIT
+        → HasRead (asked_by words.now) result → I.rest input.new ≡ Some []) }
+    ensures too_large { IfSome (I.rest input.old) (λ bytes. FILE_LIMIT < length bytes
+        → HasRead (asked_by words.now) result
+        → TakesCount (I.rest input.old) (FILE_LIMIT + 1) (I.rest input.new)) }
+    ensures within_limit { result ≢ Status.Malformed
+        → TakesAtMost (I.rest input.old) FILE_LIMIT (I.rest input.new) }
 {
-    match report_asked(alloc, words) {
-        Ok(asked) => run_file(alloc, &asked, input, out, err),
-        Err(refusal) => {
-            refusal.tell(err);
-            refusal.status()
-        }
+    match request(alloc, words) {
+        Ok(request) => run_one(alloc, &request, input, out, err),
+        Err(e) => refuse(Refusal::from(e), err),
     }
 }
 
-// A run whose words ask for this report.
-fn run_file<I: Input, O: Sink, E: Sink>(
+/// Answers a request on the caller's thread: it starts none, waits for nobody and returns.
+///
+/// Its clauses are those of [`run`], with the request in place of the words.
+pub fn run_one<I: Input, O: Sink, E: Sink>(
     alloc: Global,
-    asked: &FileReport,
+    request: &Request,
     input: &mut I,
     out: &mut O,
     err: &mut E,
 ) -> Status
-    requires { I.opened input.old ≡ Nothing }
+    requires closed { I.opened input.old ≡ Nothing }
+    requires size { CanBeMade (asked request.now) }
 
-    ensures report { IfSome (I.rest input.old) (λ bytes.
-        ¬ Rose (I.faults input.old) (I.faults input.new)
+    ensures answer { IfSome (I.rest input.old) (λ bytes. IsDecided result
+        → Gives bytes (Some (asked request.now)) result (Grows (O.written out.old) (O.written out.new))
+        (Tells (E.written err.old) (E.written err.new) (Rose (E.faults err.old) (E.faults err.new)))) }
+    ensures complete { ¬ Rose (I.faults input.old) (I.faults input.new)
         → ¬ Rose (O.faults out.old) (O.faults out.new)
-        → result ≢ Status.Memory
-        → HasAnswered bytes asked.now.kind result (O.written out.old) (O.written out.new)) }
-    ensures answer { IfSome (I.rest input.old) (λ bytes. IsAnswer result → HasAnswered bytes asked.now.kind result (O.written out.old) (O.written out.new)) }
+        → IsDecided result ⊎ (result ≡ Status.Memory) }
 
-    ensures usage { result ≢ Status.Usage }
-    ensures read_fault { result ≡ Status.ReadFault → Rose (I.faults input.old) (I.faults input.new) }
+    ensures no_usage { result ≢ Status.Usage }
+    ensures malformed { result ≡ Status.Malformed → IsForFile (Some (asked request.now)) }
+    ensures read_fault { result ≡ Status.ReadFault → IsForFile (Some (asked request.now))
+        × Rose (I.faults input.old) (I.faults input.new) }
     ensures write_fault { result ≡ Status.WriteFault → Rose (O.faults out.old) (O.faults out.new) }
 
-    ensures cut_off { result ≡ Status.WriteFault → IfSome (I.rest input.old) (λ bytes. HasBegunToAnswer bytes asked.now.kind (O.written out.old) (O.written out.new)) }
-    ensures silent { result ≢ Status.Done → result ≢ Status.WriteFault → O.written out.new ≡ O.written out.old }
-    ensures error_line { (text : List ℕ) × ErrorText (I.rest input.old) result text
-        × Tells (E.written err.old) text (E.written err.new) (Rose (E.faults err.old) (E.faults err.new)) }
+    ensures cut_off { IfSome (I.rest input.old) (λ bytes. result ≡ Status.WriteFault
+        → GivesPart bytes (Some (asked request.now)) (O.written out.old) (O.written out.new)) }
+    ensures silent { result ≢ Status.Done → result ≢ Status.WriteFault
+        → O.written out.new ≡ O.written out.old }
+    ensures error_line { (text : List ℕ) × IsLineOf result text
+        × Tells (E.written err.old) (E.written err.new) (Rose (E.faults err.old) (E.faults err.new)) text }
 
-    ensures opened { OpenedBy (I.tells_path input.old) (string_bytes asked.now.path) (I.opened input.new) }
-    ensures read_to_end { IfSome (I.rest input.old) (λ bytes. length bytes ≤ FILE_LIMIT → IsAnswer result → I.rest input.new ≡ Some []) }
-    ensures too_large { IfSome (I.rest input.old) (λ bytes. FILE_LIMIT < length bytes → IsAnswer result → TakesCount (I.rest input.old) (FILE_LIMIT + 1) (I.rest input.new)) }
+    ensures opened { OpenedFor (Some (asked request.now)) (I.tells_path input.old) (I.opened input.new) }
+    ensures untouched { ¬ IsForFile (Some (asked request.now))
+        → (I.rest input.new ≡ I.rest input.old) × (I.faults input.new ≡ I.faults input.old) }
+    ensures read_to_end { IfSome (I.rest input.old) (λ bytes. length bytes ≤ FILE_LIMIT
+        → HasRead (Some (asked request.now)) result → I.rest input.new ≡ Some []) }
+    ensures too_large { IfSome (I.rest input.old) (λ bytes. FILE_LIMIT < length bytes
+        → HasRead (Some (asked request.now)) result
+        → TakesCount (I.rest input.old) (FILE_LIMIT + 1) (I.rest input.new)) }
+    ensures within_limit { result ≢ Status.Malformed
+        → TakesAtMost (I.rest input.old) FILE_LIMIT (I.rest input.new) }
 {
-    let text = match report(alloc, asked, input) {
+    let text = match text_for(alloc, request, input) {
         Ok(text) => text,
-        Err(refusal) => {
-            refusal.tell(err);
-            return refusal.status();
-        }
+        Err(refusal) => return refuse(refusal, err),
     };
     match write_whole(out, &text) {
         Ok(()) => Status::Done,
-        Err(Failed) => {
-            Refusal::WriteFault.tell(err);
-            Status::WriteFault
-        }
+        Err(Failed) => refuse(Refusal::WriteFault, err),
     }
 }
 
-// The report that is asked for.
-fn report<I: Input>(alloc: Global, asked: &FileReport, input: &mut I) -> Result<Vec<u8>, Refusal>
-    requires { I.opened input.old ≡ Nothing }
-
-    ensures done { IfOk result (λ text. IfSome (I.rest input.old) (λ bytes. Answers bytes asked.now.kind Status.Done text.items)) }
-    ensures refused { IfErr result (IsTrueOf (I.rest input.old) (Rose (I.faults input.old) (I.faults input.new))) }
-
-    ensures opened { OpenedBy (I.tells_path input.old) (string_bytes asked.now.path) (I.opened input.new) }
-    ensures read_to_end { IfSome (I.rest input.old) (λ bytes. length bytes ≤ FILE_LIMIT → IsAnswered result → I.rest input.new ≡ Some []) }
-    ensures too_large { IfSome (I.rest input.old) (λ bytes. FILE_LIMIT < length bytes → IsAnswered result → TakesCount (I.rest input.old) (FILE_LIMIT + 1) (I.rest input.new)) }
+// Ends a run that writes no whole text.
+fn refuse<E: Sink>(refusal: Refusal, err: &mut E) -> Status
+    ensures status { result ≡ status_of refusal }
+    ensures line { Tells (E.written err.old) (E.written err.new) (Rose (E.faults err.old) (E.faults err.new)) (refusal_line refusal) }
 {
-    let bytes = read_file(alloc, asked.path.as_str(), input)?;
-    report_of(alloc, bytes, asked.kind)
+    refusal.tell(err);
+    refusal.status()
 }
 
-// All bytes of the file at a path.
-fn read_file<I: Input>(alloc: Global, path: &str, input: &mut I) -> Result<Vec<u8>, Refusal>
+// The text that is asked for: a report, or a summary.
+fn text_for<I: Input>(alloc: Global, request: &Request, input: &mut I) -> Result<Vec<u8>, Refusal>
+    requires closed { I.opened input.old ≡ Nothing }
+    requires size { CanBeMade (asked request.now) }
+
+    ensures done { IfOk result (λ text. IfSome (I.rest input.old) (λ bytes. IsAnswer bytes (Some (asked request.now)) (text_answer text.items))) }
+    ensures refused { IfErr result (IsTrueOf (Some (asked request.now)) (I.rest input.old) (Rose (I.faults input.old) (I.faults input.new))) }
+
+    ensures opened { OpenedFor (Some (asked request.now)) (I.tells_path input.old) (I.opened input.new) }
+    ensures untouched { ¬ IsForFile (Some (asked request.now))
+        → (I.rest input.new ≡ I.rest input.old) × (I.faults input.new ≡ I.faults input.old) }
+    ensures read_to_end { IfSome (I.rest input.old) (λ bytes. length bytes ≤ FILE_LIMIT
+        → IsForFile (Some (asked request.now)) → IsOfFile result → I.rest input.new ≡ Some []) }
+    ensures too_large { IfSome (I.rest input.old) (λ bytes. FILE_LIMIT < length bytes
+        → IsForFile (Some (asked request.now)) → IsOfFile result
+        → TakesCount (I.rest input.old) (FILE_LIMIT + 1) (I.rest input.new)) }
+    ensures within_limit { IsFaultless result
+        → TakesAtMost (I.rest input.old) FILE_LIMIT (I.rest input.new) }
+{
+    match request {
+        Request::File {
+            path,
+            workers: _,
+            kind,
+        } => file_report(alloc, path.as_str(), *kind, input),
+        Request::Make { n, workers: _ } => summary_of(alloc, *n),
+    }
+}
+
+// The report of the file at a path.
+fn file_report<I: Input>(
+    alloc: Global,
+    path: &str,
+    kind: ReportKind,
+    input: &mut I,
+) -> Result<Vec<u8>, Refusal>
     requires { I.opened input.old ≡ Nothing }
 
-    ensures whole { IfOk result (λ bytes. Takes (I.rest input.old) bytes.items (I.rest input.new)) }
-    ensures at_end { OnOk result (IfSome (I.rest input.new) (λ left. left ≡ [])) }
-    ensures fits { IfOk result (λ bytes. length bytes.items ≤ FILE_LIMIT) }
+    ensures done { IfOk result (λ text. IfSome (I.rest input.old) (λ bytes. (workers : ℕ)
+        → IsAnswer bytes (Some (of_file path.now workers kind)) (text_answer text.items))) }
+    ensures refused { IfErr result (λ refusal. (workers : ℕ)
+        → IsTrueOf (Some (of_file path.now workers kind)) (I.rest input.old) (Rose (I.faults input.old) (I.faults input.new)) refusal) }
 
-    ensures refused { IfErr result (IsReadingRefusal (Rose (I.faults input.old) (I.faults input.new))) }
-    ensures over_limit { IsErrOf result (Refusal.Malformed Fault.TooLarge) → TakesCount (I.rest input.old) (FILE_LIMIT + 1) (I.rest input.new) }
-
-    ensures opened { OpenedBy (I.tells_path input.old) path.now (I.opened input.new) }
+    ensures opened { (workers : ℕ)
+        → OpenedFor (Some (of_file path.now workers kind)) (I.tells_path input.old) (I.opened input.new) }
+    ensures read_to_end { IfSome (I.rest input.old) (λ bytes. length bytes ≤ FILE_LIMIT
+        → IsOfFile result → I.rest input.new ≡ Some []) }
+    ensures too_large { IfSome (I.rest input.old) (λ bytes. FILE_LIMIT < length bytes
+        → IsOfFile result → TakesCount (I.rest input.old) (FILE_LIMIT + 1) (I.rest input.new)) }
+    ensures within_limit { IsFaultless result
+        → TakesAtMost (I.rest input.old) FILE_LIMIT (I.rest input.new) }
 {
-    match input.open(path) {
-        Ok(()) => (),
-        Err(Failed) => return Err(Refusal::ReadFault),
-    }
-    match read_whole(alloc, input, FILE_LIMIT) {
-        Ok(bytes) => Ok(bytes),
-        Err(ReadEnd::Read) => Err(Refusal::ReadFault),
-        Err(ReadEnd::OverLimit) => Err(Refusal::Malformed(Fault::TooLarge)),
-        Err(ReadEnd::Memory) => Err(Refusal::Memory),
-    }
+    let bytes = read_file(alloc, path, input)?;
+    report_of(alloc, bytes, kind)
 }

@@ -2,13 +2,16 @@
 
 ghost use Rattle.std.specs.Prelude.{◌≡◌, false, IfOk};
 
+mod float;
 mod linked;
+mod yardstick;
 
-use crate::gate::OpenGate;
+use crate::gate::{Gate, OpenGate};
 use crate::run::run;
 use crate::status::Status;
 use cfg_io::{MemInput, MemSink};
 use cfg_vectors::row_file;
+use core_state::WorkKind;
 use std::alloc::{AllocError, Global};
 use std::process::Abort;
 use std::test::Fail;
@@ -479,6 +482,26 @@ fn report_kinds(rt: HostRuntime) -> Result<(), Fail> {
 }
 
 #[test]
+fn made_programs(rt: HostRuntime) -> Result<(), Fail> {
+    let alloc = rt.alloc();
+    prints(
+        &rt,
+        &["--make", "4"],
+        Vec::new(alloc),
+        "cfg-made 4\nfunctions 6\nblocks 24\nedges 32\nmay-return 5\nno-return 1\n",
+    )?;
+    for workers in ["1", "4", "64"] {
+        prints(
+            &rt,
+            &["--workers", workers, "--make", "5000"],
+            Vec::new(alloc),
+            "cfg-made 5000\nfunctions 5002\nblocks 27502\nedges 38751\nmay-return 5001\nno-return 1\n",
+        )?;
+    }
+    Ok(())
+}
+
+#[test]
 fn refused_files(rt: HostRuntime) -> Result<(), Fail> {
     let alloc = rt.alloc();
     let short = "cfg: malformed: Short\n";
@@ -514,7 +537,7 @@ fn refused_files(rt: HostRuntime) -> Result<(), Fail> {
 fn refused_words(rt: HostRuntime) -> Result<(), Fail> {
     let alloc = rt.alloc();
     let usage = "cfg: usage: cfg [--workers N] [--report KIND] FILE | cfg [--workers N] --make N\n";
-    let lists: [&[&str]; 12] = [
+    let lists: [&[&str]; 13] = [
         &[],
         &["-F"],
         &["F", "F"],
@@ -527,6 +550,7 @@ fn refused_words(rt: HostRuntime) -> Result<(), Fail> {
         &["--make", "4", "--report", "graph"],
         &["--colour", "F"],
         &["--help"],
+        &["--version"],
     ];
     for words in lists {
         let input = file(alloc, row_file(alloc, 1, 0)?)?;
@@ -542,8 +566,25 @@ fn refused_words(rt: HostRuntime) -> Result<(), Fail> {
 }
 
 #[test]
+fn too_large_file(rt: HostRuntime) -> Result<(), Fail> {
+    let alloc = rt.alloc();
+    let zeros = vec![in alloc; 0u8; 67_108_865]?;
+    refuses(
+        &rt,
+        &["F"],
+        file(alloc, zeros)?,
+        Status::Malformed,
+        "cfg: malformed: TooLarge\n",
+    )
+}
+
+#[test]
 fn failing_reads_and_writes(rt: HostRuntime) -> Result<(), Fail> {
     let alloc = rt.alloc();
+    let open = vec![in alloc; 1u64]?;
+    let input = MemInput::new("F".to_string(alloc)?, row_file(alloc, 1, 0)?, 64, open);
+    refuses(&rt, &["F"], input, Status::ReadFault, "cfg: read fault\n")?;
+
     let second_read = vec![in alloc; 3u64]?;
     let input = MemInput::new(
         "F".to_string(alloc)?,
@@ -564,5 +605,12 @@ fn failing_reads_and_writes(rt: HostRuntime) -> Result<(), Fail> {
         b"cfg-report 1\nentry 0000000000010".as_slice()
     );
     assert_eq!(rt; err.bytes(), b"".as_slice());
+    Ok(())
+}
+
+#[test]
+fn open_gate(rt: HostRuntime) -> Result<(), Fail> {
+    OpenGate.before(1, WorkKind::Parse, 0x10000);
+    assert_eq!(rt; OpenGate, OpenGate);
     Ok(())
 }

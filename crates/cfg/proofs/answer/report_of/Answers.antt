@@ -1,20 +1,21 @@
-use Rattle.std.proofs.Common.{◌≡◌, sym, subst, List, ℕ, None}
+use Rattle.std.proofs.Common.{◌≡◌, sym, subst, List, ℕ, Some, None}
 use Rattle.elf_image.specs.Faults.{first_fault}
 use Rattle.elf_image.specs.Seeds.{seed_name}
 use Rattle.graph_report.specs.Report.{report_text}
-use Rattle.cfg.specs.declared.status.Status.TheVariants.{Done}
-use Rattle.cfg.specs.Answer.{Answers}
+use Rattle.cfg_words.specs.Request.{of_file}
+use Rattle.cfg.specs.Answer.{IsAnswer, text_answer}
 use Rattle.cfg.specs.FileGraph.{IsGraphOf}
 use Rattle.cfg.proofs.answer.report_of.Goals as goal
 
 pub returns-clause-done : goal.returns-clause-done
-returns-clause-done c =
+returns-clause-done c = λ path workers.
     let bytes = c.args.bytes.items in
     let kind = c.args.kind in
     let graph = c.in_ok-graph.graph in
+    let asked = Some (of_file path workers kind) in
     let same : c.in_ok-image.image ≡ bytes = c.in_ok-image.ensures.ok in
-    subst (λ (text : List ℕ). Answers bytes kind Done text) (sym c.in_ok-report.ensures.text)
-    (subst (λ (b : List ℕ). Answers bytes kind Done (report_text kind (seed_name b) graph)) (sym same)
-    (Answers.done {graph = graph}
+    subst (λ (text : List ℕ). IsAnswer bytes asked (text_answer text)) (sym c.in_ok-report.ensures.text)
+    (subst (λ (b : List ℕ). IsAnswer bytes asked (text_answer (report_text kind (seed_name b) graph))) (sym same)
+    (IsAnswer.done {graph = graph}
     (subst (λ (b : List ℕ). first_fault b ≡ None) same c.in_ok-seeds.ensures.accepted)
     (subst (λ (b : List ℕ). IsGraphOf b graph) same c.in_ok-graph.ensures.graph)))

@@ -1,38 +1,40 @@
-use Rattle.std.proofs.Common.{sym, subst, ap, ◌∙◌}
+use Rattle.std.proofs.Common.{◌∙◌, ap, subst}
 use Rattle.std.specs.FinMap as map
-use Rattle.code_view.specs.Cuts.{Counts, cut_of, CutsFit}
+use Rattle.code_view.specs.Cuts.{Counts}
+use Rattle.code_view.proofs.Views.{none-fits}
 use Rattle.cfg.specs.FileGraph.{AreCutsOf, cut_program}
-use Rattle.cfg.proofs.Tables.{empty-fits, graph-under, cuts-of}
+use Rattle.cfg.proofs.UnderCuts.{cuts-of, graph-under, if_ok_map}
 use Rattle.cfg.proofs.graph.graph_of.Goals as goal
 
 pub new-uncut-requires : goal.new-uncut-requires
-new-uncut-requires c = subst (λ (cuts : Counts). CutsFit c.args.image.now (cut_of cuts)) (sym c.none-none.ensures) (empty-fits c.args.image.now)
+new-uncut-requires c = none-fits c.args.image.now _ c.none-none.ensures
 
-pub returns-then-is_empty : goal.returns-then-is_empty
-returns-then-is_empty c =
+pub returns-then-is_empty-clause-graph : goal.returns-then-is_empty-clause-graph
+returns-then-is_empty-clause-graph c =
     let bytes = c.args.image.now in
-    let are = cuts-of bytes c.new-uncut.result.bytes c.in_ok-jumps.jumps.items c.deref.result.now c.in_ok-cuts.cuts
-    c.new-uncut.ensures.bytes c.deref.ensures.value c.in_ok-jumps.ensures.jumps c.in_ok-cuts.ensures.cuts in
-    record {
-      graph = record {
-        cuts = map.empty;
-        are_cuts = subst (λ (cuts : Counts). AreCutsOf bytes cuts) (c.is_empty.ensures.0 c.if-is_empty.true) are;
-        is_graph = graph-under bytes c.args.seeds.now c.entry.result _ map.empty c.in_ok-graph.graph
-            (c.new-uncut.ensures.program ∙ ap (cut_program bytes) c.none-none.ensures) c.requires.all c.entry.ensures.entry c.in_ok-graph.ensures.graph;
-      };
-      memory = tt;
-    }
+    let are = cuts-of bytes c.new-uncut.result.bytes c.args.seeds.now c.new-uncut.result.cuts c.in_ok-cuts.cuts
+    c.new-uncut.ensures.bytes (c.new-uncut.ensures.cuts ∙ c.none-none.ensures) c.requires.all
+    (c.in_ok-cuts.ensures.cuts c.args.seeds.now c.in_ok-state.ensures.closed) in
+    if_ok_map c.graph_from.result
+    (λ graph is. record {
+      cuts = map.empty;
+      are_cuts = subst (λ (cuts : Counts). AreCutsOf bytes cuts) (c.is_empty.ensures.0 c.if-is_empty.true) are;
+      is_graph = graph-under bytes c.args.seeds.now c.entry.result _ map.empty graph
+          (c.new-uncut.ensures.program ∙ ap (cut_program bytes) c.none-none.ensures) c.requires.all c.entry.ensures.entry is;
+    })
+    c.graph_from.ensures.graph
 
-pub returns : goal.returns
-returns c =
+pub returns-clause-graph : goal.returns-clause-graph
+returns-clause-graph c =
     let bytes = c.args.image.now in
-    record {
-      graph = record {
-        cuts = c.in_ok-cuts.cuts;
-        are_cuts = cuts-of bytes c.new-uncut.result.bytes c.in_ok-jumps.jumps.items c.deref.result.now c.in_ok-cuts.cuts
-            c.new-uncut.ensures.bytes c.deref.ensures.value c.in_ok-jumps.ensures.jumps c.in_ok-cuts.ensures.cuts;
-        is_graph = graph-under bytes c.args.seeds.now c.entry-2.result _ c.in_ok-cuts.cuts c.in_ok-plain_graph.field-0
-            c.new-code.ensures.program c.requires.all c.entry-2.ensures.entry c.in_ok-plain_graph.ensures.graph;
-      };
-      memory = tt;
-    }
+    let are = cuts-of bytes c.new-uncut.result.bytes c.args.seeds.now c.new-uncut.result.cuts c.in_ok-cuts.cuts
+    c.new-uncut.ensures.bytes (c.new-uncut.ensures.cuts ∙ c.none-none.ensures) c.requires.all
+    (c.in_ok-cuts.ensures.cuts c.args.seeds.now c.in_ok-state.ensures.closed) in
+    if_ok_map c.graph_from-2.result
+    (λ graph is. record {
+      cuts = c.in_ok-cuts.cuts;
+      are_cuts = are;
+      is_graph = graph-under bytes c.args.seeds.now c.entry-2.result _ c.in_ok-cuts.cuts graph
+          c.new-code.ensures.program c.requires.all c.entry-2.ensures.entry is;
+    })
+    c.graph_from-2.ensures.graph
