@@ -1,0 +1,579 @@
+#!/usr/bin/env python3
+"""Reads the reports of `cfg`, of every kind, and checks them as it reads.
+
+    tools/cfg_report.py REPORT_OR_ELF
+
+says what kind of report it is, how much is in it, and what is wrong with it, if anything is.
+
+For other scripts there are two ways to read. `read(stream)` gives the heading, each function, block and edge, and the
+end of a report one by one, and keeps none of them, so that a report of any size can be read. `load(stream)` keeps all
+of them in one `Report`. Both raise `ReportError`, with the number of the line, where the text is no report by
+docs/REPORT.md. `opened(path)` gives the stream: of a report, of standard input for `-`, or of what `cfg` says of an ELF
+file.
+"""
+
+from __future__ import annotations
+
+import argparse
+import contextlib
+import os
+import re
+import subprocess
+import sys
+from typing import BinaryIO, Callable, Dict, Iterator, List, NamedTuple, NoReturn, Optional, Set, Tuple, Union
+
+TOP = os.path.dirname(os.path.dirname(os.path.abspath(__file__)))
+FIRST_LINE = b"cfg-report 1\n"
+
+BLOCK_KINDS = (
+    "fall", "branch", "branch-out", "jump", "call", "icall", "return", "table", "table-cut", "unknown", "stop",
+)
+# In the order in which a report has the edges of one block to one other.
+EDGE_KINDS = ("fall", "taken", "jump", "tail", "call", "after", "table")
+REPORT_KINDS = ("graph", "functions", "blocks", "edges")
+
+# Whether a block that ends in this way may have edges of just these kinds.
+EDGES_OF: Dict[str, Callable[[List[str]], bool]] = {
+    "fall": lambda kinds: kinds == ["fall"],
+    "branch": lambda kinds: sorted(kinds) == ["fall", "taken"],
+    "branch-out": lambda kinds: kinds in ([], ["fall"], ["taken"]),
+    "jump": lambda kinds: kinds in (["jump"], ["tail"]),
+    "call": lambda kinds: sorted(kinds) in (["call"], ["after", "call"]),
+    "icall": lambda kinds: kinds in ([], ["after"]),
+    "return": lambda kinds: not kinds,
+    "table": lambda kinds: set(kinds) == {"table"},
+    "table-cut": lambda kinds: set(kinds) == {"table"},
+    "unknown": lambda kinds: not kinds,
+    "stop": lambda kinds: not kinds,
+}
+LEAVES_FUNCTION = ("return", "unknown", "branch-out")
+
+
+class ReportError(Exception):
+    """A text that is no report, or a report that cannot be had."""
+
+
+class Heading(NamedTuple):
+    """The first two lines: where the program starts."""
+
+    entry: int
+
+
+class Function(NamedTuple):
+    """A function, with the starts of the blocks of its body, rising. `name` is None where it has none."""
+
+    entry: int
+    may_return: bool
+    name: Optional[bytes]
+    blocks: Tuple[int, ...]
+
+
+class Block(NamedTuple):
+    """A basic block, from its start up to, and without, its end."""
+
+    start: int
+    end: int
+    kind: str
+
+
+class Edge(NamedTuple):
+    """A way from the block that starts at `source` to the one that starts at `to`."""
+
+    source: int
+    to: int
+    kind: str
+
+
+class End(NamedTuple):
+    """The last line, behind which it is known of what kind the report is."""
+
+    kind: str
+
+
+Item = Union[Heading, Function, Block, Edge, End]
+
+
+# ---- names and addresses
+
+_ESCAPE = re.compile(rb"\\\\|\\x([0-9a-f]{2})")
+_NAME = re.compile(rb"(?:[!-\[\]-~]|\\\\|\\x[0-9a-f]{2})+")
+
+
+def name_field(name: Optional[bytes]) -> str:
+    """The field that a report has for a name."""
+    if name is None:
+        return "-"
+    if name == b"-":
+        return "\\x2d"
+    return "".join("\\\\" if byte == 0x5C else chr(byte) if 0x21 <= byte <= 0x7E else f"\\x{byte:02x}" for byte in name)
+
+
+def read_name(field: bytes) -> Optional[bytes]:
+    """The name that a field stands for. The field must be one that `name_field` writes."""
+    if field == b"-":
+        return None
+    if not _NAME.fullmatch(field):
+        raise ValueError(f"`{_shown(field)}` is no name: a byte that is not visible, or an escape that is none")
+    if b"\\" not in field:
+        return field
+    name = _ESCAPE.sub(lambda found: bytes([int(found[1], 16)]) if found[1] else b"\\", field)
+    if name_field(name).encode() != field:
+        raise ValueError(f"`{_shown(field)}` has an escape for a byte that stands for itself")
+    return name
+
+
+def address(value: int) -> str:
+    """An address as a report has it."""
+    return f"{value:016x}"
+
+
+def function_name(entry: int, name: Optional[bytes]) -> str:
+    """What to call a function: its name, or its address."""
+    return f"{entry:x}" if name is None else name_field(name)
+
+
+def _shown(line: bytes) -> str:
+    text = line.rstrip(b"\n").decode("ascii", "backslashreplace")
+    return text if len(text) <= 80 else text[:77] + "..."
+
+
+# ---- reading
+
+_HEX = rb"([0-9a-f]{16})"
+_COUNT = rb"(0|[1-9][0-9]*)"
+
+
+def _line(*fields: bytes) -> Callable[[bytes], Optional["re.Match[bytes]"]]:
+    return re.compile(b" ".join(fields) + b"\n").fullmatch
+
+
+def _one_of(words: Tuple[str, ...]) -> bytes:
+    return b"(" + "|".join(sorted(words, key=len, reverse=True)).encode() + b")"
+
+
+_ENTRY = _line(rb"entry", _HEX)
+_SECTION = {name: _line(name.encode(), _COUNT) for name in ("functions", "blocks", "edges")}
+_FUNCTION = _line(rb"function", _HEX, rb"(may-return|no-return)", _COUNT, rb"([^ \n]+)")
+_IN = _line(rb"in", _HEX)
+_BLOCK = _line(rb"block", _HEX, _HEX, _one_of(BLOCK_KINDS))
+_EDGE = _line(rb"edge", _HEX, _HEX, _one_of(EDGE_KINDS))
+
+_FORMS = {
+    "entry": "entry ADDRESS",
+    "functions": "functions COUNT",
+    "blocks": "blocks COUNT",
+    "edges": "edges COUNT",
+    "function": "function ENTRY STATUS COUNT NAME",
+    "in": "in BLOCK",
+    "block": "block START END KIND",
+    "edge": "edge FROM TO KIND",
+    "end": "end",
+}
+_WORDS = {"STATUS": ("may-return", "no-return"), "block KIND": BLOCK_KINDS, "edge KIND": EDGE_KINDS}
+
+
+def _wrong_field(form: str, place: str, field: bytes) -> Optional[str]:
+    """What is wrong with one field of a line, if anything is."""
+    words = _WORDS.get(place) or _WORDS.get(f"{form} {place}")
+    if not field:
+        return "a field is empty: there is exactly one space between two fields"
+    if words:
+        return None if field.decode("latin-1") in words else f"`{_shown(field)}` is not one of {', '.join(words)}"
+    if place == "COUNT":
+        return None if re.fullmatch(_COUNT, field) else f"`{_shown(field)}` is no count"
+    if place == "NAME":
+        return None
+    if re.fullmatch(_HEX, field):
+        return None
+    return f"`{_shown(field)}` is no address of sixteen hexadecimal digits, in lower case"
+
+
+def _wrong_line(form: str, line: bytes) -> str:
+    """What is wrong with a line that should have this form."""
+    if not line:
+        return f"the report ends here, where a line `{_FORMS[form]}` should be: it was cut off"
+    if not line.endswith(b"\n"):
+        return f"the line `{_shown(line)}` has no newline at its end: the report was cut off"
+    places, fields = _FORMS[form].split(" "), line[:-1].split(b" ")
+    if fields[0].decode("latin-1") != places[0] or len(fields) != len(places):
+        return f"here should be a line `{_FORMS[form]}`, and is `{_shown(line)}`"
+    for place, field in zip(places[1:], fields[1:]):
+        wrong = _wrong_field(form, place, field)
+        if wrong:
+            return wrong
+    return f"`{_shown(line)}` is no line `{_FORMS[form]}`"
+
+
+class Reader:
+    """Reads one report from a stream of bytes. `line` is the number of the line that was read last."""
+
+    def __init__(self, stream: BinaryIO) -> None:
+        self._stream = stream
+        self.line = 0
+
+    def items(self) -> Iterator[Item]:
+        """All that the report has, in its order."""
+        heading = self._heading()
+        yield heading
+        line = self._next()
+        kind = "graph"
+        if line.startswith(b"functions"):
+            yield from self._functions(self._count("functions", line), heading.entry)
+            line = self._next()
+            if line == b"end\n":
+                kind = "functions"
+        elif line.startswith((b"blocks", b"edges")):
+            kind = line[:6].strip().decode()
+        else:
+            self.fail(_wrong_line("functions", line))
+        if kind in ("graph", "blocks"):
+            yield from self._blocks(self._count("blocks", line), heading.entry)
+            line = self._next()
+        if kind in ("graph", "edges"):
+            yield from self._edges(self._count("edges", line))
+            line = self._next()
+        if line != b"end\n":
+            self.fail(_wrong_line("end", line))
+        if self._next():
+            self.fail("the report has ended, and here is another line")
+        yield End(kind)
+
+    def fail(self, why: str) -> NoReturn:
+        raise ReportError(f"line {self.line}: {why}")
+
+    def _next(self) -> bytes:
+        self.line += 1
+        return self._stream.readline()
+
+    def _heading(self) -> Heading:
+        self.line = 1
+        first = self._stream.readline(len(FIRST_LINE))
+        if first != FIRST_LINE:
+            if not first:
+                self.fail("the report is empty")
+            if first.startswith(b"cfg-report "):
+                self.fail("a report of another version than 1")
+            self.fail("this is no report of cfg, which begins with a line `cfg-report 1`")
+        line = self._next()
+        found = _ENTRY(line)
+        return Heading(int(found[1], 16)) if found else self.fail(_wrong_line("entry", line))
+
+    def _count(self, section: str, line: bytes) -> int:
+        found = _SECTION[section](line)
+        return int(found[1]) if found else self.fail(_wrong_line(section, line))
+
+    def _wrong_item(self, form: str, line: bytes, place: int, count: int) -> NoReturn:
+        """Fails at a line that is not the item that a count has announced."""
+        if line.split(b" ")[0].rstrip(b"\n").decode("latin-1") in set(_FORMS) - {form}:
+            self.fail(f"{count} lines `{_FORMS[form]}` were announced, and here, behind {place}, is `{_shown(line)}`")
+        self.fail(_wrong_line(form, line))
+
+    def _functions(self, count: int, entry: int) -> Iterator[Function]:
+        before, entry_seen = -1, False
+        for place in range(count):
+            line = self._next()
+            found = _FUNCTION(line) or self._wrong_item("function", line, place, count)
+            at = int(found[1], 16)
+            if at <= before:
+                self.fail(f"the function at {at:x} stands behind the one at {before:x}: entries rise, each there once")
+            try:
+                name = read_name(found[4])
+            except ValueError as error:
+                self.fail(str(error))
+            before, entry_seen = at, entry_seen or at == entry
+            yield Function(at, found[2] == b"may-return", name, self._body(at, int(found[3])))
+        if not entry_seen:
+            self.fail(f"no function starts at the program's entry, {entry:x}")
+
+    def _body(self, entry: int, count: int) -> Tuple[int, ...]:
+        body: List[int] = []
+        for place in range(count):
+            line = self._next()
+            found = _IN(line) or self._wrong_item("in", line, place, count)
+            start = int(found[1], 16)
+            if body and start <= body[-1]:
+                self.fail(f"the block at {start:x} stands behind the one at {body[-1]:x}: blocks rise, each there once")
+            body.append(start)
+        if entry not in body:
+            self.fail(f"the function at {entry:x} does not have the block at its own entry")
+        return tuple(body)
+
+    def _blocks(self, count: int, entry: int) -> Iterator[Block]:
+        before, entry_seen = -1, False
+        for place in range(count):
+            line = self._next()
+            found = _BLOCK(line) or self._wrong_item("block", line, place, count)
+            start, end = int(found[1], 16), int(found[2], 16)
+            if start <= before:
+                self.fail(f"the block at {start:x} stands behind the one at {before:x}: starts rise, each there once")
+            if end <= start:
+                self.fail(f"the block at {start:x} ends at {end:x}, in front of itself")
+            before, entry_seen = start, entry_seen or start == entry
+            yield Block(start, end, _KIND[found[3]])
+        if not entry_seen:
+            self.fail(f"no block starts at the program's entry, {entry:x}")
+
+    def _edges(self, count: int) -> Iterator[Edge]:
+        before = (-1, -1, -1)
+        for place in range(count):
+            line = self._next()
+            found = _EDGE(line) or self._wrong_item("edge", line, place, count)
+            edge = Edge(int(found[1], 16), int(found[2], 16), _KIND[found[3]])
+            rank = (edge.source, edge.to, _RANK[edge.kind])
+            if rank <= before:
+                self.fail(f"`{_shown(line)}` is out of order, or there twice: edges are in order of FROM, TO and KIND")
+            before = rank
+            yield edge
+
+
+_KIND = {kind.encode(): kind for kind in BLOCK_KINDS + EDGE_KINDS}
+_RANK = {kind: rank for rank, kind in enumerate(EDGE_KINDS)}
+
+
+def read(stream: BinaryIO) -> Iterator[Item]:
+    """All that a report has, in its order, none of it kept."""
+    return Reader(stream).items()
+
+
+# ---- whole reports
+
+
+class Report:
+    """A whole report. What its kind leaves out is empty."""
+
+    def __init__(self, stream: BinaryIO) -> None:
+        self.entry = 0
+        self.kind = ""
+        self.functions: List[Function] = []
+        self.blocks: Dict[int, Block] = {}
+        self.edges: List[Edge] = []
+        self.edges_from: Dict[int, List[Edge]] = {}
+        for item in read(stream):
+            self._keep(item)
+
+    def _keep(self, item: Item) -> None:
+        if isinstance(item, Edge):
+            self.edges.append(item)
+            self.edges_from.setdefault(item.source, []).append(item)
+        elif isinstance(item, Block):
+            self.blocks[item.start] = item
+        elif isinstance(item, Function):
+            self.functions.append(item)
+        elif isinstance(item, Heading):
+            self.entry = item.entry
+        else:
+            self.kind = item.kind
+
+    def want(self, *kinds: str) -> "Report":
+        """The report, where it is of one of these kinds."""
+        if self.kind not in kinds:
+            raise ReportError(f"this is a report of kind {self.kind}, and one of kind {' or '.join(kinds)} is needed")
+        return self
+
+    def function(self, wanted: str) -> Function:
+        """The function of this name, as the report writes it or as text, or at this hexadecimal address."""
+        return find_function(self.functions, wanted)
+
+    def problems(self) -> Iterator[str]:
+        """What does not fit together in a report of kind graph."""
+        if self.kind == "graph":
+            yield from _unknown_places(self)
+            yield from _wrong_edges(self)
+            yield from _wrong_bodies(self)
+            yield from _wrong_statuses(self)
+
+
+def find_function(functions: List[Function], wanted: str) -> Function:
+    """The one function of this name or at this address."""
+    found = [function for function in functions if _is_named(function, wanted)]
+    if not found and re.fullmatch(r"(0x)?[0-9a-fA-F]{1,16}", wanted):
+        found = [f for f in functions if f.entry == int(wanted, 16)]
+    if len(found) > 1:
+        entries = " or ".join(f"{function.entry:x}" for function in found)
+        raise ReportError(f"{len(found)} functions are named {wanted}: give the address, {entries}")
+    if not found:
+        raise ReportError(f"no function has the name or the address {wanted}")
+    return found[0]
+
+
+def _is_named(function: Function, wanted: str) -> bool:
+    name = function.name
+    return name is not None and wanted in (name_field(name), name.decode("utf-8", "replace"))
+
+
+def load(stream: BinaryIO) -> Report:
+    """A whole report."""
+    return Report(stream)
+
+
+def _unknown_places(report: Report) -> Iterator[str]:
+    for function in report.functions:
+        for start in function.blocks:
+            if start not in report.blocks:
+                yield f"the function at {function.entry:x} has a block at {start:x}, and no block line does"
+    for edge in report.edges:
+        for place in (edge.source, edge.to):
+            if place not in report.blocks:
+                yield f"the edge {_words(edge)}: no block starts at {place:x}"
+    for start in report.blocks.keys() - {start for function in report.functions for start in function.blocks}:
+        yield f"the block at {start:x} is in no function"
+
+
+def _wrong_edges(report: Report) -> Iterator[str]:
+    entries = {function.entry for function in report.functions}
+    for block in report.blocks.values():
+        edges = report.edges_from.get(block.start, [])
+        kinds = [edge.kind for edge in edges]
+        if not EDGES_OF[block.kind](kinds):
+            yield f"the block at {block.start:x} ends with {block.kind}, and has the edges: {', '.join(kinds) or 'none'}"
+        for edge in edges:
+            if edge.kind in ("fall", "after") and edge.to != block.end:
+                yield f"the edge {_words(edge)} does not lead to the end of its block, {block.end:x}"
+            if edge.kind in ("call", "tail") and edge.to not in entries:
+                yield f"the edge {_words(edge)} does not lead to a function"
+
+
+def _words(edge: Edge) -> str:
+    return f"{edge.source:x} {edge.to:x} {edge.kind}"
+
+
+def _wrong_bodies(report: Report) -> Iterator[str]:
+    bodies = {function.entry: set(function.blocks) for function in report.functions}
+    for entry, body in bodies.items():
+        found: Set[int] = set()
+        left = [entry]
+        while left:
+            start = left.pop()
+            if start not in found:
+                found.add(start)
+                onward = [edge.to for edge in report.edges_from.get(start, []) if edge.kind != "call"]
+                left += [to for to in onward if to == entry or to not in bodies]
+        if found != body:
+            yield f"the function at {entry:x} has other blocks than its edges lead to"
+    for edge in report.edges:
+        is_tail = edge.to in bodies and edge.source not in bodies[edge.to]
+        if edge.kind == ("jump" if is_tail else "tail"):
+            yield f"the edge {_words(edge)} should be of kind {'tail' if is_tail else 'jump'}"
+
+
+def _wrong_statuses(report: Report) -> Iterator[str]:
+    back: Dict[int, List[int]] = {}
+    for edge in report.edges:
+        if edge.kind != "call":
+            back.setdefault(edge.to, []).append(edge.source)
+    returning: Set[int] = set()
+    left = [block.start for block in report.blocks.values() if block.kind in LEAVES_FUNCTION]
+    while left:
+        start = left.pop()
+        if start not in returning:
+            returning.add(start)
+            left += back.get(start, [])
+    for function in report.functions:
+        if function.may_return != (function.entry in returning):
+            status = "may-return" if function.may_return else "no-return"
+            yield f"the function at {function.entry:x} is said to be {status}, and is not"
+
+
+# ---- files, and what scripts have in common
+
+
+@contextlib.contextmanager
+def opened(path: str, program: Optional[str] = None) -> Iterator[BinaryIO]:
+    """The stream of a report: of a file, of standard input for `-`, or of what `cfg` says of an ELF file."""
+    if path == "-":
+        yield sys.stdin.buffer
+    elif is_elf(path):
+        with _answer(path, program or os.environ.get("CFG") or os.path.join(TOP, "bin", "cfg")) as stream:
+            yield stream
+    else:
+        with open(path, "rb") as stream:
+            yield stream
+
+
+def is_elf(path: str) -> bool:
+    """Whether a file begins as an ELF file does."""
+    # What is no regular file, as a pipe, could not be read again.
+    if path == "-" or not os.path.isfile(path):
+        return False
+    with open(path, "rb") as stream:
+        return stream.read(4) == b"\x7fELF"
+
+
+@contextlib.contextmanager
+def _answer(path: str, program: str) -> Iterator[BinaryIO]:
+    """What `cfg` prints of an ELF file. Where it answers another status than 0, that is told."""
+    with subprocess.Popen([program, "--", path], stdout=subprocess.PIPE) as run:
+        assert run.stdout is not None
+        try:
+            yield run.stdout  # type: ignore[misc]
+        except ReportError:
+            while run.stdout.read(1 << 20):
+                pass
+            if run.wait() == 0:
+                raise
+        run.stdout.close()
+    if run.returncode not in (0, -13):
+        raise ReportError(f"{program} ended with status {run.returncode}")
+
+
+def run(main: Callable[[], int]) -> NoReturn:
+    """Runs a script and ends with its status. What is wrong with a file is one line on standard error, and status 2."""
+    name = os.path.basename(sys.argv[0])
+    try:
+        status = main()
+        sys.stdout.flush()
+    except ReportError as error:
+        status = _told(name, str(error))
+    except BrokenPipeError:
+        os.dup2(os.open(os.devnull, os.O_WRONLY), 1)
+        status = 0
+    except OSError as error:
+        status = _told(name, f"{error.filename}: {error.strerror}" if error.filename else str(error))
+    except KeyboardInterrupt:
+        status = 130
+    sys.exit(status)
+
+
+def _told(name: str, why: str) -> int:
+    print(f"{name}: {why}", file=sys.stderr)
+    return 2
+
+
+@contextlib.contextmanager
+def naming(path: str) -> Iterator[None]:
+    """Puts the name of a file in front of what is wrong with it."""
+    try:
+        yield
+    except ReportError as error:
+        raise ReportError(f"{'standard input' if path == '-' else path}: {error}") from None
+
+
+def load_path(path: str) -> Report:
+    """The whole report of a file, of standard input, or of an ELF file."""
+    with naming(path), opened(path) as stream:
+        return load(stream)
+
+
+def command(description: str) -> argparse.ArgumentParser:
+    """The words of a script, the first of which says what report to read."""
+    parser = argparse.ArgumentParser(description=description)
+    what = "a report, - for standard input, or an ELF file to run cfg on"
+    parser.add_argument("report", metavar="REPORT_OR_ELF", help=what)
+    return parser
+
+
+def main() -> int:
+    parser = command("Checks a report of cfg.")
+    path = parser.parse_args().report
+    report = load_path(path)
+    wrong = list(report.problems())
+    counts = f"{len(report.functions)} functions, {len(report.blocks)} blocks, {len(report.edges)} edges"
+    print(f"a report of kind {report.kind}, entry {report.entry:x}: {counts}")
+    for problem in wrong[:50]:
+        print(problem)
+    print(f"{len(wrong)} problems")
+    return 1 if wrong else 0
+
+
+if __name__ == "__main__":
+    run(main)

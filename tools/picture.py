@@ -1,0 +1,66 @@
+"""Graphviz source, and pictures that `dot` makes of it."""
+
+from __future__ import annotations
+
+import argparse
+import os
+import shutil
+import subprocess
+import sys
+from typing import Iterable, List, Optional, Tuple
+
+from cfg_report import ReportError
+
+SOURCES = (".dot", ".gv")
+PICTURES = (".svg", ".png", ".pdf")
+
+
+def quoted(text: str) -> str:
+    """A text as a Graphviz string, its backslashes as they are."""
+    return '"' + text.replace("\\", "\\\\").replace('"', '\\"') + '"'
+
+
+def left_lines(lines: Iterable[str]) -> str:
+    """Lines of a label, each of them at the left."""
+    return '"' + "".join(quoted(line)[1:-1] + "\\l" for line in lines) + '"'
+
+
+def graph(name: str, settings: Iterable[str], lines: Iterable[str]) -> str:
+    return "\n".join([f"digraph {quoted(name)} {{", *(f"    {line};" for line in (*settings, *lines)), "}\n"])
+
+
+def add_out(parser: argparse.ArgumentParser) -> None:
+    """The word that says where a picture goes."""
+    what = ".svg, .png, .pdf or .dot; without it Graphviz source on standard output"
+    parser.add_argument("-o", dest="out", metavar="FILE", help=what)
+
+
+def legend(rows: Iterable[Tuple[str, str]]) -> str:
+    """The node of a legend: a text in its colour, a line each."""
+    lines = "".join(f'<tr><td align="left"><font color="{colour}">{text}</font></td></tr>' for colour, text in rows)
+    table = f'<table border="1" cellborder="0" cellspacing="0">{lines}</table>'
+    return f"legend [shape=plain, fontname=Helvetica, fontsize=9, label=<{table}>]"
+
+
+def write(source: str, path: Optional[str]) -> None:
+    """Writes Graphviz source to standard output, or to a file, or makes the picture that the file's name asks for."""
+    suffix = os.path.splitext(path)[1] if path else ""
+    if path is None:
+        sys.stdout.write(source)
+    elif suffix in SOURCES:
+        with open(path, "w", encoding="utf-8") as file:
+            file.write(source)
+    elif suffix in PICTURES:
+        _draw(source, path, suffix)
+    else:
+        raise ReportError(f"{path}: a file name ends with one of {', '.join(SOURCES + PICTURES)}")
+
+
+def _draw(source: str, path: str, suffix: str) -> None:
+    if shutil.which("dot") is None:
+        raise ReportError(f"{path}: a picture needs dot, of the package graphviz; without it write {SOURCES[0]}")
+    with open(path, "wb") as file:
+        done = subprocess.run(["dot", f"-T{suffix[1:]}"], input=source.encode(), stdout=file, stderr=subprocess.PIPE)
+    if done.returncode != 0:
+        told: List[str] = done.stderr.decode(errors="replace").splitlines()
+        raise ReportError(f"{path}: dot failed: {told[0] if told else 'it says nothing'}")

@@ -1,0 +1,290 @@
+"""The scripts: what they say of the rows' reports, and of files that are missing or broken."""
+
+from __future__ import annotations
+
+import importlib.machinery
+import importlib.util
+import json
+import os
+import shutil
+import subprocess
+import sys
+import tempfile
+import unittest
+from pathlib import Path
+from types import ModuleType
+from typing import List, Optional
+
+import rows
+import registers
+from elf_file import Code, Elf, gaps, joined
+from listing import Instruction, disassembler
+
+SCRIPTS = {
+    "cfg_report.py": ["REPORT"], "summary": ["REPORT"], "to_json": ["REPORT"], "draw": ["REPORT", "10000"],
+    "call_graph": ["REPORT"], "diff_reports": ["REPORT", "REPORT"], "unresolved": ["ELF", "REPORT"],
+}
+
+
+def script(name: str) -> ModuleType:
+    """A script of the folder as a module."""
+    loader = importlib.machinery.SourceFileLoader(name, str(rows.TOOLS / name))
+    spec = importlib.util.spec_from_loader(name, loader)
+    assert spec is not None
+    module = importlib.util.module_from_spec(spec)
+    loader.exec_module(module)
+    return module
+
+
+class InFolder(unittest.TestCase):
+    """A test that has a folder of its own."""
+
+    def setUp(self) -> None:
+        folder = tempfile.TemporaryDirectory()
+        self.addCleanup(folder.cleanup)
+        self.folder = Path(folder.name)
+
+    def file(self, name: str, data: bytes) -> str:
+        path = self.folder / name
+        path.write_bytes(data)
+        return str(path)
+
+    def row(self, number: int, kind: str = "graph") -> str:
+        return self.file(f"row{number}.{kind}", rows.report(number, kind))
+
+    def elf(self, number: int) -> str:
+        return self.file(f"row{number}.elf", rows.elf(number))
+
+    def answering(self, status: int, output: bytes, error: str = "") -> str:
+        """A program in the place of cfg, with this answer."""
+        said = self.file("answer", output)
+        path = self.file("cfg", f"#!/bin/sh\ncat '{said}'\n{f'echo {error!r} >&2' if error else ''}\nexit {status}\n".encode())
+        os.chmod(path, 0o755)
+        return path
+
+    def run_script(self, name: str, *words: str, cfg: Optional[str] = None, path: Optional[str] = None, given: bytes = b"") -> "subprocess.CompletedProcess[str]":
+        environment = dict(os.environ, CFG=cfg or "/nowhere/cfg", PATH=path or os.environ["PATH"])
+        done = subprocess.run([sys.executable, "-B", str(rows.TOOLS / name), *words], input=given, capture_output=True, env=environment)
+        return subprocess.CompletedProcess(done.args, done.returncode, done.stdout.decode(), done.stderr.decode())
+
+    def said(self, name: str, *words: str, status: int = 0, cfg: Optional[str] = None, path: Optional[str] = None) -> List[str]:
+        done = self.run_script(name, *words, cfg=cfg, path=path)
+        self.assertEqual((done.returncode, done.stderr), (status, ""))
+        return done.stdout.splitlines()
+
+
+class Errors(InFolder):
+    def refused(self, name: str, *words: str, why: str, cfg: Optional[str] = None) -> None:
+        """The script says why in one line, and ends with status 2."""
+        done = self.run_script(name, *words, cfg=cfg)
+        self.assertEqual(done.returncode, 2, done.stderr)
+        self.assertRegex(done.stderr, f"^(cfg: .*\n)?{name}: .*{why}.*\n$")
+
+    def with_report(self, name: str, report: str) -> List[str]:
+        known = {"REPORT": report, "ELF": self.elf(1)}
+        return [known.get(word, word) for word in SCRIPTS[name]]
+
+    def test_usage(self) -> None:
+        for name in SCRIPTS:
+            with self.subTest(name=name):
+                self.assertEqual(self.run_script(name, "--help").returncode, 0)
+                done = self.run_script(name)
+                self.assertEqual(done.returncode, 2)
+                self.assertTrue(done.stderr.startswith("usage: "))
+
+    def test_missing_and_broken_reports(self) -> None:
+        whole = rows.report(1)
+        files = {
+            "missing: No such file": str(self.folder / "missing"),
+            "Is a directory": str(self.folder),
+            "line 1: the report is empty": self.file("empty", b""),
+            "line 1: this is no report": self.file("text", b"hello\n" * 100),
+            "line 9: .* cut off": self.file("cut", whole[:-4]),
+            "line 7: `retrun`": self.file("wrong", whole.replace(b" return", b" retrun")),
+        }
+        for name in SCRIPTS:
+            for why, path in files.items():
+                with self.subTest(name=name, why=why):
+                    self.refused(name, *self.with_report(name, path), why=why)
+
+    def test_reports_of_another_kind(self) -> None:
+        for name in ("draw", "call_graph", "diff_reports", "unresolved"):
+            with self.subTest(name=name):
+                for kind in ("functions", "blocks", "edges"):
+                    self.refused(name, *self.with_report(name, self.row(1, kind)), why="one of kind graph is needed")
+
+    def test_elf_files(self) -> None:
+        elf = self.elf(1)
+        self.refused("summary", elf, why="status 2", cfg=self.answering(2, b"", "cfg: malformed: Type"))
+        self.refused("summary", elf, why="No such file", cfg=str(self.folder / "nothing"))
+        self.refused("summary", "--elf", self.row(1), self.row(1), why="no ELF file")
+        self.refused("unresolved", self.file("cut.elf", rows.elf(1)[:100]), self.row(1), why="broken ELF file")
+
+    def test_functions_and_pictures(self) -> None:
+        self.refused("draw", self.row(1), "main", why="no function has the name or the address main")
+        self.refused("call_graph", "--from", "main", self.row(1), why="no function has the name")
+        self.refused("draw", "-o", str(self.folder / "a.jpg"), self.row(1), "10000", why="a file name ends with")
+        self.refused("draw", "-o", str(self.folder / "no" / "a.dot"), self.row(1), "10000", why="No such file")
+
+
+class Summary(InFolder):
+    def test_counts(self) -> None:
+        for number in rows.ROWS:
+            text = rows.report(number).decode()
+            said = self.said("summary", self.row(number))
+            for word in ("function", "block", "edge"):
+                self.assertIn(f"{word}s {text.count(chr(10) + word + ' ')}", said)
+            for kind in ("unknown", "icall", "table-cut", "branch-out", "stop"):
+                count = text.count(f" {kind}\n")
+                self.assertEqual(any(line == f"    {kind} {count}" for line in said), count > 0)
+
+    def test_other_kinds(self) -> None:
+        self.assertEqual(self.said("summary", self.row(6, "edges"))[:2], ["report edges, entry 0000000000010000", "edges 3"])
+        self.assertIn("functions 1", self.said("summary", self.row(6, "functions")))
+        self.assertIn("blocks 3", self.said("summary", self.row(6, "blocks")))
+
+    def test_code(self) -> None:
+        said = self.said("summary", "--elf", self.elf(15), self.row(15))
+        self.assertEqual(said[-2:], ["code 88 bytes, reached 84 (95.5 %), in 1 ranges not reached 4",
+                                     "    not reached: 1004c to 10050, 4 bytes, from behind start"])
+
+    def test_standard_input_and_elf(self) -> None:
+        done = self.run_script("summary", "-", given=rows.report(6))
+        self.assertIn("blocks 3\n", done.stdout)
+        self.assertIn("blocks 3", self.said("summary", self.elf(6), cfg=self.answering(0, rows.report(6))))
+
+
+class Json(InFolder):
+    def test_objects(self) -> None:
+        found = [json.loads(line) for line in self.said("to_json", self.row(17))]
+        self.assertEqual(found[0], {"record": "report", "version": 1, "entry": "0000000000010000"})
+        self.assertEqual(found[2], {"record": "function", "entry": "000000000001000c", "may_return": True, "name": "g", "blocks": ["000000000001000c"]})
+        self.assertEqual(found[3], {"record": "block", "start": "0000000000010000", "end": "0000000000010004", "kind": "branch"})
+        self.assertEqual(found[-2], {"record": "edge", "from": "000000000001000c", "to": "0000000000010000", "kind": "tail"})
+        self.assertEqual(found[-1], {"record": "end", "kind": "graph"})
+
+
+class Pictures(InFolder):
+    def test_function(self) -> None:
+        said = "\n".join(self.said("draw", self.row(17), "10000"))
+        for part in ("b10000 ", "b10004 -> b10000 [color=royalblue", "10000 to 10004: branch", "3 blocks, may return"):
+            self.assertIn(part, said)
+        self.assertNotIn("b1000c ", said)
+        said = "\n".join(self.said("draw", self.row(17), "g"))
+        self.assertIn('[label="10000", shape=ellipse', said)
+        self.assertIn("tail: a jump that is a tail call", said)
+
+    def test_names_are_escaped(self) -> None:
+        report = self.file("quoted", rows.report(5).replace(b" c\n", b' a"\\\\b\n'))
+        self.assertIn('digraph "a\\"\\\\\\\\b" {', self.said("draw", report, "10004")[0])
+
+    def test_call_graph(self) -> None:
+        said = self.said("call_graph", self.row(10))
+        for way in ("    f10000 -> f1000c [color=firebrick];", "    f1000c -> f10000 [color=firebrick];"):
+            self.assertIn(way, said)
+        self.assertIn("    f1000c -> f10000 [color=purple, style=bold];", self.said("call_graph", self.row(17)))
+        kept = self.said("call_graph", "--from", "10000", self.row(17))
+        self.assertFalse(any("f1000c" in line for line in kept))
+        kept = self.said("call_graph", "--to", "10000", "--depth", "1", self.row(17))
+        self.assertTrue(any("f1000c" in line for line in kept))
+
+    @unittest.skipUnless(shutil.which("dot"), "dot is not installed")
+    def test_dot_draws(self) -> None:
+        for number in rows.ROWS:
+            path = str(self.folder / f"{number}.svg")
+            self.said("draw", "-o", path, self.row(number), "10000")
+            self.assertIn("<svg", Path(path).read_text())
+
+    @unittest.skipUnless(disassembler(), "no disassembler is installed")
+    def test_instructions(self) -> None:
+        said = "\n".join(self.said("draw", "--elf", self.elf(6), self.row(6), "10000"))
+        self.assertRegex(said, r"10004  addi? *a0, ?a0, ?-1\\l10008  bnez +a0")
+        # Two streams of instructions: each block has those of its own.
+        said = "\n".join(self.said("draw", "--elf", self.elf(8), self.row(8), "10000"))
+        self.assertRegex(said, r"10000  [^\\\\]*zero, ?sp")
+        self.assertRegex(said, r"10002  nop")
+        said = "\n".join(self.said("draw", "--elf", self.elf(16), self.row(16), "10000"))
+        self.assertRegex(said, r"10000  .*unimp")
+
+
+class Differences(InFolder):
+    def test_same(self) -> None:
+        self.assertEqual(self.said("diff_reports", self.row(10), self.row(10)),
+                         ["0 functions lost, 0 added, 0 changed, 0 changed in bytes alone, 2 the same"])
+
+    def test_moved(self) -> None:
+        moved = self.file("moved", rows.report(17).replace(b"00000001", b"00000002"))
+        self.assertEqual(self.said("diff_reports", self.file("named", rows.report(17).replace(b"3 -", b"3 f")),
+                                   self.file("moved", rows.report(17).replace(b"3 -", b"3 f").replace(b"00000001", b"00000002")))[-1],
+                         "0 functions lost, 0 added, 0 changed, 0 changed in bytes alone, 2 the same")
+        self.assertTrue(os.path.exists(moved))
+
+    def test_lost_added_and_changed(self) -> None:
+        said = self.said("diff_reports", self.row(6), self.row(17), status=1)
+        self.assertEqual(said[0], "added g: 1 block, may-return")
+        self.assertIn("changed 10000: ", said[1])
+        self.assertEqual(self.said("diff_reports", self.row(17), self.row(6), status=1)[0], "lost g: 1 block, may-return")
+        said = self.said("diff_reports", self.row(9), self.row(16), status=1)
+        self.assertEqual(said[0], "changed 10000: -call 10000, -block call, +block stop")
+
+
+class Unresolved(InFolder):
+    def test_without_a_disassembler(self) -> None:
+        done = self.run_script("unresolved", self.elf(12), self.row(12), path=str(self.folder))
+        self.assertEqual(done.returncode, 0)
+        self.assertIn("no reasons", done.stderr)
+        self.assertIn("10000 branch-out in start: not listed by the disassembler", done.stdout)
+
+    @unittest.skipUnless(disassembler(), "no disassembler is installed")
+    def test_reasons(self) -> None:
+        for number, lines in (
+            (0, ["10006 unknown in behind start: a return that is read as paired with the four bytes before it, which are no"
+                 " instruction (auipc ra,0x18, so to 28002, where no code is)"]),
+            (1, ["0 of 1 blocks (0.0 %)", "code 4 bytes, not reached 0 in 0 ranges, 0 of them right behind these blocks"]),
+            (11, ["10004 icall in behind start: to where no code is (110000)", "1000c unknown in behind start: to where no code is (110008)"]),
+            (12, ["10000 branch-out in start: a branch to where no code is (10040)"]),
+            (16, ["0 of 1 blocks (0.0 %)", "    1 stop: ebreak or unimp, which are meant"]),
+        ):
+            with self.subTest(row=number):
+                self.assertEqual(self.said("unresolved", "--last", "0", self.elf(number), self.row(number))[:len(lines)], lines)
+        said = self.said("unresolved", "--last", "1", self.elf(15), self.row(15))
+        self.assertRegex(said[0], r"^1001c table-cut in behind start: fewer entries .* \| .*j(al)?r\s.*x15")
+
+
+class Elfs(InFolder):
+    def test_reading(self) -> None:
+        elf = Elf(self.elf(6))
+        self.assertEqual([(code.start, code.end) for code in elf.code], [(0x10000, 0x10010)])
+        self.assertEqual([elf.place(at) for at in (0xFFFE, 0x10000, 0x10002, 0x10004)], ["fffe", "start", "start+0x2", "behind start"])
+        self.assertEqual([elf.is_code(at) for at in (0xFFFE, 0x10000, 0x10001, 0x1000E, 0x10010)], [False, True, False, True, False])
+
+    def test_gaps(self) -> None:
+        code = [Code(0, 10, b""), Code(20, 30, b"")]
+        self.assertEqual(gaps(code, []), [(0, 10), (20, 30)])
+        self.assertEqual(gaps(code, joined([(2, 4), (4, 6), (5, 8), (22, 30)])), [(0, 2), (8, 10), (20, 22)])
+        self.assertEqual(gaps(code, [(0, 30)]), [])
+
+    def test_reasons_by_instructions(self) -> None:
+        unresolved = script("unresolved")
+
+        def run(*texts: str) -> List[Instruction]:
+            words = [text.split(" ") for text in texts]
+            return [Instruction(4 * i, 4, name, tuple(rest.split(",")), name) for i, (name, rest) in enumerate(words)]
+
+        switch = ("slli x15,x10,0x2", "add x15,x15,x14", "lw x15,0(x15)")
+        self.assertTrue(registers.is_scaled(run(*switch[:2]), "x15", 2))
+        self.assertFalse(registers.is_scaled(run(*switch[:2]), "x15", 3))
+        self.assertTrue(registers.is_loaded(run(*switch), "x15"))
+        self.assertTrue(registers.is_fixed(run("lui x14,0x11", "addi x14,x14,568"), "x14"))
+        self.assertFalse(registers.is_fixed(run("ld x14,0(x2)", "addi x14,x14,568"), "x14"))
+        why = unresolved.Reasons.why_table
+        for texts, what in (
+            (switch, "without a bound test"),
+            (("addi x13,x0,6", "bltu x13,x10,100", *switch), "not calculated all between"),
+            (("addi x13,x0,6", "addi x9,x9,1", "bltu x13,x10,100", *switch), "bound is not set right before"),
+        ):
+            self.assertIn(what, str(why(None, run(*texts))))
+
+
+if __name__ == "__main__":
+    unittest.main()

@@ -1,0 +1,64 @@
+"""What docs/USING.md shows: each of its Python recipes runs, and its JSON lines are those of the script."""
+
+from __future__ import annotations
+
+import importlib.util
+import json
+import os
+import re
+import subprocess
+import sys
+import tempfile
+import unittest
+from pathlib import Path
+from typing import Dict, List
+
+import rows
+
+PAGE = (rows.TOOLS.parent / "docs" / "USING.md").read_text(encoding="utf-8")
+
+
+def blocks(language: str) -> List[str]:
+    return re.findall(rf"^```{language}\n(.*?)^```$", PAGE, re.DOTALL | re.MULTILINE)
+
+
+class Recipes(unittest.TestCase):
+    # What each recipe says of row 17, whose function at 10000 is called _start here, by a word of its code.
+    SAID: Dict[str, List[str]] = {
+        "open_ends": ["3 of 4 blocks, at 0 of them a way on is unknown"],
+        "immediate_dominators": ["10004: 10000", "10008: 10000"],
+        "strongly_connected": ["_start: 2 blocks, entered at 10000"],
+        "executed": ["_start: 2 of 3 blocks executed", "g: 0 of 1 blocks executed", "10020 is in no block"],
+    }
+
+    def run_recipe(self, code: str) -> List[str]:
+        with tempfile.TemporaryDirectory() as folder:
+            Path(folder, "program.report").write_bytes(rows.report(17).replace(b"3 -\n", b"3 _start\n"))
+            Path(folder, "trace.txt").write_text("10000\n10008\n10020\n")
+            environment = dict(os.environ, PYTHONPATH=str(rows.TOOLS))
+            done = subprocess.run([sys.executable, "-B", "-c", code], cwd=folder, env=environment, capture_output=True, text=True)
+        self.assertEqual((done.returncode, done.stderr), (0, ""))
+        return done.stdout.splitlines()
+
+    def test_recipes(self) -> None:
+        recipes = blocks("python")
+        self.assertEqual(len(recipes), len(self.SAID))
+        for code in recipes:
+            word = next(word for word in self.SAID if word in code)
+            with self.subTest(recipe=word):
+                if "import networkx" in code and importlib.util.find_spec("networkx") is None:
+                    self.skipTest("networkx is not installed")
+                self.assertEqual(self.run_recipe(code), self.SAID[word])
+
+
+class JsonLines(unittest.TestCase):
+    def test_example(self) -> None:
+        shown, = blocks("json")
+        done = subprocess.run([sys.executable, "-B", str(rows.TOOLS / "to_json"), "-"], input=rows.report(17), capture_output=True)
+        said = [json.loads(line) for line in done.stdout.splitlines()]
+        for line in shown.splitlines():
+            self.assertIn(json.loads(line), said)
+
+
+if __name__ == "__main__":
+    unittest.main()
