@@ -1,7 +1,12 @@
 -- The name of a fault, as it is printed.
 use Rattle.std.specs.Prelude.{ℕ, List, codes}
 use Rattle.elf_image.specs.declared.fault.Fault.{Fault}
-use Rattle.elf_image.specs.declared.fault.Fault.TheVariants.{TooLarge, Short, Magic, Class, Data, Version, Machine, FileType, HeaderSize, ProgramTable, Interp, NoSections, SectionTable, SectionRange, SectionWrap, CodeParity, CodeOverlap, Entry, SymbolTable, SymbolName}
+use Rattle.elf_image.specs.declared.fault.Fault.TheVariants.{TooLarge, Short, Magic, Class, Data}
+use Rattle.elf_image.specs.declared.fault.Fault.TheVariants.{Version, Machine, FileType, HeaderSize}
+use Rattle.elf_image.specs.declared.fault.Fault.TheVariants.{ProgramTable, Interp, NoSections}
+use Rattle.elf_image.specs.declared.fault.Fault.TheVariants.{SectionTable, SectionRange}
+use Rattle.elf_image.specs.declared.fault.Fault.TheVariants.{SectionWrap, CodeParity, CodeOverlap}
+use Rattle.elf_image.specs.declared.fault.Fault.TheVariants.{Entry, SymbolTable, SymbolName}
 
 abbrev pub fault_name : Fault → List ℕ
 fault_name TooLarge = codes "TooLarge"

@@ -1,14 +1,17 @@
 -- What is wrong with a file, as twenty tests on its bytes. Each stands for itself; their order is
 -- in `Faults`. The fields are those of the System V ABI (ELF-64); which values are wanted is this
 -- project's profile. A sum here has no upper limit, so an offset plus a size never wraps.
-use Rattle.std.specs.Prelude.{ℕ, ◌+◌, ◌-◌, ◌*◌, ◌^◌, ◌%◌, ◌==◌, ◌&&◌, ◌||◌, nat_lt, not, min, max, Bool, false, List, [], ◌∷◌, length, drop, slice_index}
+use Rattle.std.specs.Prelude.{ℕ, ◌+◌, ◌-◌, ◌*◌, ◌^◌, ◌%◌, ◌==◌, ◌&&◌, ◌||◌, nat_lt, not, min, max}
+use Rattle.std.specs.Prelude.{Bool, false, List, [], ◌∷◌, length, drop, slice_index}
 use Rattle.std.specs.List.{list_any, filter}
 use Rattle.std.specs.Option.{option_map_or}
 use Rattle.elf_image.specs.declared.section.Section.{Section}
 use Rattle.elf_image.specs.Header as header
-use Rattle.elf_image.specs.Sections.{section, sections, is_null, is_nobits, is_string_table, is_allocated, is_code_section}
+use Rattle.elf_image.specs.Sections.{section, sections, is_null, is_nobits, is_string_table}
+use Rattle.elf_image.specs.Sections.{is_allocated, is_code_section}
 use Rattle.elf_image.specs.Code.{is_even, is_code}
-use Rattle.elf_image.specs.Symbols.{Symbol, symbol_table, symbol_tables, seed_symbols_in, strings_of}
+use Rattle.elf_image.specs.Symbols.{Symbol, symbol_table, symbol_tables, seed_symbols_in}
+use Rattle.elf_image.specs.Symbols.{strings_of}
 
 -- `size` bytes from `offset` on pass the end of a file of `len` bytes
 abbrev pub leaves_file : ℕ → ℕ → ℕ → Bool
@@ -25,7 +28,8 @@ is_short bytes = nat_lt (length bytes) 64
 -- 3. the magic number 7F 'E' 'L' 'F' is not there
 unfoldable pub has_wrong_magic : List ℕ → Bool
 has_wrong_magic bytes =
-    not (slice_index bytes 0 == 0x7F && slice_index bytes 1 == 0x45 && slice_index bytes 2 == 0x4C && slice_index bytes 3 == 0x46)
+    not (slice_index bytes 0 == 0x7F && slice_index bytes 1 == 0x45 && slice_index bytes 2 == 0x4C
+    && slice_index bytes 3 == 0x46)
 
 -- 4. no ELFCLASS64
 unfoldable pub has_wrong_class : List ℕ → Bool
@@ -56,7 +60,9 @@ has_wrong_header_size bytes = not (header.header_size bytes == 64)
 unfoldable pub has_bad_program_table : List ℕ → Bool
 has_bad_program_table bytes =
     nat_lt 0 (header.program_header_count bytes)
-    && (not (header.program_header_size bytes == 56) || leaves_file (length bytes) (header.program_table_offset bytes) (56 * header.program_header_count bytes))
+    && (not (header.program_header_size bytes == 56)
+    || leaves_file (length bytes) (header.program_table_offset bytes)
+    (56 * header.program_header_count bytes))
 
 -- 11. there is a program header PT_INTERP
 unfoldable pub has_interpreter : List ℕ → Bool
@@ -70,7 +76,8 @@ has_no_sections bytes = header.section_count bytes == 0
 unfoldable pub has_bad_section_table : List ℕ → Bool
 has_bad_section_table bytes =
     not (header.section_header_size bytes == 64)
-    || leaves_file (length bytes) (header.section_table_offset bytes) (64 * header.section_count bytes)
+    || leaves_file (length bytes) (header.section_table_offset bytes)
+    (64 * header.section_count bytes)
 
 -- 14. a section that has bytes in the file (it is neither SHT_NULL nor SHT_NOBITS) leaves the file
 abbrev pub is_out_of_file : ℕ → Section → Bool
@@ -116,7 +123,8 @@ has_entry_outside_code bytes = not (is_code bytes (header.entry bytes))
 abbrev pub is_bad_symbol_table : List ℕ → Section → Bool
 is_bad_symbol_table bytes table =
     not (table.entry_size == 24) || not (table.size % 24 == 0)
-    || not (nat_lt table.link (header.section_count bytes) && is_string_table (section bytes table.link))
+    || not (nat_lt table.link (header.section_count bytes)
+    && is_string_table (section bytes table.link))
 
 unfoldable pub has_bad_symbol_table : List ℕ → Bool
 has_bad_symbol_table bytes =
@@ -131,7 +139,8 @@ is_bad_name strings size s =
 
 abbrev pub has_bad_name_in : List ℕ → Section → Bool
 has_bad_name_in bytes table =
-    list_any (is_bad_name (strings_of bytes table) (section bytes table.link).size) (seed_symbols_in bytes table)
+    list_any (is_bad_name (strings_of bytes table) (section bytes table.link).size)
+    (seed_symbols_in bytes table)
 
 unfoldable pub has_bad_symbol_name : List ℕ → Bool
 has_bad_symbol_name bytes = option_map_or (has_bad_name_in bytes) (symbol_table bytes) false

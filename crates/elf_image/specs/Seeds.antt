@@ -8,7 +8,8 @@ use Rattle.std.specs.Ordering.{nat_cmp, is_lt}
 use Rattle.std.specs.Cmp.Lexicographic.{slice_cmp}
 use Rattle.elf_image.specs.declared.section.Section.{Section}
 use Rattle.elf_image.specs.Header.{entry}
-use Rattle.elf_image.specs.Symbols.{symbol_table, seed_symbols, seed_symbols_in, strings_of, string_at}
+use Rattle.elf_image.specs.Symbols.{symbol_table, seed_symbols, seed_symbols_in, strings_of}
+use Rattle.elf_image.specs.Symbols.{string_at}
 
 -- a list of rising numbers with one more in its place, each once
 abbrev pub with_number : ℕ → List ℕ → List ℕ
@@ -42,9 +43,11 @@ has_bytes (b ∷ bs) = true
 -- the names of the seed symbols of a table that stand at an address
 abbrev pub names_in : List ℕ → Section → ℕ → List (List ℕ)
 names_in bytes table a =
-    map (λ s. string_at (strings_of bytes table) s.name) (filter (λ s. s.value == a) (seed_symbols_in bytes table))
+    map (λ s. string_at (strings_of bytes table) s.name)
+    (filter (λ s. s.value == a) (seed_symbols_in bytes table))
 
 -- the name of a seed: the least name that is not empty of the seed symbols at its address
 unfoldable pub seed_name : List ℕ → ℕ → Option (List ℕ)
 seed_name bytes a =
-    option_and_then (λ table. least (filter has_bytes (names_in bytes table a))) (symbol_table bytes)
+    option_and_then (λ table. least (filter has_bytes (names_in bytes table a)))
+    (symbol_table bytes)

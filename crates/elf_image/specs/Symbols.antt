@@ -1,12 +1,14 @@
 -- The symbols of a file and their names (System V ABI, "Symbol Table" and "String Table").
-use Rattle.std.specs.Prelude.{ℕ, ◌+◌, ◌*◌, ◌/◌, ◌%◌, ◌==◌, ◌&&◌, nat_lt, not, Bool, List, [], map, take, drop, take_while, slice_index}
+use Rattle.std.specs.Prelude.{ℕ, ◌+◌, ◌*◌, ◌/◌, ◌%◌, ◌==◌, ◌&&◌, nat_lt, not, Bool, List, [], map}
+use Rattle.std.specs.Prelude.{take, drop, take_while, slice_index}
 use Rattle.std.specs.List.{range_with_len, find, filter}
 use Rattle.std.specs.Option.{option_map_or}
 use Rattle.std.specs.declared.option.Option.{Option}
 use Rattle.elf_image.specs.declared.section.Section.{Section}
 use Rattle.elf_image.specs.Number.{u16_at, u32_at, u64_at}
 use Rattle.elf_image.specs.Header.{section_count}
-use Rattle.elf_image.specs.Sections.{section, sections, is_symbol_table, is_code_section, holds_bytes}
+use Rattle.elf_image.specs.Sections.{section, sections, is_symbol_table, is_code_section}
+use Rattle.elf_image.specs.Sections.{holds_bytes}
 use Rattle.elf_image.specs.Code.{is_even}
 
 -- an Elf64_Sym: st_name, st_info, st_shndx and st_value

@@ -3,6 +3,7 @@
 
 ghost use Rattle.std.specs.Prelude.{◌≡◌, ℕ, ◌+◌, ◌<◌, ◌≤◌, nat_le, not, length, IsTrue, IfOk};
 ghost use Rattle.std.specs.Bool.{MatchBool};
+ghost use Rattle.std.specs.Option.{option_copied};
 ghost use Rattle.std.specs.List.{find, All};
 ghost use Rattle.std.specs.List.Sorted.{IsPermutation, IsNonDecreasingBy};
 ghost use Rattle.elf_image.specs.Sections.{holds_bytes};
@@ -26,7 +27,8 @@ impl AddressIndex {
     pub(crate) fn new(alloc: Global, sections: Vec<Section>) -> Result<AddressIndex, AllocError>
         requires { All (λ s. 0 < s.size) sections.items }
         ensures same { IfOk result (λ index. FindsSame index.sections.items sections.items) }
-        ensures overlap { IfOk result (λ index. not index.is_laid_out ≡ any_pair shares_address sections.items) }
+        ensures overlap { IfOk result
+            (λ index. not index.is_laid_out ≡ any_pair shares_address sections.items) }
     {
         let sorted = sorted_by_address(alloc, &sections)?;
         if is_laid_out(&sorted) {
@@ -50,9 +52,9 @@ impl AddressIndex {
 
     /// The first section that has the `n` bytes from address `a` on. It takes logarithmic time
     /// where no two sections share an address, and else looks through all.
-    pub(crate) fn find(&self, a: u64, n: u64) -> Option<Section>
+    pub(crate) fn find(&self, a: u64, n: u64) -> Option<&Section>
         requires { 0 < n }
-        ensures { result ≡ find (holds_bytes a n) self.now.sections.items }
+        ensures { option_copied result ≡ find (holds_bytes a n) self.now.sections.items }
     {
         if self.is_laid_out {
             find_laid_out(&self.sections, a, n)
@@ -87,23 +89,23 @@ fn is_laid_out(sections: &[Section]) -> bool
 }
 
 /// Looks through all sections.
-fn find_first(sections: &[Section], a: u64, n: u64) -> Option<Section>
-    ensures { result ≡ find (holds_bytes a n) sections.now }
+fn find_first(sections: &[Section], a: u64, n: u64) -> Option<&Section>
+    ensures { option_copied result ≡ find (holds_bytes a n) sections.now }
 {
-    sections.iter().copied().find(|s| s.holds_bytes(a, n))
+    sections.iter().find(|s| s.holds_bytes(a, n))
 }
 
 /// Looks at one section alone: the last that begins at `a` or before.
-fn find_laid_out(sections: &[Section], a: u64, n: u64) -> Option<Section>
+fn find_laid_out(sections: &[Section], a: u64, n: u64) -> Option<&Section>
     requires some { 0 < n }
     requires laid_out { IsLaidOut sections.now }
-    ensures { result ≡ find (holds_bytes a n) sections.now }
+    ensures { option_copied result ≡ find (holds_bytes a n) sections.now }
 {
     let after = sections.partition_point(|s| s.address <= a);
     if after == 0 {
         return None;
     }
-    let last = sections[after - 1];
+    let last = &sections[after - 1];
     if last.holds_bytes(a, n) {
         Some(last)
     } else {

@@ -1,12 +1,16 @@
 //! An accepted file and what is read of it.
 
-ghost use Rattle.std.specs.Prelude.{◌≡◌, ℕ, ◌+◌, ◌-◌, ◌<◌, ◌≤◌, ◌^◌, List, length, true, false, IsTrue, IsSome, IfOk, IfErr, OnOk, OnSome, IfSome, None, Some};
+ghost use Rattle.std.specs.Prelude.{◌≡◌, ℕ, ◌+◌, ◌-◌, ◌<◌, ◌≤◌, ◌^◌, List, length, true, false};
+ghost use Rattle.std.specs.Prelude.{IsTrue, IsSome, IfOk, IfErr, OnOk, OnSome, IfSome, None, Some};
+ghost use Rattle.std.specs.Option.{option_copied};
 ghost use Rattle.elf_image.specs.Header as header;
 ghost use Rattle.elf_image.specs.Sections.{section, is_code_section, holds_bytes, file_offset};
-ghost use Rattle.elf_image.specs.Code.{is_even, code_section_of, is_code, section_start, half_at, word_at};
+ghost use Rattle.elf_image.specs.Code.{is_even, code_section_of, is_code, section_start, half_at};
+ghost use Rattle.elf_image.specs.Code.{word_at};
 ghost use Rattle.elf_image.specs.ReadOnly.{is_read_only, data_section_of, data_word, span_bytes};
 ghost use Rattle.elf_image.specs.FaultTests.{is_out_of_file};
-ghost use Rattle.elf_image.specs.Faults.{first_fault, first_image_fault, first_symbol_fault, IsImage};
+ghost use Rattle.elf_image.specs.Faults.{first_fault, first_image_fault, first_symbol_fault};
+ghost use Rattle.elf_image.specs.Faults.{IsImage};
 ghost use Rattle.elf_image.specs.Outcome.{IfMalformed};
 ghost use Rattle.elf_image.specs.Inner.Found.{IsFoundAt};
 
@@ -45,7 +49,8 @@ impl Image {
         ensures ok { IfOk result (λ image. image ≡ bytes.items) }
         ensures accepted { OnOk result (IsImage bytes.items) }
         ensures rest { OnOk result (first_fault bytes.items ≡ first_symbol_fault bytes.items) }
-        ensures malformed { IfErr result (λ e. IfMalformed e (λ f. first_image_fault bytes.items ≡ Some f)) }
+        ensures malformed { IfErr result
+            (λ e. IfMalformed e (λ f. first_image_fault bytes.items ≡ Some f)) }
         ensures first { IfErr result (λ e. IfMalformed e (λ f. first_fault bytes.items ≡ Some f)) }
     {
         let layout = judge(alloc, &bytes)?;
@@ -63,18 +68,18 @@ impl Image {
     }
 
     /// The code section of a code address.
-    fn code_section(&self, a: u64) -> Option<Section>
-        ensures value { result ≡ code_section_of self.now a }
-        ensures found { IfSome result (IsFoundAt self.now a 2) }
+    fn code_section(&self, a: u64) -> Option<&Section>
+        ensures value { option_copied result ≡ code_section_of self.now a }
+        ensures found { IfSome (option_copied result) (IsFoundAt self.now a 2) }
         ensures image { IsImage self.now }
     {
         code_section(&self.layout.code, a)
     }
 
     /// The first read-only section, in table order, that has the four bytes at `a`.
-    fn data_section(&self, a: u64) -> Option<Section>
-        ensures value { result ≡ data_section_of self.now a }
-        ensures found { IfSome result (IsFoundAt self.now a 4) }
+    fn data_section(&self, a: u64) -> Option<&Section>
+        ensures value { option_copied result ≡ data_section_of self.now a }
+        ensures found { IfSome (option_copied result) (IsFoundAt self.now a 4) }
     {
         self.layout.read_only.find(a, 4)
     }
@@ -95,7 +100,9 @@ impl Image {
         ensures below { IfSome result (λ start. start ≤ a) }
         // Each even address from the start on up to `a` has the same start.
         ensures same { IfSome result
-            (λ start. (b : ℕ) → start ≤ b → b ≤ a → is_even b ≡ true → section_start self.now b ≡ Some start) }
+            (λ start. (b : ℕ) → start ≤ b → b ≤ a → is_even b ≡ true
+            → section_start self.now b ≡ Some start) }
+        ensures image { IsImage self.now }
     {
         let s = self.code_section(a)?;
         Some(s.address)
@@ -108,7 +115,7 @@ impl Image {
         ensures image { IsImage self.now }
     {
         let s = self.code_section(a)?;
-        Some(u16_at(&self.bytes, file_offset(&s, a)))
+        Some(u16_at(&self.bytes, file_offset(s, a)))
     }
 
     /// The word at a code address; `None` where `a` is no code address or its four bytes leave its
@@ -119,7 +126,7 @@ impl Image {
     {
         let s = self.code_section(a)?;
         if s.holds_bytes(a, 4) {
-            Some(u32_at(&self.bytes, file_offset(&s, a)))
+            Some(u32_at(&self.bytes, file_offset(s, a)))
         } else {
             None
         }
@@ -140,7 +147,7 @@ impl Image {
         ensures in_memory { OnSome result (a + 4 < 2 ^ 64) }
     {
         let s = self.data_section(a)?;
-        Some(u32_at(&self.bytes, file_offset(&s, a)))
+        Some(u32_at(&self.bytes, file_offset(s, a)))
     }
 
     /// The number of sections (`e_shnum`).
@@ -157,8 +164,10 @@ impl Image {
         ensures section { result ≡ section self.now i }
         ensures in_file { is_out_of_file (length self.now) result ≡ false }
         ensures small { length self.now ≤ 67108864 }
+        ensures image { IsImage self.now }
         // A code section is that of each code address in it.
-        ensures code { (a : ℕ) → is_code_section result ≡ true → is_even a ≡ true → holds_bytes a 2 result ≡ true
+        ensures code { (a : ℕ) → is_code_section result ≡ true → is_even a ≡ true
+            → holds_bytes a 2 result ≡ true
             → code_section_of self.now a ≡ Some result }
     {
         self.layout.sections[i as usize]

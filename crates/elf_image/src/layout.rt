@@ -1,8 +1,11 @@
 //! The sections of a file, judged and prepared to be searched.
 
-ghost use Rattle.std.specs.Prelude.{◌≡◌, ◌≤◌, ◌&&◌, nat_lt, not, length, IfOk, IfErr, Some, None, if◌then◌else◌};
+ghost use Rattle.std.specs.Prelude.{◌≡◌, ◌≤◌, ◌&&◌, nat_lt, not, length, IfOk, IfErr, Some, None};
+ghost use Rattle.std.specs.Prelude.{if◌then◌else◌};
 ghost use Rattle.std.specs.List.{find, filter};
-ghost use Rattle.elf_image.specs.Sections.{sections, is_code_section, is_read_only_section, holds_bytes};
+ghost use Rattle.std.specs.Option.{option_copied};
+ghost use Rattle.elf_image.specs.Sections.{sections, is_code_section, is_read_only_section};
+ghost use Rattle.elf_image.specs.Sections.{holds_bytes};
 ghost use Rattle.elf_image.specs.Code.{is_even};
 ghost use Rattle.elf_image.specs.FaultTests.{any_pair, shares_address};
 ghost use Rattle.elf_image.specs.Faults.{first_among, first_fault, first_image_fault, IsImage};
@@ -29,16 +32,19 @@ pub(crate) struct Layout {
 
 /// The code sections that are not empty.
 fn code_index(alloc: Global, sections: &[Section]) -> Result<AddressIndex, AllocError>
-    ensures finds { IfOk result (λ index. FindsAmong is_code_section index.sections.items sections.now) }
+    ensures finds { IfOk result
+        (λ index. FindsAmong is_code_section index.sections.items sections.now) }
     ensures overlap { IfOk result
-        (λ index. not index.is_laid_out ≡ any_pair shares_address (filter is_code_section sections.now)) }
+        (λ index. not index.is_laid_out
+        ≡ any_pair shares_address (filter is_code_section sections.now)) }
 {
     AddressIndex::new(alloc, filled_code(alloc, sections)?)
 }
 
 /// The code sections that are not empty, in table order.
 fn filled_code(alloc: Global, sections: &[Section]) -> Result<Vec<Section>, AllocError>
-    ensures { IfOk result (λ v. v.items ≡ filter (λ s. is_code_section s && nat_lt 0 s.size) sections.now) }
+    ensures { IfOk result
+        (λ v. v.items ≡ filter (λ s. is_code_section s && nat_lt 0 s.size) sections.now) }
 {
     sections
         .iter()
@@ -49,14 +55,16 @@ fn filled_code(alloc: Global, sections: &[Section]) -> Result<Vec<Section>, Allo
 
 /// The read-only sections that are not empty.
 fn read_only_index(alloc: Global, sections: &[Section]) -> Result<AddressIndex, AllocError>
-    ensures { IfOk result (λ index. FindsAmong is_read_only_section index.sections.items sections.now) }
+    ensures { IfOk result
+        (λ index. FindsAmong is_read_only_section index.sections.items sections.now) }
 {
     AddressIndex::new(alloc, filled_read_only(alloc, sections)?)
 }
 
 /// The read-only sections that are not empty, in table order.
 fn filled_read_only(alloc: Global, sections: &[Section]) -> Result<Vec<Section>, AllocError>
-    ensures { IfOk result (λ v. v.items ≡ filter (λ s. is_read_only_section s && nat_lt 0 s.size) sections.now) }
+    ensures { IfOk result
+        (λ v. v.items ≡ filter (λ s. is_read_only_section s && nat_lt 0 s.size) sections.now) }
 {
     sections
         .iter()
@@ -66,8 +74,9 @@ fn filled_read_only(alloc: Global, sections: &[Section]) -> Result<Vec<Section>,
 }
 
 /// The section that has both bytes of the halfword at `a`, where `a` is even.
-pub(crate) fn code_section(code: &AddressIndex, a: u64) -> Option<Section>
-    ensures { result ≡ (if is_even a then find (holds_bytes a 2) code.now.sections.items else None) }
+pub(crate) fn code_section(code: &AddressIndex, a: u64) -> Option<&Section>
+    ensures { option_copied result ≡ (if is_even a
+        then find (holds_bytes a 2) code.now.sections.items else None) }
 {
     if a % 2 == 0 { code.find(a, 2) } else { None }
 }
@@ -77,7 +86,8 @@ pub(crate) fn code_section(code: &AddressIndex, a: u64) -> Option<Section>
 fn code_fault(bytes: &[u8], code: &AddressIndex) -> Option<Fault>
     requires header { 64 ≤ length bytes.now }
     requires finds { FindsAmong is_code_section code.now.sections.items (sections bytes.now) }
-    requires overlap { not code.now.is_laid_out ≡ any_pair shares_address (filter is_code_section (sections bytes.now)) }
+    requires overlap { not code.now.is_laid_out
+        ≡ any_pair shares_address (filter is_code_section (sections bytes.now)) }
     ensures { result ≡ first_among code_faults bytes.now }
 {
     if code.overlap() {
@@ -93,7 +103,8 @@ fn code_fault(bytes: &[u8], code: &AddressIndex) -> Option<Fault>
 pub(crate) fn judge(alloc: Global, bytes: &[u8]) -> Result<Layout, ElfError>
     ensures image { IfOk result (λ _. IsImage bytes.now) }
     ensures layout { IfOk result (λ layout. IsLayoutOf bytes.now layout) }
-    ensures malformed { IfErr result (λ e. IfMalformed e (λ f. first_image_fault bytes.now ≡ Some f)) }
+    ensures malformed { IfErr result
+        (λ e. IfMalformed e (λ f. first_image_fault bytes.now ≡ Some f)) }
     ensures first { IfErr result (λ e. IfMalformed e (λ f. first_fault bytes.now ≡ Some f)) }
 {
     if let Some(fault) = file_fault(bytes) {

@@ -37,7 +37,8 @@ pub struct Section {
 
 impl Section {
     ghost use Rattle.std.specs.Prelude.{◌≡◌, nat_lt, ◌==◌, not, ◌||◌};
-    ghost use Rattle.elf_image.specs.Sections.{is_null, is_nobits, is_allocated, is_code_section, is_read_only_section, holds_bytes};
+    ghost use Rattle.elf_image.specs.Sections.{is_null, is_nobits, is_allocated, is_code_section};
+    ghost use Rattle.elf_image.specs.Sections.{is_read_only_section, holds_bytes};
 
     /// Whether its bytes are machine code: `SHT_PROGBITS` with `SHF_ALLOC` and `SHF_EXECINSTR`.
     pub fn is_code(&self) -> bool

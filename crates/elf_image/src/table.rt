@@ -1,6 +1,7 @@
 //! The section header table, read and judged (System V ABI, "Section Header").
 
-ghost use Rattle.std.specs.Prelude.{◌≡◌, ◌+◌, ◌<◌, ◌≤◌, ◌||◌, ◌&&◌, not, nat_lt, length, false, IfOk};
+ghost use Rattle.std.specs.Prelude.{◌≡◌, ◌+◌, ◌<◌, ◌≤◌, ◌||◌, ◌&&◌, not, nat_lt, length, false};
+ghost use Rattle.std.specs.Prelude.{IfOk};
 ghost use Rattle.elf_image.specs.Sections.{section_header, section, sections};
 ghost use Rattle.elf_image.specs.Header.{section_count};
 ghost use Rattle.elf_image.specs.Faults.{has_fault, first_among};

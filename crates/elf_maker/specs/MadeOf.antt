@@ -8,7 +8,8 @@ use Rattle.elf_image.specs.ReadOnly.{is_read_only, data_word}
 use Rattle.elf_image.specs.Seeds.{seeds}
 use Rattle.elf_image.specs.Faults.{first_fault}
 use Rattle.elf_maker.specs.declared.parts.Parts.{Parts}
-use Rattle.elf_maker.specs.Given.{is_code_given, half_given, word_given, is_read_only_given, data_given, IsSeedGiven}
+use Rattle.elf_maker.specs.Given.{is_code_given, half_given, word_given, is_read_only_given}
+use Rattle.elf_maker.specs.Given.{data_given, IsSeedGiven}
 
 -- the file has no fault, and its entry, code, read-only data and seeds are those of the parts
 pub record IsMadeOf (parts : Parts) (bytes : List ℕ) : Type 0 where

@@ -1,5 +1,6 @@
 -- The symbol table and its string table (System V ABI, "Symbol Table" and "String Table").
-use Rattle.std.specs.Prelude.{ℕ, ◌+◌, nat_lt, Bool, List, [], ◌∷◌, ◌++◌, length, replicate, if◌then◌else◌}
+use Rattle.std.specs.Prelude.{ℕ, ◌+◌, nat_lt, Bool, List, [], ◌∷◌, ◌++◌, length, replicate}
+use Rattle.std.specs.Prelude.{if◌then◌else◌}
 use Rattle.std.specs.List.{flat_map}
 use Rattle.elf_maker.specs.declared.parts.MadeSymbol.{MadeSymbol}
 use Rattle.elf_maker.specs.Fields.{halves, words, xwords}

@@ -27,7 +27,8 @@ pub fn make_elf(alloc: Global, parts: &Parts) -> Result<Vec<u8>, Memory>
     requires even_entry { parts.now.entry % 2 ≡ 0 }
     requires entry_start { parts.now.code_at ≤ parts.now.entry }
     requires entry_end { parts.now.entry < parts.now.code_at + length parts.now.code }
-    requires disjoint { AreDisjoint parts.now.code_at (length parts.now.code) parts.now.rodata_at (length parts.now.rodata) }
+    requires disjoint { AreDisjoint parts.now.code_at (length parts.now.code) parts.now.rodata_at
+        (length parts.now.rodata) }
     requires code_end { parts.now.code_at + length parts.now.code ≤ 2 ^ 64 - 1 }
     requires rodata_end { parts.now.rodata_at + length parts.now.rodata ≤ 2 ^ 64 - 1 }
     requires names { IsTrue (have_whole_names parts.now.symbols) }

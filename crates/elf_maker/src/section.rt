@@ -3,7 +3,9 @@
 ghost use Rattle.std.specs.Prelude.{◌≡◌, ◌+◌, ◌*◌, ◌++◌, ◌≤◌, length, OnOk};
 ghost use Rattle.elf_maker.specs.Symbols.{symbol_table, string_table};
 ghost use Rattle.std.specs.List.{flat_map};
-ghost use Rattle.elf_maker.specs.Sections.{section_bytes, code_header, rodata_header, symbols_header, strings_header, symbol_headers, section_headers, headers_place, section_table};
+ghost use Rattle.elf_maker.specs.Sections.{section_bytes, code_header, rodata_header};
+ghost use Rattle.elf_maker.specs.Sections.{symbols_header, strings_header, symbol_headers};
+ghost use Rattle.elf_maker.specs.Sections.{section_headers, headers_place, section_table};
 ghost use Rattle.elf_maker.specs.Inner.Layout.{layout_of};
 
 use crate::fields::{padded_len, put_words, put_xwords};
@@ -186,7 +188,8 @@ fn put_section(file: &mut Vec<u8>, section: &SectionHeader) -> Result<(), Memory
 #[tactic(auto, using(std::proofs::lemmas::List::append_assoc), unfolding(crate::specs::Sections::symbol_headers))]
 fn put_symbol_sections(file: &mut Vec<u8>, parts: &Parts, layout: &Layout) -> Result<(), Memory>
     requires { layout.now ≡ layout_of parts.now }
-    ensures { OnOk result (file.new.items ≡ file.old.items ++ flat_map section_bytes (symbol_headers parts.now)) }
+    ensures { OnOk result
+        (file.new.items ≡ file.old.items ++ flat_map section_bytes (symbol_headers parts.now)) }
 {
     if parts.symbols.as_slice().is_empty() {
         return Ok(());

@@ -2,7 +2,8 @@
 
 ghost use Rattle.std.specs.Prelude.{◌≡◌, ◌+◌, ◌^◌, ◌<◌, ◌++◌, length, OnOk, IfOk};
 ghost use Rattle.std.specs.List.{flat_map, All};
-ghost use Rattle.elf_maker.specs.Symbols.{symbol_entry, symbol_entries, terminated_name, symbol_table, string_table};
+ghost use Rattle.elf_maker.specs.Symbols.{symbol_entry, symbol_entries, terminated_name};
+ghost use Rattle.elf_maker.specs.Symbols.{symbol_table, string_table};
 
 use crate::fields::{put_halves, put_words, put_xwords};
 use crate::memory::Memory;
@@ -31,7 +32,8 @@ fn put_symbol(table: &mut Vec<u8>, name: u32, address: u64) -> Result<(), Memory
 #[tactic(auto, unfolding(crate::specs::Symbols::symbol_entries))]
 fn put_symbols(table: &mut Vec<u8>, symbols: &[MadeSymbol]) -> Result<(), Memory>
     requires { length (flat_map terminated_name symbols.now) + 1 < 2 ^ 32 }
-    ensures entries { OnOk result (table.new.items ≡ table.old.items ++ symbol_entries 1 symbols.now) }
+    ensures entries { OnOk result
+        (table.new.items ≡ table.old.items ++ symbol_entries 1 symbols.now) }
     ensures addresses { OnOk result (All (λ s. s.address < 2 ^ 64) symbols.now) }
 {
     let mut name = 1;
@@ -44,7 +46,8 @@ fn put_symbols(table: &mut Vec<u8>, symbols: &[MadeSymbol]) -> Result<(), Memory
 
 /// Appends names, each with a zero byte at its end.
 fn put_names(table: &mut Vec<u8>, symbols: &[MadeSymbol]) -> Result<(), Memory>
-    ensures { OnOk result (table.new.items ≡ table.old.items ++ flat_map terminated_name symbols.now) }
+    ensures { OnOk result
+        (table.new.items ≡ table.old.items ++ flat_map terminated_name symbols.now) }
 {
     for symbol in symbols {
         table.extend_from_slice(symbol.name.as_slice())?;

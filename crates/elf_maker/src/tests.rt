@@ -52,7 +52,15 @@ fn symbol(alloc: Global, name: &[u8], address: u64) -> Result<MadeSymbol, AllocE
 
 /// Code at the address 10000, its entry, and no read-only data.
 fn code_alone(alloc: Global, code: &[u8], symbols: Vec<MadeSymbol>) -> Result<Parts, AllocError>
-    ensures { IfOk result (λ parts. parts ≡ record { entry = 0x10000; code_at = 0x10000; code = code.now; rodata_at = 0x20000; rodata = []; symbols = symbols.items }) }
+    ensures { IfOk result
+        (λ parts. parts ≡ record {
+          entry = 0x10000;
+          code_at = 0x10000;
+          code = code.now;
+          rodata_at = 0x20000;
+          rodata = [];
+          symbols = symbols.items;
+        }) }
 {
     Ok(Parts {
         entry: 0x10000,

@@ -18,7 +18,8 @@ use std::alloc::{AllocError, Global};
 fn lesser_span(image: &Image, s: Span, t: Span) -> Span
     requires first { LiesIn image.now s }
     requires second { LiesIn image.now t }
-    ensures text { span_bytes image.now result ≡ lesser (span_bytes image.now s) (span_bytes image.now t) }
+    ensures text { span_bytes image.now result
+        ≡ lesser (span_bytes image.now s) (span_bytes image.now t) }
     ensures lies { LiesIn image.now result }
 {
     if image.bytes(t).cmp(image.bytes(s)).is_lt() {

@@ -1,6 +1,7 @@
 //! The seeds of a file are read.
 
-ghost use Rattle.std.specs.Prelude.{◌≡◌, ℕ, ◌<◌, length, IsTrue, IfOk, IfErr, IfSome, OnOk, None, Some, All, Contains};
+ghost use Rattle.std.specs.Prelude.{◌≡◌, ℕ, ◌<◌, length, IsTrue, IfOk, IfErr, IfSome, OnOk, None};
+ghost use Rattle.std.specs.Prelude.{Some, All, Contains};
 ghost use Rattle.std.specs.List.Sorted.{IsStrictlyIncreasing};
 ghost use Rattle.std.specs.List.{AllZip};
 ghost use Rattle.std.specs.Option.{option_map};
@@ -31,7 +32,9 @@ use std::alloc::Global;
 pub fn seeds(alloc: Global, image: &Image) -> Result<Seeds, ElfError>
     ensures accepted { OnOk result (first_fault image.now ≡ None) }
     ensures addresses { IfOk result (λ s. addresses_of s ≡ spec.seeds image.now) }
-    ensures names { IfOk result (λ s. (a : ℕ) → option_map (span_bytes image.now) (name_in s a) ≡ spec.seed_name image.now a) }
+    ensures names { IfOk result
+        (λ s. (a : ℕ) → option_map (span_bytes image.now) (name_in s a)
+        ≡ spec.seed_name image.now a) }
     ensures in_file { IfOk result (λ s. (a : ℕ) → IfSome (name_in s a) (LiesIn image.now)) }
 
     // What the clauses above imply, in the form that callers need.
@@ -41,7 +44,8 @@ pub fn seeds(alloc: Global, image: &Image) -> Result<Seeds, ElfError>
     ensures code { IfOk result (λ s. All (λ a. IsTrue (is_code image.now a)) (addresses_of s)) }
 
     ensures malformed { IfErr result (λ e. IfMalformed e (λ f. first_fault image.now ≡ Some f)) }
-    ensures of_symbols { IfErr result (λ e. IfMalformed e (λ f. first_symbol_fault image.now ≡ Some f)) }
+    ensures of_symbols { IfErr result
+        (λ e. IfMalformed e (λ f. first_symbol_fault image.now ≡ Some f)) }
 {
     let entry = Seed {
         address: image.entry(),

@@ -1,6 +1,7 @@
 //! Symbols, and the seeds that they stand for (System V ABI, "Symbol Table").
 
-ghost use Rattle.std.specs.Prelude.{◌≡◌, ◌+◌, ◌*◌, ◌==◌, ◌≤◌, ◌<◌, length, drop, is_none, IfOk, IfSome, OnOk, None, Some, true, false, if◌then◌else◌, IfErr};
+ghost use Rattle.std.specs.Prelude.{◌≡◌, ◌+◌, ◌*◌, ◌==◌, ◌≤◌, ◌<◌, length, drop, is_none, IfOk};
+ghost use Rattle.std.specs.Prelude.{IfSome, OnOk, None, Some, true, false, if◌then◌else◌, IfErr};
 ghost use Rattle.std.specs.List.{position, AllZip};
 ghost use Rattle.elf_image.specs.Sections.{section};
 ghost use Rattle.elf_image.specs.Symbols as spec;
@@ -65,7 +66,8 @@ fn read_symbol(image: &Image, table: &Section, i: u64) -> Symbol
 
 /// The code section that a symbol names by its index.
 fn code_section(image: &Image, i: u16) -> Option<Section>
-    ensures { result ≡ (if spec.is_code_section_index image.now i then Some (section image.now i) else None) }
+    ensures { result ≡ (if spec.is_code_section_index image.now i then Some (section image.now i)
+        else None) }
 {
     let index = u32::from(i);
     if i == 0 || i >= SHN_LORESERVE || index >= image.section_count() {
@@ -115,8 +117,11 @@ fn first_zero(bytes: &[u8]) -> Option<usize>
 /// The seed of a symbol; `None` where its name does not stand in the string table.
 fn seed_of(image: &Image, strings: &Section, s: &Symbol) -> Option<Seed>
     requires { IsInFile image.now strings.now }
-    ensures bad { is_none result ≡ is_bad_name (spec.section_bytes image.now strings.now) strings.now.size (symbol_of s.now) }
-    ensures seed { IfSome result (IsSeedOf image.now (spec.section_bytes image.now strings.now) (symbol_of s.now)) }
+    ensures bad { is_none result
+        ≡ is_bad_name (spec.section_bytes image.now strings.now) strings.now.size
+        (symbol_of s.now) }
+    ensures seed { IfSome result
+        (IsSeedOf image.now (spec.section_bytes image.now strings.now) (symbol_of s.now)) }
 {
     let len = string_len(section_bytes(image, strings), s.name)?;
     let name = Span {
@@ -137,9 +142,12 @@ pub(crate) fn table_seeds(
 ) -> Result<Vec<Seed>, ElfError>
     requires { IsTableOf image.now table.now }
     ensures seeds { IfOk result
-        (λ v. AllZip (IsSeedOf image.now (spec.strings_of image.now table.now.symbols)) (spec.seed_symbols_in image.now table.now.symbols) v.items) }
+        (λ v. AllZip (IsSeedOf image.now (spec.strings_of image.now table.now.symbols))
+        (spec.seed_symbols_in image.now table.now.symbols) v.items) }
     ensures good { OnOk result (has_bad_name_in image.now table.now.symbols ≡ false) }
-    ensures bad { IfErr result (λ e. IfMalformed e (λ f. (f ≡ Fault.SymbolName) × (has_bad_name_in image.now table.now.symbols ≡ true))) }
+    ensures bad { IfErr result
+        (λ e. IfMalformed e (λ f. (f ≡ Fault.SymbolName)
+        × (has_bad_name_in image.now table.now.symbols ≡ true))) }
 {
     let mut seeds = Vec::new(alloc);
     for i in 0..table.symbols.size / SYMBOL_SIZE {

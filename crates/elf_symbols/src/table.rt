@@ -1,7 +1,8 @@
 //! The symbol table of a file and its string table (System V ABI, "Symbol Table" and "String
 //! Table").
 
-ghost use Rattle.std.specs.Prelude.{◌≡◌, ◌≤◌, length, false, is_none, IfOk, IfErr, IfSome, OnOk, Some};
+ghost use Rattle.std.specs.Prelude.{◌≡◌, ◌≤◌, length, false, is_none, IfOk, IfErr, IfSome, OnOk};
+ghost use Rattle.std.specs.Prelude.{Some};
 ghost use Rattle.elf_image.specs.Sections.{section};
 ghost use Rattle.elf_image.specs.Symbols as spec;
 ghost use Rattle.elf_image.specs.FaultTests.{is_bad_symbol_table};

@@ -2,7 +2,9 @@ mod Operands
 pub mod Placed
 mod Writes
 mod Runs
+mod Ways
 mod Nearest
+mod Searches
 mod Jumps
 pub mod Targets
 mod Listed

@@ -1,20 +1,14 @@
 -- An instruction of an accepted file in its place: its operands, and where it ends.
-use Rattle.std.proofs.Common.{◌≡◌, ℕ, ◌+◌, ◌<◌, ◌^◌, ◌%◌, ◌/◌, ◌⊎◌, ◌==◌, Bool, true, false, cond, List, Option, Some, None, is_some, refl, ap, inl, inr, arith}
+use Rattle.std.proofs.Common.{◌≡◌, ℕ, ◌%◌, ◌/◌, ◌⊎◌, ◌==◌, List, Option, Some, None, is_some, refl, ap, inl, inr}
 use Rattle.std.specs.Prelude.{IsSome, IfSome}
-use Rattle.std.specs.Option.{option_map_or, option_and_then}
+use Rattle.std.specs.Option.{option_map_or}
 use Rattle.std.proofs.lemmas.Bool.{cond_both}
-use Rattle.elf_image.specs.declared.section.Section.{Section}
-use Rattle.elf_image.specs.Sections.{holds_bytes, file_offset}
-use Rattle.elf_image.specs.Number.{u32_at}
-use Rattle.elf_image.specs.Code.{is_code, code_section_of, half_at, word_at, word_in}
-use Rattle.elf_image.specs.Faults.{IsImage}
-use Rattle.elf_image.specs.Inner.Found.{IsFoundAt}
-use Rattle.elf_image.proofs.Accepted.{code_section-found}
-use Rattle.elf_image.proofs.LaidOut.{holds-true}
+use Rattle.elf_image.specs.Code.{half_at, word_at}
 use Rattle.rv_decode.specs.declared.instructions.Insn.{Insn}
 use Rattle.rv_flow.specs.declared.placed.Placed.{Placed}
 use Rattle.rv_flow.specs.Placed.{placed_at, placed_by, whole, whole_insn, expanded, bad}
 use Rattle.jump_table.specs.Inner.Operands.{HasOperands}
+use Rattle.jump_table.specs.Inner.Straight.{IsLength}
 use Rattle.jump_table.proofs.Operands.{word_operands_fit}
 
 -- Two bytes, or four that are all there; and operands within their fields.
@@ -44,27 +38,9 @@ module _ (bytes : List ℕ) (a : ℕ) where
   pub placed-operands : IfSome (placed_at bytes a).insn HasOperands
   placed-operands = is-placed.operands
 
-  short-end : (s : Option Section) → IfSome s (IsFoundAt bytes a 2) → is_some s ≡ true → a + 2 < 2 ^ 64
-  short-end None found there = absurd (cc)
-  short-end (Some s) found there = omega (arith, found.end, found.in_memory)
+  length-of : (placed : Placed) → (placed.length ≡ 2) ⊎ ((placed.length ≡ 4) × IsSome (word_at bytes a)) → IsLength placed.length
+  length-of placed (inl short) = inl short
+  length-of placed (inr long) = inr long.0
 
-  long-end-in : (s : Section) → IsFoundAt bytes a 2 s → (b : Bool) → holds_bytes a 4 s ≡ b → is_some (cond b (Some (u32_at bytes (file_offset s a))) None) ≡ true → a + 4 < 2 ^ 64
-  long-end-in s found true holds there = let h = holds-true a 4 s holds in omega (arith, h.1, found.in_memory)
-  long-end-in s found false holds there = absurd (cc)
-
-  long-end : (s : Option Section) → IfSome s (IsFoundAt bytes a 2) → is_some (option_and_then (word_in bytes a) s) ≡ true → a + 4 < 2 ^ 64
-  long-end None found there = absurd (cc)
-  long-end (Some s) found there = long-end-in s found (holds_bytes a 4 s) refl there
-
-module _ (bytes : List ℕ) (accepted : IsImage bytes) (a : ℕ) (code : is_code bytes a ≡ true) where
-  end-of : (placed : Placed) → (placed.length ≡ 2) ⊎ ((placed.length ≡ 4) × IsSome (word_at bytes a)) → a + placed.length < 2 ^ 64
-  end-of placed (inl short) =
-      let end : a + 2 < 2 ^ 64 = short-end bytes a (code_section_of bytes a) (code_section-found bytes accepted a) code in
-      omega (arith, short, end)
-  end-of placed (inr long) =
-      let end : a + 4 < 2 ^ 64 = long-end bytes a (code_section_of bytes a) (code_section-found bytes accepted a) long.1 in
-      omega (arith, long.0, end)
-
-  -- The address behind it does not wrap.
-  pub placed-end : a + (placed_at bytes a).length < 2 ^ 64
-  placed-end = end-of (placed_at bytes a) (is-placed bytes a).size
+  pub placed-length : IsLength (placed_at bytes a).length
+  placed-length = length-of (placed_at bytes a) is-placed.size

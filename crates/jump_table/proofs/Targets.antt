@@ -2,12 +2,12 @@
 -- target in the code for each of them.
 use Rattle.std.proofs.Common.{◌≡◌, ℕ, zero, suc, ◌+◌, ◌*◌, ◌-◌, ◌%◌, ◌<◌, ◌≤◌, ◌^◌, ◌⊎◌, ◌==◌, ◌&&◌, Bool, true, false, cond, List, [], ◌∷◌, length, Option, Some, None, is_some, refl, sym, ap, ◌∙◌, subst, inl, inr, arith}
 use Rattle.std.specs.Prelude.{IfSome, All, nat_lt, nat_le, ℤ, pos, negsuc}
-use Rattle.std.specs.Option.{option_map, option_and_then}
+use Rattle.std.specs.Option.{option_map, option_and_then, option_or}
+use Rattle.std.proofs.Math.Nat.{mul-suc}
 use Rattle.std.proofs.lemmas.Bool.{cond_both}
 use Rattle.std.proofs.lemmas.Bool.Decides.{nat_tests}
 use Rattle.std.proofs.lemmas.List.Elements.{All-nil, All-cons}
 use Rattle.elf_image.specs.Code.{section_start, is_code, half_at, word_at}
-use Rattle.elf_image.specs.ReadOnly.{data_word}
 use Rattle.rv_decode.specs.declared.instructions.Insn.{Insn}
 use Rattle.rv_decode.specs.declared.instructions.Insn.TheVariants as insns
 use Rattle.rv_decode.specs.declared.instructions.ImmKind.{ImmKind}
@@ -21,12 +21,15 @@ use Rattle.jump_table.specs.Section.{is_in_section, whole_insn_at}
 use Rattle.jump_table.specs.Bound as bound
 use Rattle.jump_table.specs.declared.bound.Comparison.{Comparison}
 use Rattle.jump_table.specs.declared.bound.BoundTest.{BoundTest}
-use Rattle.jump_table.specs.declared.find.Place.{Place}
+use Rattle.jump_table.specs.declared.place.Place.{Place}
+use Rattle.jump_table.specs.declared.width.Width.{Width}
+use Rattle.jump_table.specs.declared.width.Width.TheVariants.{Word, Double}
 use Rattle.jump_table.specs.declared.values.Value.{Value}
 use Rattle.jump_table.specs.declared.values.Value.TheVariants.{Entry, EntryPlus}
 use Rattle.jump_table.specs.Bound.{bound_test, run_behind}
-use Rattle.jump_table.specs.Values.{at_test, after_run}
-use Rattle.jump_table.specs.Table.{place_of, place_behind, place_by_test, place_through, kept_target, target_by_word, entry_target, targets_from, count_of, table_of_count, table_at_place, jump_register, table_through, table_at, table_targets}
+use Rattle.jump_table.specs.Nearest.{evens, nearest}
+use Rattle.jump_table.specs.Values.{bytes_of, at_test, forgotten}
+use Rattle.jump_table.specs.Table.{place_of, value_behind, place_by_test, bounded_place, place_from, open_place, kept_target, target_by_entry, entry_at, entry_target, targets_from, count_of, table_of_count, table_at_place, jump_register, table_through, table_at, table_targets}
 use Rattle.jump_table.proofs.Operands.{operands_fit_there}
 
 -- ---- options
@@ -55,68 +58,87 @@ pub count-length : (ts : List ℕ) → count_of ts ≡ length ts
 count-length [] = refl
 count-length (t ∷ ts) = ap (λ n. suc n) (count-length ts)
 
-module _ (bytes : List ℕ) (base add : ℕ) where
+module _ (bytes : List ℕ) (base width add : ℕ) where
   -- Entry i is at an address that does not wrap, and its target is one.
   abbrev IsEntry : ℕ → ℕ → Type 0
-  IsEntry i t = (base + 4 * i < 2 ^ 64) × IsTarget bytes t
+  IsEntry i t = (base + width * i < 2 ^ 64) × IsTarget bytes t
 
-  even : (word : ℕ) → target_by_word add word % 2 ≡ 0
-  even word = omega arith
+  even : (entry : ℕ) → target_by_entry add entry % 2 ≡ 0
+  even entry = omega arith
 
-  entry-good : (i : ℕ) → IfSome (entry_target bytes base add i) (IsEntry i)
+  entry-good : (i : ℕ) → IfSome (entry_target bytes base width add i) (IsEntry i)
   entry-good i =
-      cond_both (nat_lt (base + 4 * i) (2 ^ 64)) _ None (λ o. IfSome o (IsEntry i))
-      (λ below. after_step (λ word. kept_target bytes (target_by_word add word)) (data_word bytes (base + 4 * i)) (IsEntry i)
-      (λ word _. cond_both (is_code bytes (target_by_word add word)) (Some (target_by_word add word)) None (λ o. IfSome o (IsEntry i))
-      (λ code. (grind (arith, nat_tests), record { code = code; even = even word })) (λ _. tt)))
+      cond_both (nat_lt (base + width * i) (2 ^ 64)) _ None (λ o. IfSome o (IsEntry i))
+      (λ below. after_step (λ entry. kept_target bytes (target_by_entry add entry)) (entry_at bytes width (base + width * i)) (IsEntry i)
+      (λ entry _. cond_both (is_code bytes (target_by_entry add entry)) (Some (target_by_entry add entry)) None (λ o. IfSome o (IsEntry i))
+      (λ code. (grind (arith, nat_tests), record { code = code; even = even entry })) (λ _. tt)))
       (λ _. tt)
 
   -- As many targets as were found are found again.
-  again : (i n : ℕ) → targets_from bytes base add i (count_of (targets_from bytes base add i n)) ≡ targets_from bytes base add i n
+  again : (i n : ℕ) → targets_from bytes base width add i (count_of (targets_from bytes base width add i n)) ≡ targets_from bytes base width add i n
   again i zero = refl
-  again i (suc n) = go (again (i + 1) n) (entry_target bytes base add i) refl
+  again i (suc n) = go (again (i + 1) n) (entry_target bytes base width add i) refl
     where
-      go : targets_from bytes base add (i + 1) (count_of (targets_from bytes base add (i + 1) n)) ≡ targets_from bytes base add (i + 1) n
-          → (o : Option ℕ) → entry_target bytes base add i ≡ o
-          → targets_from bytes base add i (count_of (listed o (targets_from bytes base add (i + 1) n))) ≡ listed o (targets_from bytes base add (i + 1) n)
+      go : targets_from bytes base width add (i + 1) (count_of (targets_from bytes base width add (i + 1) n)) ≡ targets_from bytes base width add (i + 1) n
+          → (o : Option ℕ) → entry_target bytes base width add i ≡ o
+          → targets_from bytes base width add i (count_of (listed o (targets_from bytes base width add (i + 1) n))) ≡ listed o (targets_from bytes base width add (i + 1) n)
       go rest None e = refl
       go rest (Some t) e =
-          ap (λ o. listed o (targets_from bytes base add (i + 1) (count_of (targets_from bytes base add (i + 1) n)))) e
+          ap (λ o. listed o (targets_from bytes base width add (i + 1) (count_of (targets_from bytes base width add (i + 1) n)))) e
           ∙ ap (λ ts. t ∷ ts) rest
 
-  at_most : (i n : ℕ) → count_of (targets_from bytes base add i n) ≤ n
+  at_most : (i n : ℕ) → count_of (targets_from bytes base width add i n) ≤ n
   at_most i zero = omega arith
-  at_most i (suc n) = go (at_most (i + 1) n) (entry_target bytes base add i)
+  at_most i (suc n) = go (at_most (i + 1) n) (entry_target bytes base width add i)
     where
-      go : count_of (targets_from bytes base add (i + 1) n) ≤ n → (o : Option ℕ) → count_of (listed o (targets_from bytes base add (i + 1) n)) ≤ suc n
+      go : count_of (targets_from bytes base width add (i + 1) n) ≤ n → (o : Option ℕ) → count_of (listed o (targets_from bytes base width add (i + 1) n)) ≤ suc n
       go rest None = omega arith
       go rest (Some t) = omega arith
 
-  good : (i n : ℕ) → All (IsTarget bytes) (targets_from bytes base add i n)
-  good i zero = All-nil (IsTarget bytes)
-  good i (suc n) = go (good (i + 1) n) (entry_target bytes base add i) (entry-good i)
+  targets-good : (i n : ℕ) → All (IsTarget bytes) (targets_from bytes base width add i n)
+  targets-good i zero = All-nil (IsTarget bytes)
+  targets-good i (suc n) = go (targets-good (i + 1) n) (entry_target bytes base width add i) (entry-good i)
     where
-      go : All (IsTarget bytes) (targets_from bytes base add (i + 1) n) → (o : Option ℕ) → IfSome o (IsEntry i) → All (IsTarget bytes) (listed o (targets_from bytes base add (i + 1) n))
+      go : All (IsTarget bytes) (targets_from bytes base width add (i + 1) n) → (o : Option ℕ) → IfSome o (IsEntry i) → All (IsTarget bytes) (listed o (targets_from bytes base width add (i + 1) n))
       go rest None h = All-nil (IsTarget bytes)
-      go rest (Some t) h = All-cons (IsTarget bytes) t (targets_from bytes base add (i + 1) n) h.1 rest
+      go rest (Some t) h = All-cons (IsTarget bytes) t (targets_from bytes base width add (i + 1) n) h.1 rest
 
   -- The last entry that was found is at an address that does not wrap.
   abbrev IsWithin : ℕ → ℕ → Type 0
-  IsWithin i count = (count ≡ 0) ⊎ (base + 4 * (i + count) < 2 ^ 64 + 4)
+  IsWithin i count = (count ≡ 0) ⊎ (base + width * (i + count) < 2 ^ 64 + width)
 
-  within : (i n : ℕ) → IsWithin i (count_of (targets_from bytes base add i n))
+  within : (i n : ℕ) → IsWithin i (count_of (targets_from bytes base width add i n))
   within i zero = inl refl
-  within i (suc n) = go (within (i + 1) n) (entry_target bytes base add i) (entry-good i)
+  within i (suc n) = go (within (i + 1) n) (entry_target bytes base width add i) (entry-good i)
     where
-      more : (m : ℕ) → base + 4 * i < 2 ^ 64 → IsWithin (i + 1) m → IsWithin i (suc m)
-      more m here (inl last) = inr (omega arith)
-      more m here (inr rest) = inr (omega arith)
+      place : (m : ℕ) → width * (i + suc m) ≡ width * (i + m) + width
+      place m = let e : i + suc m ≡ suc (i + m) = omega arith in ap (λ k. width * k) e ∙ mul-suc width (i + m)
 
-      go : IsWithin (i + 1) (count_of (targets_from bytes base add (i + 1) n)) → (o : Option ℕ) → IfSome o (IsEntry i) → IsWithin i (count_of (listed o (targets_from bytes base add (i + 1) n)))
+      more : (m : ℕ) → base + width * i < 2 ^ 64 → IsWithin (i + 1) m → IsWithin i (suc m)
+      more m here (inl last) =
+          let e : width * (i + m) ≡ width * i = ap (λ k. width * k) (omega arith) in
+          inr (omega (arith, place m, e, here))
+      more m here (inr rest) =
+          let e : width * (i + 1 + m) ≡ width * (i + suc m) = ap (λ k. width * k) (omega arith) in
+          inr (omega (arith, e, rest))
+
+      go : IsWithin (i + 1) (count_of (targets_from bytes base width add (i + 1) n)) → (o : Option ℕ) → IfSome o (IsEntry i) → IsWithin i (count_of (listed o (targets_from bytes base width add (i + 1) n)))
       go rest None h = inl refl
-      go rest (Some t) h = more (count_of (targets_from bytes base add (i + 1) n)) h.0 rest
+      go rest (Some t) h = more (count_of (targets_from bytes base width add (i + 1) n)) h.0 rest
 
 -- ---- the bound
+
+-- What holds of each answer holds of the nearest one.
+nearest-all : {A : Type 0} (at : ℕ → Option A) (P : A → Type 0) → ((a : ℕ) → IfSome (at a) P) → (start j : ℕ) (backs : List ℕ) → IfSome (nearest at start j backs) P
+nearest-all at P each start j [] = tt
+nearest-all at P each start j (back ∷ backs) =
+    go (cond (nat_le (start + back) j) (at (j - back)) None) (nearest at start j backs)
+    (cond_both (nat_le (start + back) j) (at (j - back)) None (λ o. IfSome o P) (λ _. each (j - back)) (λ _. tt))
+    (nearest-all at P each start j backs)
+  where
+    go : (o further : Option _) → IfSome o P → IfSome further P → IfSome (elim o [ Some answer ↦ Some answer | None ↦ further ]) P
+    go (Some answer) further h k = h
+    go None further h k = k
 
 addi-small : (r : ℕ) (kind : ImmKind) (rd rs1 : ℕ) (imm : ℤ) → IsImmediate imm → IfSome (bound.addi_constant r kind rd rs1 imm) IsImmediate
 addi-small r imms.Addi rd rs1 imm h = cond_both ((rd == r) && (rs1 == 0)) (Some imm) None (λ o. IfSome o IsImmediate) (λ _. h) (λ _. tt)
@@ -177,96 +199,128 @@ module _ (bytes : List ℕ) (start : ℕ) where
       with_limit None h = tt
       with_limit (Some limit) h = bound-small c.excludes_equal limit h
 
-  first-bounded : (j : ℕ) (backs : List ℕ) → AreBounded (bound.first_test bytes start j backs)
-  first-bounded j [] = tt
-  first-bounded j (back ∷ backs) = go (first-bounded j backs) (cond (nat_le (start + back) j) (bound.test_at bytes start j (j - back)) None) here
-    where
-      here : AreBounded (cond (nat_le (start + back) j) (bound.test_at bytes start j (j - back)) None)
-      here =
-          cond_both (nat_le (start + back) j) (bound.test_at bytes start j (j - back)) None AreBounded
-          (λ _. after_step (bound.test_by bytes start j (j - back)) (option_and_then bound.comparison_of (whole_insn_at bytes start (j - back))) IsBoundedTest (λ c _. test-small j (j - back) c))
-          (λ _. tt)
-
-      go : AreBounded (bound.first_test bytes start j backs) → (o : Option BoundTest) → AreBounded o → AreBounded (elim o [ Some test ↦ Some test | None ↦ bound.first_test bytes start j backs ])
-      go rest (Some test) h = h
-      go rest None h = rest
+  step-bounded : (j b : ℕ) → AreBounded (bound.test_at bytes start j b)
+  step-bounded j b =
+      after_step (bound.test_by bytes start j b) (option_and_then bound.comparison_of (whole_insn_at bytes start b)) IsBoundedTest
+      (λ c _. test-small j b c)
 
   test-bounded : (j : ℕ) → AreBounded (bound_test bytes start j)
   unfolding bound_test
-  test-bounded j = first-bounded j bound.distances
+  test-bounded j = nearest-all (bound.test_at bytes start j) IsBoundedTest (step-bounded j) start j (evens 4 33)
 
 -- ---- places
 
--- A place whose bound is at most 2,048.
-abbrev IsBoundedPlace : Place → Type 0
-IsBoundedPlace place = place.bound ≤ 2048
+-- A place whose bound is at most 2,048, and 1,024 where it is open.
+pub record IsBoundedPlace (place : Place) : Type 0 where
+  pub bounded : place.bound ≤ 2048
+  pub open_bounded : place.is_open ≡ true → place.bound ≤ 1024
 
-place-bounded : (bound : ℕ) (value : Value) → bound ≤ 2048 → IfSome (place_of bound value) IsBoundedPlace
-place-bounded bound (Entry v) small = small
-place-bounded bound (EntryPlus v k) small = small
+place-bounded : (bound : ℕ) (value : Value) → bound ≤ 2048 → IfSome (place_of false bound value) IsBoundedPlace
+place-bounded bound (Entry v w) small = record { bounded = small; open_bounded = λ is. absurd (cc) }
+place-bounded bound (EntryPlus v w k) small = record { bounded = small; open_bounded = λ is. absurd (cc) }
 place-bounded bound _ small = tt
+
+place-open : (value : Value) → IfSome (place_of true 1024 value) IsBoundedPlace
+place-open (Entry v w) = record { bounded = omega arith; open_bounded = λ is. omega arith }
+place-open (EntryPlus v w k) = record { bounded = omega arith; open_bounded = λ is. omega arith }
+place-open _ = tt
 
 module _ (bytes : List ℕ) (start j r : ℕ) where
   tested-place : (test : BoundTest) → IsBoundedTest test → IfSome (place_by_test bytes start j r test) IsBoundedPlace
   tested-place test small =
-      after_step (λ run. option_and_then (place_behind bytes r test run) test.bound) (run_behind bytes start j test.at) IsBoundedPlace
-      (λ run _. after_step (place_behind bytes r test run) test.bound IsBoundedPlace
-      (λ bound is. place-bounded bound (after_run bytes run (at_test test.index) r) (there test.bound bound (λ n. n ≤ 2048) is small)))
+      after_step (λ bound. option_and_then (place_of false bound) (value_behind false bytes start j r (at_test test.index) (test.at + 4))) test.bound IsBoundedPlace
+      (λ bound is. after_step (place_of false bound) (value_behind false bytes start j r (at_test test.index) (test.at + 4)) IsBoundedPlace
+      (λ value _. place-bounded bound value (there test.bound bound (λ n. n ≤ 2048) is small)))
 
-  places-bounded : IfSome (place_through bytes start j r) IsBoundedPlace
+  places-bounded : IfSome (bounded_place bytes start j r) IsBoundedPlace
   places-bounded =
       after_step (place_by_test bytes start j r) (bound_test bytes start j) IsBoundedPlace
       (λ test is. tested-place test (there (bound_test bytes start j) test IsBoundedTest is (test-bounded bytes start j)))
+
+  place-from : (a : ℕ) → IfSome (place_from bytes start j r a) IsBoundedPlace
+  place-from a = after_step (place_of true 1024) (value_behind true bytes start j r forgotten a) IsBoundedPlace (λ value _. place-open value)
+
+  places-open : IfSome (open_place bytes start j r) IsBoundedPlace
+  unfolding open_place
+  places-open = nearest-all (place_from bytes start j r) IsBoundedPlace place-from start j (evens 4 31)
 
 -- ---- tables
 
 -- What is so of each table.
 pub record IsTable (bytes : List ℕ) (table : Table) : Type 0 where
+  pub width : (table.width ≡ 4) ⊎ (table.width ≡ 8)
   pub counted : length (table_targets bytes table) ≡ table.count
   pub some : 0 < table.count
   pub bounded : table.count ≤ table.bound
   pub small : table.bound ≤ 2048
+  pub open_small : table.is_open ≡ true → table.bound ≤ 1024
   pub targets : All (IsTarget bytes) (table_targets bytes table)
-  pub aligned : table.base % 4 ≡ 0
-  pub in_memory : table.base + 4 * table.count ≤ 2 ^ 64
+  pub aligned : table.base % table.width ≡ 0
+  pub in_memory : table.base + table.width * table.count ≤ 2 ^ 64
+
+width-of : (w : Width) → (bytes_of w ≡ 4) ⊎ (bytes_of w ≡ 8)
+width-of Word = inl refl
+width-of Double = inr refl
+
+-- A table at a multiple of an entry's size ends where addresses do, at the latest.
+end-of : (w : Width) (base n : ℕ) → base % bytes_of w ≡ 0 → base + bytes_of w * n < 2 ^ 64 + bytes_of w → base + bytes_of w * n ≤ 2 ^ 64
+end-of Word base n aligned below = omega arith
+end-of Double base n aligned below = omega arith
 
 module _ (bytes : List ℕ) where
   abbrev AreTables : Option Table → Type 0
   AreTables o = IfSome o (IsTable bytes)
 
-  counted-table : (base add bound count : ℕ) → bound ≤ 2048 → base % 4 ≡ 0 → count_of (targets_from bytes base add 0 bound) ≡ count
-      → AreTables (table_of_count (record { base = base; add = add; bound = bound }) count)
-  counted-table base add bound zero small aligned is = tt
-  counted-table base add bound (suc n) small aligned is =
-      let same : targets_from bytes base add 0 (suc n) ≡ targets_from bytes base add 0 bound =
-      ap (λ m. targets_from bytes base add 0 m) (sym is) ∙ again bytes base add 0 bound in
-      record {
-        counted = ap length same ∙ sym (count-length (targets_from bytes base add 0 bound)) ∙ is;
-        some = omega arith;
-        bounded = omega (arith, at_most bytes base add 0 bound, is);
-        small = small;
-        targets = good bytes base add 0 (suc n);
-        aligned = aligned;
-        in_memory = in_memory (within bytes base add 0 bound);
-      }
-    where
-      in_memory : IsWithin bytes base add 0 (count_of (targets_from bytes base add 0 bound)) → base + 4 * suc n ≤ 2 ^ 64
-      in_memory (inl none) = omega arith
-      in_memory (inr below) = omega arith
+  module _ (place : Place) (good : IsBoundedPlace place) (aligned : place.base % bytes_of place.width ≡ 0) where
+    abbrev targets : ℕ → List ℕ
+    targets n = targets_from bytes place.base (bytes_of place.width) place.add 0 n
+
+    counted-table : (count : ℕ) → count_of (targets place.bound) ≡ count → AreTables (table_of_count place count)
+    counted-table zero is = tt
+    counted-table (suc n) is =
+        let same : targets (suc n) ≡ targets place.bound =
+        ap targets (sym is) ∙ again bytes place.base (bytes_of place.width) place.add 0 place.bound in
+        record {
+          width = width-of place.width;
+          counted = ap length same ∙ sym (count-length (targets place.bound)) ∙ is;
+          some = omega arith;
+          bounded = omega (arith, at_most bytes place.base (bytes_of place.width) place.add 0 place.bound, is);
+          small = good.bounded;
+          open_small = good.open_bounded;
+          targets = targets-good bytes place.base (bytes_of place.width) place.add 0 (suc n);
+          aligned = aligned;
+          in_memory = in_memory (count_of (targets place.bound)) is (within bytes place.base (bytes_of place.width) place.add 0 place.bound);
+        }
+      where
+        in_memory : (count : ℕ) → count ≡ suc n → IsWithin bytes place.base (bytes_of place.width) place.add 0 count → place.base + bytes_of place.width * suc n ≤ 2 ^ 64
+        in_memory count is (inl none) = absurd (omega arith)
+        in_memory count is (inr below) =
+            let e : 0 + count ≡ suc n = omega arith in
+            let moved : place.base + bytes_of place.width * suc n < 2 ^ 64 + bytes_of place.width = subst (λ m. place.base + bytes_of place.width * m < 2 ^ 64 + bytes_of place.width) e below in
+            end-of place.width place.base (suc n) aligned moved
 
   placed-table : (place : Place) → IsBoundedPlace place → AreTables (table_at_place bytes place)
-  placed-table place small =
-      cond_both (place.base % 4 == 0) _ None AreTables
-      (λ aligned. counted-table place.base place.add place.bound (count_of (targets_from bytes place.base place.add 0 place.bound)) small (grind (arith, nat_tests)) refl)
+  placed-table place good =
+      cond_both (place.base % bytes_of place.width == 0) _ None AreTables
+      (λ aligned. counted-table place good (grind (arith, nat_tests)) (count_of (targets_from bytes place.base (bytes_of place.width) place.add 0 place.bound)) refl)
       (λ _. tt)
+
+  tables-at : (o : Option Place) → IfSome o IsBoundedPlace → AreTables (option_and_then (table_at_place bytes) o)
+  tables-at None good = tt
+  tables-at (Some place) good = placed-table place good
+
+  either-table : (o p : Option Table) → AreTables o → AreTables p → AreTables (option_or o p)
+  either-table None p h k = k
+  either-table (Some table) p h k = h
 
   all_tables : (j : ℕ) → AreTables (table_at bytes j)
   unfolding table_at
   all_tables j =
       after_step (λ start. option_and_then (table_through bytes start j) (jump_register (raw_flow_at bytes j))) (section_start bytes j) (IsTable bytes)
       (λ start _. after_step (table_through bytes start j) (jump_register (raw_flow_at bytes j)) (IsTable bytes)
-      (λ r _. after_step (table_at_place bytes) (place_through bytes start j r) (IsTable bytes)
-      (λ place is. placed-table place (there (place_through bytes start j r) place IsBoundedPlace is (places-bounded bytes start j r)))))
+      (λ r _. either-table _ _
+      (tables-at (bounded_place bytes start j r) (places-bounded bytes start j r))
+      (tables-at (open_place bytes start j r) (places-open bytes start j r))))
 
 pub is_table : (bytes : List ℕ) (j : ℕ) (table : Table) → table_at bytes j ≡ Some table → IsTable bytes table
 is_table bytes j table is = there (table_at bytes j) table (IsTable bytes) is (all_tables bytes j)

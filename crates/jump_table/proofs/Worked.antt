@@ -1,6 +1,6 @@
--- The pattern at work on two small files, by computation: a table of 32-bit instructions, and one of
--- compressed ones.
-use Rattle.std.proofs.Common.{◌≡◌, ℕ, ◌+◌, ◌/◌, ◌%◌, List, [], ◌∷◌, ◌++◌, length, Some, None, refl}
+-- The pattern at work on small files, by computation: tables of 32-bit instructions and of compressed
+-- ones, two that overlap, one without a bound test, and one of doublewords.
+use Rattle.std.proofs.Common.{◌≡◌, ℕ, true, false, ◌+◌, ◌/◌, ◌%◌, List, [], ◌∷◌, ◌++◌, length, Some, None, refl}
 use Rattle.std.specs.List.{flat_map}
 use Rattle.elf_image.specs.Number.{u16_at, u32_at, u64_at}
 use Rattle.elf_image.specs.Sections.{section, sections}
@@ -11,8 +11,9 @@ use Rattle.rvc_expand.specs.Table.{expansion, forms, quadrant_0, quadrant_1, qua
 use Rattle.rvc_expand.specs.Halfword.{shift_amount, small_immediate, lui_immediate, addi16sp_immediate, addi4spn_immediate, word_offset, double_offset, lwsp_offset, ldsp_offset, swsp_offset, sdsp_offset, jump_offset, branch_offset}
 use Rattle.rvc_expand.specs.Formats.{r_type, i_type, s_type, b_type, u_type, j_type}
 use Rattle.jump_table.specs.Section.{straight_run}
+use Rattle.jump_table.specs.Nearest.{evens}
 use Rattle.jump_table.specs.Bound.{bound_test}
-use Rattle.jump_table.specs.Table.{table_at, table_targets}
+use Rattle.jump_table.specs.Table.{open_place, table_at, table_targets}
 
 -- the four bytes of a word, and the words of a list, little-endian
 abbrev word : ℕ → List ℕ
@@ -51,18 +52,18 @@ plain_file =
     (word 0)
 
 -- the eighth entry counts, since the bound test is `bltu`, and the ninth word does not
-plain_table : table_at plain_file 0x1001C ≡ Some (record { base = 0x20000; count = 8; bound = 8; add = 0x20000 })
-unfolding plain_file u16_at u32_at u64_at section sections code_section_of data_section_of instruction rows upper_rows jump_rows branch_rows load_rows store_rows imm_rows imm_w_rows reg_rows reg_w_rows atomic_rows_of atomic_rows fence_rows system_rows expansion forms quadrant_0 quadrant_1 quadrant_2 shift_amount small_immediate lui_immediate addi16sp_immediate addi4spn_immediate word_offset double_offset lwsp_offset ldsp_offset swsp_offset sdsp_offset jump_offset branch_offset r_type i_type s_type b_type u_type j_type table_at bound_test straight_run
+plain_table : table_at plain_file 0x1001C ≡ Some (record { base = 0x20000; width = 4; count = 8; bound = 8; add = 0x20000; is_open = false })
+unfolding plain_file u16_at u32_at u64_at section sections code_section_of data_section_of instruction rows upper_rows jump_rows branch_rows load_rows store_rows imm_rows imm_w_rows reg_rows reg_w_rows atomic_rows_of atomic_rows fence_rows system_rows expansion forms quadrant_0 quadrant_1 quadrant_2 shift_amount small_immediate lui_immediate addi16sp_immediate addi4spn_immediate word_offset double_offset lwsp_offset ldsp_offset swsp_offset sdsp_offset jump_offset branch_offset r_type i_type s_type b_type u_type j_type table_at bound_test open_place evens straight_run
 plain_table = refl
 
-plain_targets : table_targets plain_file (record { base = 0x20000; count = 8; bound = 8; add = 0x20000 })
+plain_targets : table_targets plain_file (record { base = 0x20000; width = 4; count = 8; bound = 8; add = 0x20000; is_open = false })
     ≡ 0x10020 ∷ 0x10020 ∷ 0x10020 ∷ 0x10020 ∷ 0x10020 ∷ 0x10020 ∷ 0x10020 ∷ 0x10024 ∷ []
-unfolding plain_file u16_at u32_at u64_at section sections code_section_of data_section_of instruction rows upper_rows jump_rows branch_rows load_rows store_rows imm_rows imm_w_rows reg_rows reg_w_rows atomic_rows_of atomic_rows fence_rows system_rows expansion forms quadrant_0 quadrant_1 quadrant_2 shift_amount small_immediate lui_immediate addi16sp_immediate addi4spn_immediate word_offset double_offset lwsp_offset ldsp_offset swsp_offset sdsp_offset jump_offset branch_offset r_type i_type s_type b_type u_type j_type table_at bound_test straight_run
+unfolding plain_file u16_at u32_at u64_at section sections code_section_of data_section_of instruction rows upper_rows jump_rows branch_rows load_rows store_rows imm_rows imm_w_rows reg_rows reg_w_rows atomic_rows_of atomic_rows fence_rows system_rows expansion forms quadrant_0 quadrant_1 quadrant_2 shift_amount small_immediate lui_immediate addi16sp_immediate addi4spn_immediate word_offset double_offset lwsp_offset ldsp_offset swsp_offset sdsp_offset jump_offset branch_offset r_type i_type s_type b_type u_type j_type table_at bound_test open_place evens straight_run
 plain_targets = refl
 
 -- a return is no table jump
 no_table : table_at plain_file 0x10020 ≡ None
-unfolding plain_file u16_at u32_at u64_at section sections code_section_of data_section_of instruction rows upper_rows jump_rows branch_rows load_rows store_rows imm_rows imm_w_rows reg_rows reg_w_rows atomic_rows_of atomic_rows fence_rows system_rows expansion forms quadrant_0 quadrant_1 quadrant_2 shift_amount small_immediate lui_immediate addi16sp_immediate addi4spn_immediate word_offset double_offset lwsp_offset ldsp_offset swsp_offset sdsp_offset jump_offset branch_offset r_type i_type s_type b_type u_type j_type table_at bound_test straight_run
+unfolding plain_file u16_at u32_at u64_at section sections code_section_of data_section_of instruction rows upper_rows jump_rows branch_rows load_rows store_rows imm_rows imm_w_rows reg_rows reg_w_rows atomic_rows_of atomic_rows fence_rows system_rows expansion forms quadrant_0 quadrant_1 quadrant_2 shift_amount small_immediate lui_immediate addi16sp_immediate addi4spn_immediate word_offset double_offset lwsp_offset ldsp_offset swsp_offset sdsp_offset jump_offset branch_offset r_type i_type s_type b_type u_type j_type table_at bound_test open_place evens straight_run
 no_table = refl
 
 -- ---- compressed instructions; the jump stands at 10012 (hexadecimal)
@@ -73,6 +74,55 @@ compressed_file =
     (words (0xFFFF0014 ∷ 0xFFFF0014 ∷ 0xFFFF0014 ∷ 0xFFFF0014 ∷ 0xFFFF0014 ∷ 0xFFFF0014 ∷ 0xFFFF0014 ∷ 0xFFFF0014 ∷ []))
     []
 
-compressed_table : table_at compressed_file 0x10012 ≡ Some (record { base = 0x20000; count = 8; bound = 8; add = 0x20000 })
-unfolding compressed_file u16_at u32_at u64_at section sections code_section_of data_section_of instruction rows upper_rows jump_rows branch_rows load_rows store_rows imm_rows imm_w_rows reg_rows reg_w_rows atomic_rows_of atomic_rows fence_rows system_rows expansion forms quadrant_0 quadrant_1 quadrant_2 shift_amount small_immediate lui_immediate addi16sp_immediate addi4spn_immediate word_offset double_offset lwsp_offset ldsp_offset swsp_offset sdsp_offset jump_offset branch_offset r_type i_type s_type b_type u_type j_type table_at bound_test straight_run
+compressed_table : table_at compressed_file 0x10012 ≡ Some (record { base = 0x20000; width = 4; count = 8; bound = 8; add = 0x20000; is_open = false })
+unfolding compressed_file u16_at u32_at u64_at section sections code_section_of data_section_of instruction rows upper_rows jump_rows branch_rows load_rows store_rows imm_rows imm_w_rows reg_rows reg_w_rows atomic_rows_of atomic_rows fence_rows system_rows expansion forms quadrant_0 quadrant_1 quadrant_2 shift_amount small_immediate lui_immediate addi16sp_immediate addi4spn_immediate word_offset double_offset lwsp_offset ldsp_offset swsp_offset sdsp_offset jump_offset branch_offset r_type i_type s_type b_type u_type j_type table_at bound_test open_place evens straight_run
 compressed_table = refl
+
+-- ---- two tables that overlap; the jumps stand at 1001c and 10048 (hexadecimal)
+
+overlapping_file : List ℕ
+overlapping_file =
+    file_of (words (0x00300793 ∷ 0x02A7E063 ∷ 0x00020737 ∷ 0x00251513 ∷ 0x00E50533 ∷ 0x00052783 ∷ 0x00E787B3 ∷ 0x00078067 ∷ 0x00008067 ∷ 0x00008067 ∷ 0x00100793 ∷ 0x02A7E263 ∷ 0x00020737 ∷ 0x00870713 ∷ 0x00251513 ∷ 0x00E50533 ∷ 0x00052783 ∷ 0x00E787B3 ∷ 0x00078067 ∷ 0x00008067 ∷ 0x00008067 ∷ 0x00008067 ∷ []))
+    (words (0xFFFF0020 ∷ 0xFFFF0020 ∷ 0xFFFF004C ∷ 0xFFFF004C ∷ []))
+    []
+
+first_table : table_at overlapping_file 0x1001C ≡ Some (record { base = 0x20000; width = 4; count = 4; bound = 4; add = 0x20000; is_open = false })
+unfolding overlapping_file u16_at u32_at u64_at section sections code_section_of data_section_of instruction rows upper_rows jump_rows branch_rows load_rows store_rows imm_rows imm_w_rows reg_rows reg_w_rows atomic_rows_of atomic_rows fence_rows system_rows expansion forms quadrant_0 quadrant_1 quadrant_2 shift_amount small_immediate lui_immediate addi16sp_immediate addi4spn_immediate word_offset double_offset lwsp_offset ldsp_offset swsp_offset sdsp_offset jump_offset branch_offset r_type i_type s_type b_type u_type j_type table_at bound_test open_place evens straight_run
+first_table = refl
+
+second_table : table_at overlapping_file 0x10048 ≡ Some (record { base = 0x20008; width = 4; count = 2; bound = 2; add = 0x20008; is_open = false })
+unfolding overlapping_file u16_at u32_at u64_at section sections code_section_of data_section_of instruction rows upper_rows jump_rows branch_rows load_rows store_rows imm_rows imm_w_rows reg_rows reg_w_rows atomic_rows_of atomic_rows fence_rows system_rows expansion forms quadrant_0 quadrant_1 quadrant_2 shift_amount small_immediate lui_immediate addi16sp_immediate addi4spn_immediate word_offset double_offset lwsp_offset ldsp_offset swsp_offset sdsp_offset jump_offset branch_offset r_type i_type s_type b_type u_type j_type table_at bound_test open_place evens straight_run
+second_table = refl
+
+-- ---- no bound test; the jump stands at 10014 (hexadecimal)
+
+open_file : List ℕ
+open_file =
+    file_of (words (0x00020737 ∷ 0x00251513 ∷ 0x00E50533 ∷ 0x00052783 ∷ 0x00E787B3 ∷ 0x00078067 ∷ 0x00008067 ∷ 0x00008067 ∷ []))
+    (words (0xFFFF0018 ∷ 0xFFFF001C ∷ 0 ∷ []))
+    (word 0)
+
+-- what registers hold in front of the shift is not known, so it may be the index
+open_table : table_at open_file 0x10014 ≡ Some (record { base = 0x20000; width = 4; count = 2; bound = 1024; add = 0x20000; is_open = true })
+unfolding open_file u16_at u32_at u64_at section sections code_section_of data_section_of instruction rows upper_rows jump_rows branch_rows load_rows store_rows imm_rows imm_w_rows reg_rows reg_w_rows atomic_rows_of atomic_rows fence_rows system_rows expansion forms quadrant_0 quadrant_1 quadrant_2 shift_amount small_immediate lui_immediate addi16sp_immediate addi4spn_immediate word_offset double_offset lwsp_offset ldsp_offset swsp_offset sdsp_offset jump_offset branch_offset r_type i_type s_type b_type u_type j_type table_at bound_test open_place evens straight_run
+open_table = refl
+
+open_targets : table_targets open_file (record { base = 0x20000; width = 4; count = 2; bound = 1024; add = 0x20000; is_open = true }) ≡ 0x10018 ∷ 0x1001C ∷ []
+unfolding open_file u16_at u32_at u64_at section sections code_section_of data_section_of instruction rows upper_rows jump_rows branch_rows load_rows store_rows imm_rows imm_w_rows reg_rows reg_w_rows atomic_rows_of atomic_rows fence_rows system_rows expansion forms quadrant_0 quadrant_1 quadrant_2 shift_amount small_immediate lui_immediate addi16sp_immediate addi4spn_immediate word_offset double_offset lwsp_offset ldsp_offset swsp_offset sdsp_offset jump_offset branch_offset r_type i_type s_type b_type u_type j_type table_at bound_test open_place evens straight_run
+open_targets = refl
+
+-- ---- doublewords; the jump stands at 10018 (hexadecimal)
+
+doubleword_file : List ℕ
+doubleword_file =
+    file_of (words (0x00100793 ∷ 0x02A7E063 ∷ 0x00020737 ∷ 0x00351513 ∷ 0x00E50533 ∷ 0x00053783 ∷ 0x00078067 ∷ 0x00008067 ∷ 0x00008067 ∷ 0x00008067 ∷ []))
+    (words (0x0001001C ∷ 0 ∷ 0x00010020 ∷ 0 ∷ []))
+    []
+
+doubleword_table : table_at doubleword_file 0x10018 ≡ Some (record { base = 0x20000; width = 8; count = 2; bound = 2; add = 0; is_open = false })
+unfolding doubleword_file u16_at u32_at u64_at section sections code_section_of data_section_of instruction rows upper_rows jump_rows branch_rows load_rows store_rows imm_rows imm_w_rows reg_rows reg_w_rows atomic_rows_of atomic_rows fence_rows system_rows expansion forms quadrant_0 quadrant_1 quadrant_2 shift_amount small_immediate lui_immediate addi16sp_immediate addi4spn_immediate word_offset double_offset lwsp_offset ldsp_offset swsp_offset sdsp_offset jump_offset branch_offset r_type i_type s_type b_type u_type j_type table_at bound_test open_place evens straight_run
+doubleword_table = refl
+
+doubleword_targets : table_targets doubleword_file (record { base = 0x20000; width = 8; count = 2; bound = 2; add = 0; is_open = false }) ≡ 0x1001C ∷ 0x10020 ∷ []
+unfolding doubleword_file u16_at u32_at u64_at section sections code_section_of data_section_of instruction rows upper_rows jump_rows branch_rows load_rows store_rows imm_rows imm_w_rows reg_rows reg_w_rows atomic_rows_of atomic_rows fence_rows system_rows expansion forms quadrant_0 quadrant_1 quadrant_2 shift_amount small_immediate lui_immediate addi16sp_immediate addi4spn_immediate word_offset double_offset lwsp_offset ldsp_offset swsp_offset sdsp_offset jump_offset branch_offset r_type i_type s_type b_type u_type j_type table_at bound_test open_place evens straight_run
+doubleword_targets = refl

@@ -7,7 +7,7 @@ use Rattle.std.proofs.lemmas.Bool.Decides.{nat_tests}
 use Rattle.jump_table.specs.declared.values.Value.{Value}
 use Rattle.jump_table.specs.declared.values.Value.TheVariants.{Unknown, Const, Index}
 use Rattle.jump_table.specs.Values.{at_test, written, forgotten}
-use Rattle.jump_table.specs.Inner.Walk.{held_by}
+use Rattle.jump_table.specs.Inner.Held.{held_by}
 
 -- a choice by one test, where only the second value differs
 else_same : {A : Type 0} (b : Bool) (x y z : A) → (b ≡ false → y ≡ z) → cond b x y ≡ cond b x z

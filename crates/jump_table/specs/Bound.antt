@@ -1,5 +1,6 @@
 -- The bound test in front of a jump table (this project's profile).
-use Rattle.std.specs.Prelude.{ℕ, ◌+◌, ◌-◌, ◌==◌, ◌&&◌, not, nat_le, is_some, Bool, true, false, List, [], ◌∷◌, zero, suc, ℤ, pos, negsuc, Option, Some, None, if◌then◌else◌}
+use Rattle.std.specs.Prelude.{ℕ, ◌+◌, ◌-◌, ◌==◌, ◌&&◌, not, nat_le, is_some, Bool, true, false}
+use Rattle.std.specs.Prelude.{List, zero, suc, ℤ, pos, negsuc, Option, Some, None, if◌then◌else◌}
 use Rattle.std.specs.Option.{option_map, option_and_then}
 use Rattle.elf_image.specs.Code.{half_at}
 use Rattle.rv_decode.specs.declared.instructions.Insn.{Insn}
@@ -12,6 +13,7 @@ use Rattle.rv_decode.specs.Table.{instruction}
 use Rattle.rvc_expand.specs.Table.{expansion}
 use Rattle.jump_table.specs.declared.bound.Comparison.{Comparison}
 use Rattle.jump_table.specs.declared.bound.BoundTest.{BoundTest}
+use Rattle.jump_table.specs.Nearest.{evens, nearest}
 use Rattle.jump_table.specs.Section.{is_in_section, whole_insn_at, straight_run}
 
 -- The two registers differ, and neither is x0.
@@ -43,7 +45,8 @@ constant_of r _ = None
 abbrev pub short_constant : List ℕ → ℕ → ℕ → ℕ → Option ℤ
 short_constant bytes start a r =
     if is_in_section bytes start a
-    then option_and_then (constant_of r) (option_and_then instruction (option_and_then expansion (half_at bytes a)))
+    then option_and_then (constant_of r)
+    (option_and_then instruction (option_and_then expansion (half_at bytes a)))
     else None
 
 -- The constant that the 32-bit instruction at a sets r to, within the section.
@@ -77,31 +80,18 @@ run_behind bytes start j b = straight_run bytes start j 16 (b + 4)
 abbrev pub test_by : List ℕ → ℕ → ℕ → ℕ → Comparison → Option BoundTest
 test_by bytes start j b c =
     if is_some (run_behind bytes start j b)
-    then option_map (λ limit. record { at = b; index = c.index; bound = bound_by c.excludes_equal limit }) (constant_before bytes start b c.limit)
+    then option_map
+    (λ limit. record { at = b; index = c.index; bound = bound_by c.excludes_equal limit })
+    (constant_before bytes start b c.limit)
     else None
 
 -- The bound test at b for the jump at j, where there is one: a comparison, a constant set just
 -- before it, and a straight run from behind it to the jump.
 abbrev pub test_at : List ℕ → ℕ → ℕ → ℕ → Option BoundTest
 test_at bytes start j b =
-    option_and_then (test_by bytes start j b) (option_and_then comparison_of (whole_insn_at bytes start b))
+    option_and_then (test_by bytes start j b)
+    (option_and_then comparison_of (whole_insn_at bytes start b))
 
--- The first test of a list of places.
-abbrev pub first_test : List ℕ → ℕ → ℕ → List ℕ → Option BoundTest
-first_test bytes start j [] = None
-first_test bytes start j (back ∷ backs) =
-    elim (if nat_le (start + back) j then test_at bytes start j (j - back) else None) [
-      | Some test ↦ Some test
-      | None ↦ first_test bytes start j backs
-    ]
-
--- How far before the jump the test may stand: 4 to 68 bytes.
-abbrev pub distances : List ℕ
-distances =
-    4 ∷ 6 ∷ 8 ∷ 10 ∷ 12 ∷ 14 ∷ 16 ∷ 18 ∷ 20 ∷ 22 ∷ 24 ∷ 26 ∷ 28 ∷ 30 ∷ 32 ∷ 34 ∷ 36 ∷ 38 ∷ 40 ∷ 42
-    ∷ 44 ∷ 46
-    ∷ 48 ∷ 50 ∷ 52 ∷ 54 ∷ 56 ∷ 58 ∷ 60 ∷ 62 ∷ 64 ∷ 66 ∷ 68 ∷ []
-
--- The bound test of the jump at j: the one nearest to it. No other is tried.
+-- The bound test of the jump at j: the one nearest to it, 4 to 68 bytes before. No other is tried.
 unfoldable pub bound_test : List ℕ → ℕ → ℕ → Option BoundTest
-bound_test bytes start j = first_test bytes start j distances
+bound_test bytes start j = nearest (test_at bytes start j) start j (evens 4 33)

@@ -1,4 +1,5 @@
 pub mod Section
+pub mod Nearest
 pub mod Bound
 pub mod Values
 pub mod Table

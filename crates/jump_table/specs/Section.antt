@@ -1,5 +1,6 @@
 -- The pattern of a jump table is read within the code section of its jump.
-use Rattle.std.specs.Prelude.{ℕ, ◌+◌, ◌==◌, ◌&&◌, Bool, true, false, List, [], ◌∷◌, zero, suc, Option, Some, None, if◌then◌else◌}
+use Rattle.std.specs.Prelude.{ℕ, ◌+◌, ◌==◌, ◌&&◌, Bool, true, false, List, []}
+use Rattle.std.specs.Prelude.{◌∷◌, zero, suc, Option, Some, None, if◌then◌else◌}
 use Rattle.std.specs.Option.{option_map, option_map_or, option_and_then}
 use Rattle.elf_image.specs.Code.{section_start, word_at}
 use Rattle.rv_decode.specs.declared.instructions.Insn.{Insn}

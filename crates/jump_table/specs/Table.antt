@@ -1,6 +1,8 @@
 -- The jump table of a jump through a register (this project's profile).
-use Rattle.std.specs.Prelude.{◌≡◌, ℕ, ◌+◌, ◌*◌, ◌/◌, ◌%◌, ◌^◌, ◌-◌, ◌<◌, ◌==◌, nat_lt, List, [], ◌∷◌, zero, suc, pos, Option, Some, None, if◌then◌else◌}
-use Rattle.std.specs.Option.{option_and_then}
+use Rattle.std.specs.Prelude.{◌≡◌, ℕ, ◌+◌, ◌*◌, ◌/◌, ◌%◌, ◌^◌, ◌-◌, ◌<◌, ◌==◌}
+use Rattle.std.specs.Prelude.{nat_lt, Bool, true, false, List, [], ◌∷◌, zero}
+use Rattle.std.specs.Prelude.{suc, pos, Option, Some, None, if◌then◌else◌}
+use Rattle.std.specs.Option.{option_map, option_and_then, option_or}
 use Rattle.elf_image.specs.Code.{section_start, is_code}
 use Rattle.elf_image.specs.ReadOnly.{data_word}
 use Rattle.rv_flow.specs.declared.raw.RawFlow.{RawFlow}
@@ -8,11 +10,13 @@ use Rattle.rv_flow.specs.declared.raw.RawFlow.TheVariants as raw
 use Rattle.rv_flow.specs.Raw.{raw_flow_at}
 use Rattle.jump_table.specs.declared.table.Table.{Table}
 use Rattle.jump_table.specs.declared.bound.BoundTest.{BoundTest}
-use Rattle.jump_table.specs.declared.find.Place.{Place}
+use Rattle.jump_table.specs.declared.place.Place.{Place}
 use Rattle.jump_table.specs.declared.values.Value.{Value}
 use Rattle.jump_table.specs.declared.values.Value.TheVariants.{Entry, EntryPlus}
-use Rattle.jump_table.specs.Bound.{bound_test, run_behind}
-use Rattle.jump_table.specs.Values.{at_test, after_run}
+use Rattle.jump_table.specs.Bound.{bound_test}
+use Rattle.jump_table.specs.Nearest.{evens, nearest}
+use Rattle.jump_table.specs.Section.{straight_run}
+use Rattle.jump_table.specs.Values.{Registers, bytes_of, at_test, forgotten, after_run}
 
 -- ---- entries
 
@@ -20,65 +24,109 @@ use Rattle.jump_table.specs.Values.{at_test, after_run}
 abbrev pub word_extended : ℕ → ℕ
 word_extended word = if nat_lt word (2 ^ 31) then word else word + (2 ^ 64 - 2 ^ 32)
 
--- The target that an entry's word gives: the word plus what is added, with bit 0 cleared.
-abbrev pub target_by_word : ℕ → ℕ → ℕ
-target_by_word add word = (word_extended word + add) % 2 ^ 64 / 2 * 2
+-- A doubleword of two words, the low one first.
+abbrev pub doubleword : ℕ → ℕ → ℕ
+doubleword low high = low + 2 ^ 32 * high
 
--- The target of entry i of a table at a base, where it is read-only data and leads into the code.
+-- The entry at p, where it is read-only data: a word, sign extended, or a doubleword, of which each
+-- half is read by itself.
+abbrev pub entry_at : List ℕ → ℕ → ℕ → Option ℕ
+entry_at bytes width p =
+    if width == 8
+    then option_and_then (λ low. option_map (doubleword low) (data_word bytes (p + 4)))
+    (data_word bytes p)
+    else option_map word_extended (data_word bytes p)
+
+-- The target that an entry gives: the entry plus what is added, with bit 0 cleared.
+abbrev pub target_by_entry : ℕ → ℕ → ℕ
+target_by_entry add entry = (entry + add) % 2 ^ 64 / 2 * 2
+
 abbrev pub kept_target : List ℕ → ℕ → Option ℕ
 kept_target bytes target = if is_code bytes target then Some target else None
 
-abbrev pub entry_target : List ℕ → ℕ → ℕ → ℕ → Option ℕ
-entry_target bytes base add i =
-    if nat_lt (base + 4 * i) (2 ^ 64)
-    then option_and_then (λ word. kept_target bytes (target_by_word add word)) (data_word bytes (base + 4 * i))
+-- The target of entry i of a table at a base, where the entry is read-only data and leads into the
+-- code. Data has no address past the last one, so a table does not go on at address 0.
+abbrev pub entry_target : List ℕ → ℕ → ℕ → ℕ → ℕ → Option ℕ
+entry_target bytes base width add i =
+    if nat_lt (base + width * i) (2 ^ 64)
+    then option_and_then (λ entry. kept_target bytes (target_by_entry add entry))
+    (entry_at bytes width (base + width * i))
     else None
 
 -- The targets of entry i and those behind it, at most n of them, up to the first that has none.
-abbrev pub targets_from : List ℕ → ℕ → ℕ → ℕ → ℕ → List ℕ
-targets_from bytes base add i zero = []
-targets_from bytes base add i (suc n) =
-    elim (entry_target bytes base add i) [
+abbrev pub targets_from : List ℕ → ℕ → ℕ → ℕ → ℕ → ℕ → List ℕ
+targets_from bytes base width add i zero = []
+targets_from bytes base width add i (suc n) =
+    elim (entry_target bytes base width add i) [
       | None ↦ []
-      | Some target ↦ target ∷ targets_from bytes base add (i + 1) n
+      | Some target ↦ target ∷ targets_from bytes base width add (i + 1) n
     ]
+
+-- ---- where the table stands
+
+-- Where the table stands, what is added to its entries, and how many of them may count, by the
+-- value of the jump's register.
+abbrev pub place_of : Bool → ℕ → Value → Option Place
+place_of is_open bound (Entry v w) =
+    Some (record { base = v; width = w; add = 0; bound = bound; is_open = is_open })
+place_of is_open bound (EntryPlus v w k) =
+    Some (record { base = v; width = w; add = k; bound = bound; is_open = is_open })
+place_of is_open bound _ = None
+
+-- What register r holds at the jump behind the straight run from a, where there is one of at most
+-- 16 instructions.
+abbrev pub value_behind : Bool → List ℕ → ℕ → ℕ → ℕ → Registers → ℕ → Option Value
+value_behind is_open bytes start j r before a =
+    option_map (λ run. after_run is_open bytes run before r) (straight_run bytes start j 16 a)
+
+-- The bounded form: what the jump's register holds behind the bound test, whose bound is good.
+abbrev pub place_by_test : List ℕ → ℕ → ℕ → ℕ → BoundTest → Option Place
+place_by_test bytes start j r test =
+    option_and_then
+    (λ bound. option_and_then (place_of false bound)
+    (value_behind false bytes start j r (at_test test.index) (test.at + 4)))
+    test.bound
+
+abbrev pub bounded_place : List ℕ → ℕ → ℕ → ℕ → Option Place
+bounded_place bytes start j r =
+    option_and_then (place_by_test bytes start j r) (bound_test bytes start j)
+
+-- The open form: what the jump's register holds behind a run in front of which nothing is known.
+abbrev pub place_from : List ℕ → ℕ → ℕ → ℕ → ℕ → Option Place
+place_from bytes start j r a =
+    option_and_then (place_of true 1024) (value_behind true bytes start j r forgotten a)
+
+-- The run begins 4 to 64 bytes before the jump, as near to it as there is a place. No other is
+-- tried.
+unfoldable pub open_place : List ℕ → ℕ → ℕ → ℕ → Option Place
+open_place bytes start j r = nearest (place_from bytes start j r) start j (evens 4 31)
 
 -- ---- the table
 
--- Where the table stands, what is added to its entries, and how many of them the bound test allows,
--- by the value of the jump's register.
-abbrev pub place_of : ℕ → Value → Option Place
-place_of bound (Entry v) = Some (record { base = v; add = 0; bound = bound })
-place_of bound (EntryPlus v k) = Some (record { base = v; add = k; bound = bound })
-place_of bound _ = None
-
--- The place that the registers tell behind the run from the bound test to the jump through register
--- r.
-abbrev pub place_behind : List ℕ → ℕ → BoundTest → List ℕ → ℕ → Option Place
-place_behind bytes r test run bound = place_of bound (after_run bytes run (at_test test.index) r)
-
-abbrev pub place_by_test : List ℕ → ℕ → ℕ → ℕ → BoundTest → Option Place
-place_by_test bytes start j r test =
-    option_and_then (λ run. option_and_then (place_behind bytes r test run) test.bound) (run_behind bytes start j test.at)
-
-abbrev pub place_through : List ℕ → ℕ → ℕ → ℕ → Option Place
-place_through bytes start j r =
-    option_and_then (place_by_test bytes start j r) (bound_test bytes start j)
-
--- A table at a multiple of 4 with at least one target.
+-- A table with at least one target.
 abbrev pub table_of_count : Place → ℕ → Option Table
 table_of_count place zero = None
 table_of_count place (suc n) =
-    Some (record { base = place.base; count = suc n; bound = place.bound; add = place.add })
+    Some
+    (record {
+      base = place.base;
+      width = bytes_of place.width;
+      count = suc n;
+      bound = place.bound;
+      add = place.add;
+      is_open = place.is_open;
+    })
 
 abbrev pub count_of : List ℕ → ℕ
 count_of [] = 0
 count_of (target ∷ targets) = suc (count_of targets)
 
+-- The table at a place that is a multiple of an entry's size.
 abbrev pub table_at_place : List ℕ → Place → Option Table
 table_at_place bytes place =
-    if place.base % 4 == 0
-    then table_of_count place (count_of (targets_from bytes place.base place.add 0 place.bound))
+    if place.base % bytes_of place.width == 0
+    then table_of_count place
+    (count_of (targets_from bytes place.base (bytes_of place.width) place.add 0 place.bound))
     else None
 
 -- The register of a jump through one alone: the offset is 0, and x0 holds no target.
@@ -86,19 +134,23 @@ abbrev pub jump_register : RawFlow → Option ℕ
 jump_register (raw.RegisterJump r (pos zero)) = if r == 0 then None else Some r
 jump_register _ = None
 
--- The table of the jump at j through register r.
+-- The table of the jump at j through register r: of the bounded form, or else of the open form.
 abbrev pub table_through : List ℕ → ℕ → ℕ → ℕ → Option Table
 table_through bytes start j r =
-    option_and_then (table_at_place bytes) (place_through bytes start j r)
+    option_or
+    (option_and_then (table_at_place bytes) (bounded_place bytes start j r))
+    (option_and_then (table_at_place bytes) (open_place bytes start j r))
 
 -- The jump table of the instruction at the code address j, where it is a jump of the pattern.
 unfoldable pub table_at : List ℕ → ℕ → Option Table
 table_at bytes j =
-    option_and_then (λ start. option_and_then (table_through bytes start j) (jump_register (raw_flow_at bytes j))) (section_start bytes j)
+    option_and_then (λ start. option_and_then (table_through bytes start j)
+    (jump_register (raw_flow_at bytes j))) (section_start bytes j)
 
 -- All targets of a table, in the order of its entries.
 abbrev pub table_targets : List ℕ → Table → List ℕ
-table_targets bytes table = targets_from bytes table.base table.add 0 table.count
+table_targets bytes table =
+    targets_from bytes table.base table.width table.add 0 table.count
 
 -- The table of some jump of a file.
 abbrev pub IsTableOf : List ℕ → Table → Type 0

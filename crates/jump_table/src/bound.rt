@@ -1,10 +1,15 @@
 //! The bound test in front of a jump table.
 
-ghost use Rattle.std.specs.Prelude.{◌≡◌, ◌+◌, ◌<◌, ◌≤◌, ◌^◌, IsTrue, IfSome};
+ghost use Rattle.std.specs.Prelude.{◌≡◌, ◌+◌, ◌-◌, ◌*◌, ◌<◌, ◌≤◌, IfSome};
 ghost use Rattle.jump_table.specs.Inner.Operands.{IsRegister, IsImmediate, HasOperands};
-ghost use Rattle.jump_table.specs.Bound.{checked, comparison_by, comparison_of, constant_of, short_constant, whole_constant, constant_before, bound_by, test_at, bound_test};
+ghost use Rattle.jump_table.specs.Inner.Near.{IsNear};
+ghost use Rattle.jump_table.specs.Bound.{checked, comparison_by, comparison_of};
+ghost use Rattle.jump_table.specs.Bound.{constant_of, short_constant, whole_constant};
+ghost use Rattle.jump_table.specs.Bound.{constant_before, bound_by, test_at, bound_test};
 
-use crate::run::{is_in_section, reaches, whole_insn_at};
+use crate::approach::{Approach, MOST_PARCELS};
+use crate::run::reaches;
+use crate::step::{is_in_section, whole_insn_at};
 use elf_image::Image;
 use rv_decode::{BranchKind, ImmKind, Insn, decode};
 use rvc_expand::expand;
@@ -32,40 +37,49 @@ pub(crate) struct BoundTest {
     pub(crate) bound: Option<u32>,
 }
 
-/// The bound test of the jump at `j`, in the code section that starts at `start`: the one nearest
-/// to the jump, from 4 up to 68 bytes before it. No other is tried.
-pub(crate) fn bound_test(image: &Image, start: u64, j: u64) -> Option<BoundTest>
-    requires { start ≤ j }
-    ensures test { result ≡ bound_test image.now start j }
-    ensures before { IfSome result (λ test. test.at + 4 ≤ j) }
+/// The bound test of the jump: the one nearest to it, from 4 up to 68 bytes before it. No other is
+/// tried.
+pub(crate) fn bound_test(way: &Approach) -> Option<BoundTest>
+    ensures test { result ≡ bound_test way.now.image.now way.now.start way.now.jump }
+    ensures near { IfSome result (λ test. IsNear way.now.start way.now.jump test.at) }
     ensures index { IfSome result (λ test. IsRegister test.index) }
 {
-    for half in 2..=34 {
-        let back = 2 * half;
-        if j - start < back {
+    for parcels in 2..=MOST_PARCELS + 2 {
+        if way.jump - way.start < 2 * parcels as u64 {
             return None;
         }
-        if let Some(test) = test_at(image, start, j, j - back) {
+        if let Some(test) = test_at(way, parcels) {
             return Some(test);
         }
     }
     None
 }
 
-/// The bound test at `b` for the jump at `j`, where there is one: a comparison, a constant set just
-/// before it, and a straight run from behind it to the jump.
-fn test_at(image: &Image, start: u64, j: u64, b: u64) -> Option<BoundTest>
-    ensures test { result ≡ test_at image.now start j b }
-    ensures at { IfSome result (λ test. test.at ≡ b) }
+/// The bound test so many parcels before the jump, where there is one: a comparison, a constant set
+/// just before it, and a straight run from behind it to the jump.
+fn test_at(way: &Approach, parcels: usize) -> Option<BoundTest>
+    requires some { 2 ≤ parcels }
+    requires few { parcels < 35 }
+    requires inside { way.now.start + 2 * parcels ≤ way.now.jump }
+    ensures test { result
+        ≡ test_at way.now.image.now way.now.start way.now.jump (way.now.jump - 2 * parcels) }
+    ensures near { IfSome result (λ test. IsNear way.now.start way.now.jump test.at) }
     ensures index { IfSome result (λ test. IsRegister test.index) }
 {
-    let comparison = comparison_of(whole_insn_at(image, start, b)?)?;
-    if !reaches(image, start, j, b) {
+    if !reaches(way, parcels - 2) {
         return None;
     }
-    let limit = constant_before(image, start, b, comparison.limit)?;
+    let Approach {
+        image,
+        start,
+        jump,
+        ..
+    } = *way;
+    let at = jump - 2 * parcels as u64;
+    let comparison = comparison_of(whole_insn_at(image, start, at)?)?;
+    let limit = constant_before(image, start, at, comparison.limit)?;
     Some(BoundTest {
-        at: b,
+        at,
         index: comparison.index,
         bound: bound_by(comparison.excludes_equal, limit),
     })

@@ -1,27 +1,31 @@
 //! The entries of a jump table.
 
-ghost use Rattle.std.specs.Prelude.{◌≡◌, ◌<◌, ◌≤◌, Some, slice_get, IfSome, IsSome};
-ghost use Rattle.jump_table.specs.Table.{IsTableOf, word_extended, target_by_word, kept_target, entry_target, targets_from, count_of, table_targets};
+ghost use Rattle.std.specs.Prelude.{◌≡◌, ◌<◌, Some, slice_get};
+ghost use Rattle.jump_table.specs.Table.{IsTableOf, word_extended, doubleword};
+ghost use Rattle.jump_table.specs.Table.{entry_at, target_by_entry, entry_target};
+ghost use Rattle.jump_table.specs.Table.{targets_from, count_of, table_targets};
 
 use crate::table::Table;
 use elf_image::Image;
 
 /// The target of entry number `i`, from 0, of a table of this image: a code address.
+///
+/// Only this entry is read: one data word, or two where entries are doublewords.
 pub fn entry_target(image: &Image, table: &Table, i: u32) -> u64
     requires found { IsTableOf image.now table.now }
     requires inside { i < table.now.count }
     ensures { slice_get (table_targets image.now table.now) i ≡ Some result }
 {
-    target_at(image, table.base, table.add, i).unwrap()
+    target_at(image, table.base, table.width, table.add, i).unwrap()
 }
 
 /// How many entries of a table at `base` have a target, one after another from the first, at most
 /// `bound`.
-pub(crate) fn count_entries(image: &Image, base: u64, add: u64, bound: u32) -> u32
-    ensures { result ≡ count_of (targets_from image.now base add 0 bound) }
+pub(crate) fn count_entries(image: &Image, base: u64, width: u8, add: u64, bound: u32) -> u32
+    ensures { result ≡ count_of (targets_from image.now base width add 0 bound) }
 {
     for i in 0..bound {
-        if target_at(image, base, add, i).is_none() {
+        if target_at(image, base, width, add, i).is_none() {
             return i;
         }
     }
@@ -30,11 +34,11 @@ pub(crate) fn count_entries(image: &Image, base: u64, add: u64, bound: u32) -> u
 
 /// The target of entry number `i` of a table at `base`, where it is read-only data and leads into
 /// the code.
-pub(crate) fn target_at(image: &Image, base: u64, add: u64, i: u32) -> Option<u64>
-    ensures { result ≡ entry_target image.now base add i }
+pub(crate) fn target_at(image: &Image, base: u64, width: u8, add: u64, i: u32) -> Option<u64>
+    ensures { result ≡ entry_target image.now base width add i }
 {
-    let at = base.checked_add(4 * u64::from(i))?;
-    let target = target_by_word(add, image.data_word(at)?);
+    let at = base.checked_add(u64::from(width) * u64::from(i))?;
+    let target = target_by_entry(add, entry_at(image, width, at)?);
     if image.is_code(target) {
         Some(target)
     } else {
@@ -42,11 +46,30 @@ pub(crate) fn target_at(image: &Image, base: u64, add: u64, i: u32) -> Option<u6
     }
 }
 
-// The word plus what is added, with bit 0 cleared.
-fn target_by_word(add: u64, word: u32) -> u64
-    ensures { result ≡ target_by_word add word }
+// The entry at `at`: a word, sign extended, or a doubleword, of which each half is read by itself.
+fn entry_at(image: &Image, width: u8, at: u64) -> Option<u64>
+    ensures { result ≡ entry_at image.now width at }
 {
-    word_extended(word).wrapping_add(add) / 2 * 2
+    let low = image.data_word(at)?;
+    if width == 8 {
+        Some(doubleword(low, image.data_word(at + 4)?))
+    } else {
+        Some(word_extended(low))
+    }
+}
+
+// The doubleword of two words.
+fn doubleword(low: u32, high: u32) -> u64
+    ensures { result ≡ doubleword low high }
+{
+    u64::from(high) << 32 | u64::from(low)
+}
+
+// The entry plus what is added, with bit 0 cleared.
+fn target_by_entry(add: u64, entry: u64) -> u64
+    ensures { result ≡ target_by_entry add entry }
+{
+    entry.wrapping_add(add) / 2 * 2
 }
 
 // The word, sign extended.

@@ -1,30 +1,19 @@
 //! The jump table of a jump.
 
-ghost use Rattle.std.specs.Prelude.{◌≡◌, ◌+◌, ◌≤◌, ◌<◌, ◌^◌, IsTrue, IfSome, Some, slice_get};
+ghost use Rattle.std.specs.Prelude.{◌≡◌, ◌≤◌, IsTrue, IfSome, is_some, slice_get};
 ghost use Rattle.std.specs.Option.{option_and_then};
 ghost use Rattle.elf_image.specs.Code.{is_code};
 ghost use Rattle.rv_flow.specs.Raw.{raw_flow_at};
 ghost use Rattle.jump_table.specs.Inner.Operands.{IsRegister};
-ghost use Rattle.jump_table.specs.Table.{place_of, place_through, table_at_place, jump_register, table_at, table_targets, HasEntry};
+ghost use Rattle.jump_table.specs.Table.{table_at_place, jump_register, table_through};
+ghost use Rattle.jump_table.specs.Table.{table_at, table_targets, HasEntry};
 
-use crate::bound::{BoundTest, bound_test};
+use crate::approach::Approach;
 use crate::entries::{count_entries, target_at};
-use crate::run::value_behind;
+use crate::place::{Place, bounded_place, open_place};
 use crate::table::Table;
-use crate::values::Value;
 use elf_image::Image;
 use rv_flow::{RawFlow, raw_flow};
-
-/// Where a jump table stands, whose entries are not counted yet.
-#[derive(Clone, Copy)]
-struct Place {
-    /// The address of the first entry.
-    base: u64,
-    /// What is added to an entry.
-    add: u64,
-    /// How many entries the bound test allows.
-    bound: u32,
-}
 
 /// The jump table of the instruction at the code address `j`; `None` exactly where it is no jump of
 /// the pattern.
@@ -38,15 +27,17 @@ pub fn find_table(image: &Image, j: u64) -> Option<Table>
 /// The target of entry number `i`, from 0, of the jump table of the jump at the code address `j`: a
 /// code address.
 ///
-/// It is what `entry_target` gives of the table that `find_table` finds. No other entry is read, so
-/// it takes the time of one look at the pattern, whatever the number of entries.
+/// It is what [`entry_target`](crate::entry_target) gives of the table that [`find_table`] finds,
+/// and takes the time of one look at the pattern, whatever the number of entries. Who goes over
+/// many entries finds the table once and asks `entry_target` for each.
 pub fn target_of(image: &Image, j: u64, i: u32) -> u64
     requires code { IsTrue (is_code image.now j) }
     requires entry { HasEntry image.now j i }
-    ensures { IfSome (table_at image.now j) (λ table. slice_get (table_targets image.now table) i ≡ Some result) }
+    ensures { IfSome (table_at image.now j)
+        (λ table. slice_get (table_targets image.now table) i ≡ Some result) }
 {
     let place = place_at(image, j).unwrap();
-    target_at(image, place.base, place.add, i).unwrap()
+    target_at(image, place.base, place.width.bytes(), place.add, i).unwrap()
 }
 
 // Where the table of the jump at `j` would stand.
@@ -75,52 +66,55 @@ fn jump_register(image: &Image, j: u64) -> Option<u8>
     }
 }
 
-// Where the table of the jump at `j` through `register` would stand.
+// Where the table of the jump at `j` through `register` would stand: by its bound test where that
+// gives a table, and else without one.
 fn place_through(image: &Image, start: u64, j: u64, register: u8) -> Option<Place>
     requires below { start ≤ j }
     requires register { IsRegister register }
-    ensures { result ≡ place_through image.now start j register }
+    ensures { table_through image.now start j register ≡ option_and_then
+        (table_at_place image.now) result }
 {
-    let test = bound_test(image, start, j)?;
-    let value = value_behind(image, start, j, test.at, test.index, register)?;
-    place_of(test.bound?, value)
-}
-
-// Where the table stands of which the bound test allows `bound` entries: the value of the jump's
-// register tells it.
-fn place_of(bound: u32, value: Value) -> Option<Place>
-    ensures { result ≡ place_of bound value }
-{
-    match value {
-        Value::Entry(base) => Some(Place {
-            base,
-            add: 0,
-            bound,
-        }),
-        Value::EntryPlus { table, add } => Some(Place {
-            base: table,
-            add,
-            bound,
-        }),
-        _ => None,
+    let approach = Approach::new(image, start, j);
+    match bounded_place(&approach, register) {
+        Some(place) if has_table(image, place) => Some(place),
+        _ => open_place(&approach, register),
     }
 }
 
-// The table at `place`, a multiple of 4, with at least one target.
+// Whether a table stands at `place`: its first entry tells.
+fn has_table(image: &Image, place: Place) -> bool
+    ensures { result ≡ is_some (table_at_place image.now place) }
+{
+    let width = place.width.bytes();
+    place.base % u64::from(width) == 0
+        && place.bound > 0
+        && target_at(image, place.base, width, place.add, 0).is_some()
+}
+
+// The table at `place`, a multiple of an entry's size, with at least one target.
 fn table_at_place(image: &Image, place: Place) -> Option<Table>
     ensures { result ≡ table_at_place image.now place }
 {
-    let Place { base, add, bound } = place;
-    if base % 4 != 0 {
+    let Place {
+        base,
+        add,
+        bound,
+        is_open,
+        ..
+    } = place;
+    let width = place.width.bytes();
+    if base % u64::from(width) != 0 {
         return None;
     }
-    match count_entries(image, base, add, bound) {
+    match count_entries(image, base, width, add, bound) {
         0 => None,
         count => Some(Table {
             base,
+            width,
             count,
             bound,
             add,
+            is_open,
         }),
     }
 }

@@ -1,15 +1,20 @@
-//! The jump table behind a jump through a register, by the pattern of a bounds check.
+//! The jump table behind a jump through a register: by the pattern of a bounds check, or without
+//! one.
 //!
-//! `specs/` says what the pattern is: the bound test, the values that registers hold on the way
-//! from the test to the jump, and the table that they tell.
+//! `specs/` says what the pattern is: the bound test, the values that registers hold on the way to
+//! the jump, and the table that they tell.
 #![tactic(auto)]
 
+mod approach;
 mod bound;
 mod entries;
 mod find;
+mod place;
 mod run;
+mod step;
 mod table;
 mod values;
+mod width;
 
 pub use entries::entry_target;
 pub use find::{find_table, target_of};

@@ -1,71 +1,224 @@
-//! The calls on a small file.
+//! The calls on small files.
 
 use super::*;
 use elf_image::{ElfError, Image};
-use std::alloc::Global;
+use std::alloc::{AllocError, Global};
 use std::test::Fail;
 
-/// Code at 10000 (hexadecimal) and read-only data at 20000: a bound test `bltu` at 10004 behind
-/// `addi x15, x0, 7`, a jump at 1001C through an entry of the table at 20000 plus 20000, and four
-/// returns behind it. The table leads to the first return seven times and once to the second; the
-/// ninth word leads to 1002C.
-const TABLE_FILE: [u8; 344] = [
-    0x7F, 0x45, 0x4C, 0x46, 2, 1, 1, 0, 0, 0, 0, 0, 0, 0, 0, 0, 2, 0, 0xF3, 0, 1, 0, 0, 0, 0, 0, 1,
-    0, 0, 0, 0, 0, 0, 0, 0, 0, 0, 0, 0, 0, 0x98, 0, 0, 0, 0, 0, 0, 0, 0, 0, 0, 0, 0x40, 0, 0, 0, 0,
-    0, 0x40, 0, 3, 0, 0, 0, 0x93, 7, 0x70, 0, 0x63, 0xE2, 0xA7, 2, 0x37, 7, 2, 0, 0x13, 0x15, 0x25,
-    0, 0x33, 5, 0xE5, 0, 0x83, 0x27, 5, 0, 0xB3, 0x87, 0xE7, 0, 0x67, 0x80, 7, 0, 0x67, 0x80, 0, 0,
-    0x67, 0x80, 0, 0, 0x67, 0x80, 0, 0, 0x67, 0x80, 0, 0, 0x20, 0, 0xFF, 0xFF, 0x20, 0, 0xFF, 0xFF,
-    0x20, 0, 0xFF, 0xFF, 0x20, 0, 0xFF, 0xFF, 0x20, 0, 0xFF, 0xFF, 0x20, 0, 0xFF, 0xFF, 0x20, 0,
-    0xFF, 0xFF, 0x24, 0, 0xFF, 0xFF, 0x2C, 0, 0xFF, 0xFF, 0, 0, 0, 0, 0, 0, 0, 0, 0, 0, 0, 0, 0, 0,
-    0, 0, 0, 0, 0, 0, 0, 0, 0, 0, 0, 0, 0, 0, 0, 0, 0, 0, 0, 0, 0, 0, 0, 0, 0, 0, 0, 0, 0, 0, 0, 0,
-    0, 0, 0, 0, 0, 0, 0, 0, 0, 0, 0, 0, 0, 0, 0, 0, 0, 0, 0, 0, 0, 0, 0, 0, 0, 0, 1, 0, 0, 0, 6, 0,
-    0, 0, 0, 0, 0, 0, 0, 0, 1, 0, 0, 0, 0, 0, 0x40, 0, 0, 0, 0, 0, 0, 0, 0x30, 0, 0, 0, 0, 0, 0, 0,
-    0, 0, 0, 0, 0, 0, 0, 0, 0, 0, 0, 0, 0, 0, 0, 0, 0, 0, 0, 0, 0, 0, 0, 0, 0, 0, 0, 0, 1, 0, 0, 0,
-    2, 0, 0, 0, 0, 0, 0, 0, 0, 0, 2, 0, 0, 0, 0, 0, 0x70, 0, 0, 0, 0, 0, 0, 0, 0x24, 0, 0, 0, 0, 0,
-    0, 0, 0, 0, 0, 0, 0, 0, 0, 0, 0, 0, 0, 0, 0, 0, 0, 0, 0, 0, 0, 0, 0, 0, 0, 0,
+/// Code at 10000 and read-only data at 20000 (hexadecimal), filled up with zeros, and a jump in it.
+#[derive(Clone, Copy)]
+struct Case {
+    code: [u32; 16],
+    data: [u32; 16],
+    jump: u64,
+    /// Its table, with the targets of the first and the last entry.
+    want: Option<(Table, u64, u64)>,
+}
+
+/// The header of a file whose sections stand at 192, and those sections: none, 64 bytes of code and
+/// 64 bytes of data.
+const HEADER: [u32; 16] = [
+    0x464C457F, 0x00010102, 0, 0, 0x00F30002, 1, 0x10000, 0, 0, 0, 192, 0, 0, 0x40, 0x400000, 3,
 ];
 
-fn image(alloc: Global) -> Result<Image, ElfError> {
-    let bytes = Vec::from_slice(alloc, &TABLE_FILE).map_err(|_| ElfError::Memory)?;
+const SECTIONS: [u32; 48] = [
+    0, 0, 0, 0, 0, 0, 0, 0, 0, 0, 0, 0, 0, 0, 0, 0, 0, 1, 6, 0, 0x10000, 0, 64, 0, 64, 0, 0, 0, 0,
+    0, 0, 0, 0, 1, 2, 0, 0x20000, 0, 128, 0, 64, 0, 0, 0, 0, 0, 0, 0,
+];
+
+/// Eight words, a bound test `bltu` at 10004 behind `addi x15, x0, 7`, and four returns.
+const BOUNDED: Case = Case {
+    code: [
+        0x00700793, 0x02A7E263, 0x00020737, 0x00251513, 0x00E50533, 0x00052783, 0x00E787B3,
+        0x00078067, 0x00008067, 0x00008067, 0x00008067, 0x00008067, 0, 0, 0, 0,
+    ],
+    data: [
+        0xFFFF0020, 0xFFFF0020, 0xFFFF0020, 0xFFFF0020, 0xFFFF0020, 0xFFFF0020, 0xFFFF0020,
+        0xFFFF0024, 0xFFFF002C, 0, 0, 0, 0, 0, 0, 0,
+    ],
+    jump: 0x1001C,
+    want: Some((
+        Table {
+            base: 0x20000,
+            width: 4,
+            count: 8,
+            bound: 8,
+            add: 0x20000,
+            is_open: false,
+        },
+        0x10020,
+        0x10024,
+    )),
+};
+
+/// Two words, and nothing in front of the shift.
+const OPEN: Case = Case {
+    code: [
+        0x00020737, 0x00251513, 0x00E50533, 0x00052783, 0x00E787B3, 0x00078067, 0x00008067,
+        0x00008067, 0, 0, 0, 0, 0, 0, 0, 0,
+    ],
+    data: [
+        0xFFFF0018, 0xFFFF001C, 0, 0, 0, 0, 0, 0, 0, 0, 0, 0, 0, 0, 0, 0,
+    ],
+    jump: 0x10014,
+    want: Some((
+        Table {
+            base: 0x20000,
+            width: 4,
+            count: 2,
+            bound: 1024,
+            add: 0x20000,
+            is_open: true,
+        },
+        0x10018,
+        0x1001C,
+    )),
+};
+
+/// Two doublewords that are the targets themselves.
+const DOUBLEWORDS: Case = Case {
+    code: [
+        0x00100793, 0x02A7E063, 0x00020737, 0x00351513, 0x00E50533, 0x00053783, 0x00078067,
+        0x00008067, 0x00008067, 0x00008067, 0, 0, 0, 0, 0, 0,
+    ],
+    data: [
+        0x0001001C, 0, 0x00010020, 0, 0, 0, 0, 0, 0, 0, 0, 0, 0, 0, 0, 0,
+    ],
+    jump: 0x10018,
+    want: Some((
+        Table {
+            base: 0x20000,
+            width: 8,
+            count: 2,
+            bound: 2,
+            add: 0,
+            is_open: false,
+        },
+        0x1001C,
+        0x10020,
+    )),
+};
+
+/// The bound test looks at x10 and the shift at x11, so that it tells nothing.
+const OTHER_INDEX: Case = Case {
+    code: [
+        0x00700793, 0x02A7E263, 0x00020737, 0x00259513, 0x00E50533, 0x00052783, 0x00E787B3,
+        0x00078067, 0x00008067, 0x00008067, 0x00008067, 0x00008067, 0, 0, 0, 0,
+    ],
+    want: Some((
+        Table {
+            base: 0x20000,
+            width: 4,
+            count: 9,
+            bound: 1024,
+            add: 0x20000,
+            is_open: true,
+        },
+        0x10020,
+        0x1002C,
+    )),
+    ..BOUNDED
+};
+
+/// The index is scaled by 8, and a word is loaded.
+const MIXED_WIDTHS: Case = Case {
+    code: [
+        0x00020737, 0x00351513, 0x00E50533, 0x00052783, 0x00E787B3, 0x00078067, 0x00008067,
+        0x00008067, 0, 0, 0, 0, 0, 0, 0, 0,
+    ],
+    want: None,
+    ..OPEN
+};
+
+/// An ECALL behind the shift.
+const ECALL: Case = Case {
+    code: [
+        0x00251513, 0x00000073, 0x00020737, 0x00E50533, 0x00052783, 0x00E787B3, 0x00078067,
+        0x00008067, 0x00008067, 0, 0, 0, 0, 0, 0, 0,
+    ],
+    jump: 0x10018,
+    want: None,
+    ..OPEN
+};
+
+/// A return.
+const RETURN: Case = Case {
+    jump: 0x10018,
+    want: None,
+    ..OPEN
+};
+
+fn push_words(bytes: &mut Vec<u8>, words: &[u32]) -> Result<(), AllocError> {
+    for word in words {
+        bytes.extend_from_slice(&word.to_le_bytes())?;
+    }
+    Ok(())
+}
+
+fn file(alloc: Global, case: &Case) -> Result<Vec<u8>, AllocError> {
+    let mut bytes = Vec::new(alloc);
+    push_words(&mut bytes, &HEADER)?;
+    push_words(&mut bytes, &case.code)?;
+    push_words(&mut bytes, &case.data)?;
+    push_words(&mut bytes, &SECTIONS)?;
+    Ok(bytes)
+}
+
+fn image(alloc: Global, case: &Case) -> Result<Image, ElfError> {
+    let bytes = file(alloc, case).map_err(|_| ElfError::Memory)?;
     Image::parse(alloc, bytes)
 }
 
-/// The table of the jump at `j`, and the target of its entry number `i` by the table and by the
-/// jump.
-fn entry(image: &Image, j: u64, i: u32) -> Option<(Table, u64, u64)> {
-    if !image.is_code(j) {
+/// The table of the jump at `jump`, with the targets of the first and the last entry by the table.
+fn found(image: &Image, jump: u64) -> Option<(Table, u64, u64)> {
+    if !image.is_code(jump) {
         return None;
     }
-    let table = find_table(image, j)?;
-    if i < table.count {
-        Some((
-            table,
-            entry_target(image, &table, i),
-            target_of(image, j, i),
-        ))
-    } else {
-        None
+    let table = find_table(image, jump)?;
+    let last = table.count.checked_sub(1)?;
+    Some((
+        table,
+        entry_target(image, &table, 0),
+        entry_target(image, &table, last),
+    ))
+}
+
+/// The target of the last entry by the jump alone.
+fn last_target(image: &Image, jump: u64) -> Option<u64> {
+    if !image.is_code(jump) {
+        return None;
     }
+    let table = find_table(image, jump)?;
+    let last = table.count.checked_sub(1)?;
+    Some(target_of(image, jump, last))
+}
+
+/// The last target that is wanted.
+fn last_of(case: &Case) -> Option<u64> {
+    let (_, _, last) = case.want?;
+    Some(last)
 }
 
 #[test]
-fn worked_table(rt: HostRuntime) -> Result<(), Fail> {
-    let image = image(rt.alloc())?;
-    let table = Table {
-        base: 0x20000,
-        count: 8,
-        bound: 8,
-        add: 0x20000,
-    };
-    for (j, i, want) in [
-        (0x1001C, 0, Some((table, 0x10020, 0x10020))),
-        (0x1001C, 6, Some((table, 0x10020, 0x10020))),
-        (0x1001C, 7, Some((table, 0x10024, 0x10024))),
-        (0x1001C, 8, None),
-        (0x10020, 0, None),
-        (0x10004, 0, None),
-    ] {
-        assert_eq!(rt; entry(&image, j, i), want, "entry {i} of the jump at {j}");
+fn tables_of_small_files(rt: HostRuntime) -> Result<(), Fail> {
+    let cases = [
+        BOUNDED,
+        OPEN,
+        DOUBLEWORDS,
+        OTHER_INDEX,
+        MIXED_WIDTHS,
+        ECALL,
+        RETURN,
+    ];
+    for (number, case) in cases.iter().enumerate() {
+        let image = image(rt.alloc(), case)?;
+        let jump = case.jump;
+        assert_eq!(rt; found(&image, jump), case.want, "case {number}");
+        assert_eq!(rt;
+            last_target(&image, jump),
+            last_of(case),
+            "the last target of case {number}"
+        );
     }
     Ok(())
 }

@@ -1,10 +1,13 @@
-//! The values that registers hold between the bound test and the jump.
+//! The values that registers hold on the way to a jump.
 
 ghost use Rattle.std.specs.Prelude.{◌≡◌, IfSome, length};
 ghost use Rattle.jump_table.specs.Inner.Operands.{IsRegister, HasOperands};
-ghost use Rattle.jump_table.specs.Values.{at_test, written, forgotten, moved_by, addi_value, slli_value, srli_value, sum_of, add_value, lw_value, imm_value, reg_value, load_value, after, after_placed};
-ghost use Rattle.jump_table.specs.Inner.Walk.{held_by};
+ghost use Rattle.jump_table.specs.Values.{at_test, written, forgotten, shifted, addi_value};
+ghost use Rattle.jump_table.specs.Values.{slli_value, srli_value, sum_of, add_value, imm_value};
+ghost use Rattle.jump_table.specs.Values.{reg_value, load_value, after, after_placed};
+ghost use Rattle.jump_table.specs.Inner.Held.{held_by};
 
+use crate::width::Width;
 use rv_decode::{ImmKind, Insn, LoadKind, RegKind};
 
 /// What is known of a register's value. Sums are modulo 2 to the power 64.
@@ -14,18 +17,19 @@ pub(crate) enum Value {
     Unknown,
     /// A constant.
     Const(u64),
-    /// The index that the bound test compares.
+    /// The index: what the bound test compares, or in the open form anything unknown.
     Index,
     /// The index times 2 to the power 32.
     High,
-    /// The index times 4.
-    Scaled,
-    /// A constant plus the index times 4: the address of an entry of the table at that constant.
-    Addr(u64),
-    /// An entry of the table at this address, sign extended to 64 bits.
-    Entry(u64),
+    /// The index times an entry's size.
+    Scaled(Width),
+    /// A constant plus the index times an entry's size: the address of an entry of the table at
+    /// that constant.
+    Addr(u64, Width),
+    /// An entry of the table at this address: a word, sign extended to 64 bits, or a doubleword.
+    Entry(u64, Width),
     /// An entry of the table at an address, plus a constant.
-    EntryPlus { table: u64, add: u64 },
+    EntryPlus { table: u64, width: Width, add: u64 },
 }
 
 /// What the 32 registers hold. The place of x0 says nothing: it always holds 0.
@@ -41,11 +45,13 @@ impl Registers {
         requires { IsRegister index }
         ensures { held_by result.values ≡ at_test index }
     {
-        Registers::unknown().with(index, Value::Index)
+        let mut registers = Registers::unknown();
+        registers.set(index, Value::Index);
+        registers
     }
 
     /// Where nothing is known but of x0.
-    fn unknown() -> Registers
+    pub(crate) fn unknown() -> Registers
         ensures { held_by result.values ≡ forgotten }
     {
         Registers {
@@ -65,59 +71,59 @@ impl Registers {
         }
     }
 
-    /// The registers behind a write of register `rd`.
-    fn with(mut self, rd: u8, value: Value) -> Registers
+    /// Writes register `rd`.
+    fn set(&mut self, rd: u8, value: Value)
         requires { IsRegister rd }
-        ensures { held_by result.values ≡ written (held_by self.values) rd value }
+        ensures { held_by self.new.values ≡ written (held_by self.old.values) rd value }
     {
         self.values[rd as usize] = value;
-        self
     }
 
-    /// The registers behind what stands at address `a`.
-    pub(crate) fn behind(self, a: u64, insn: Option<Insn>) -> Registers
+    /// Goes past what stands at address `a`.
+    pub(crate) fn pass(&mut self, is_open: bool, a: u64, insn: Option<Insn>)
         requires { IfSome insn HasOperands }
-        ensures { held_by result.values ≡ after_placed a insn (held_by self.values) }
+        ensures { held_by self.new.values ≡ after_placed is_open a insn (held_by self.old.values) }
     {
-        match insn {
-            Some(insn) => self.after(a, insn),
-            None => self,
+        if let Some(insn) = insn {
+            self.pass_insn(is_open, a, insn);
         }
     }
 
-    /// The registers behind the instruction `insn` at address `a`.
-    fn after(self, a: u64, insn: Insn) -> Registers
+    /// Goes past the instruction `insn` at address `a`.
+    fn pass_insn(&mut self, is_open: bool, a: u64, insn: Insn)
         requires { HasOperands insn }
-        ensures { held_by result.values ≡ after a insn (held_by self.values) }
+        ensures { held_by self.new.values ≡ after is_open a insn (held_by self.old.values) }
     {
         match insn {
-            Insn::Lui { rd, imm } => self.with(rd, Value::Const(imm.cast_unsigned())),
-            Insn::Auipc { rd, imm } => self.with(rd, Value::Const(a.wrapping_add_signed(imm))),
+            Insn::Lui { rd, imm } => self.set(rd, Value::Const(imm.cast_unsigned())),
+            Insn::Auipc { rd, imm } => self.set(rd, Value::Const(a.wrapping_add_signed(imm))),
             Insn::Load { kind, rd, rs1, imm } => {
-                self.with(rd, load_value(kind, imm, self.get(rs1)))
+                self.set(rd, load_value(kind, imm, self.get(rs1)));
             }
-            Insn::Imm { kind, rd, rs1, imm } => self.with(rd, imm_value(kind, imm, self.get(rs1))),
-            Insn::Reg { kind, rd, rs1, rs2 } => self.with(rd, reg_value(kind, &self, rs1, rs2)),
+            Insn::Imm { kind, rd, rs1, imm } => {
+                self.set(rd, imm_value(is_open, kind, imm, self.get(rs1)));
+            }
+            Insn::Reg { kind, rd, rs1, rs2 } => self.set(rd, reg_value(kind, self, rs1, rs2)),
             Insn::Jal { rd, .. }
             | Insn::Jalr { rd, .. }
             | Insn::ImmW { rd, .. }
             | Insn::RegW { rd, .. }
             | Insn::Atomic { rd, .. }
             | Insn::Csr { rd, .. }
-            | Insn::Float { writes: rd, .. } => self.with(rd, Value::Unknown),
-            Insn::Ecall => Registers::unknown(),
+            | Insn::Float { writes: rd, .. } => self.set(rd, Value::Unknown),
+            Insn::Ecall => *self = Registers::unknown(),
             Insn::Branch { .. } | Insn::Store { .. } | Insn::Fence | Insn::FenceI | Insn::Ebreak =>
-                self,
+                {}
         }
     }
 }
 
-fn imm_value(kind: ImmKind, imm: i64, value: Value) -> Value
-    ensures { result ≡ imm_value kind imm value }
+fn imm_value(is_open: bool, kind: ImmKind, imm: i64, value: Value) -> Value
+    ensures { result ≡ imm_value is_open kind imm value }
 {
     match kind {
         ImmKind::Addi => addi_value(imm, value),
-        ImmKind::Slli => slli_value(imm, value),
+        ImmKind::Slli => slli_value(imm, shifted(is_open, value)),
         ImmKind::Srli => srli_value(imm, value),
         _ => Value::Unknown,
     }
@@ -134,24 +140,36 @@ fn addi_value(imm: i64, value: Value) -> Value
     }
 }
 
+// What a shift to the left finds: in the open form it takes the unknown for the index.
+fn shifted(is_open: bool, value: Value) -> Value
+    ensures { result ≡ shifted is_open value }
+{
+    match value {
+        Value::Unknown if is_open => Value::Index,
+        value => value,
+    }
+}
+
 // `slli` of the index.
 fn slli_value(amount: i64, value: Value) -> Value
     ensures { result ≡ slli_value amount value }
 {
     match value {
-        Value::Index if amount == 2 => Value::Scaled,
+        Value::Index if amount == 2 => Value::Scaled(Width::Word),
+        Value::Index if amount == 3 => Value::Scaled(Width::Double),
         Value::Index if amount == 32 => Value::High,
         _ => Value::Unknown,
     }
 }
 
-// `srli` by 30 of the index moved up by 32: the index times 4, of which the bound test knows that
-// it fits.
+// `srli` by 30 or 29 of the index moved up by 32: the index times 4 or 8, which fits, since the
+// index is 32 bits of an unsigned number.
 fn srli_value(amount: i64, value: Value) -> Value
     ensures { result ≡ srli_value amount value }
 {
     match value {
-        Value::High if amount == 30 => Value::Scaled,
+        Value::High if amount == 30 => Value::Scaled(Width::Word),
+        Value::High if amount == 29 => Value::Scaled(Width::Double),
         _ => Value::Unknown,
     }
 }
@@ -187,20 +205,26 @@ fn sum_of(first: Value, second: Value) -> Value
     ensures { result ≡ sum_of first second }
 {
     match (first, second) {
-        (Value::Const(v), Value::Scaled) | (Value::Scaled, Value::Const(v)) => Value::Addr(v),
-        (Value::Entry(table), Value::Const(add)) | (Value::Const(add), Value::Entry(table)) => {
-            Value::EntryPlus { table, add }
+        (Value::Const(v), Value::Scaled(width)) | (Value::Scaled(width), Value::Const(v)) => {
+            Value::Addr(v, width)
         }
+        (Value::Entry(table, width), Value::Const(add))
+        | (Value::Const(add), Value::Entry(table, width)) => Value::EntryPlus { table, width, add },
         _ => Value::Unknown,
     }
 }
 
-// `lw` of an address in the table.
+// `lw` and `ld` of an address in the table, where the index was scaled by as many bytes.
 fn load_value(kind: LoadKind, offset: i64, value: Value) -> Value
     ensures { result ≡ load_value kind offset value }
 {
     match (kind, value) {
-        (LoadKind::Lw, Value::Addr(v)) => Value::Entry(v.wrapping_add_signed(offset)),
+        (LoadKind::Lw, Value::Addr(v, Width::Word)) => {
+            Value::Entry(v.wrapping_add_signed(offset), Width::Word)
+        }
+        (LoadKind::Ld, Value::Addr(v, Width::Double)) => {
+            Value::Entry(v.wrapping_add_signed(offset), Width::Double)
+        }
         _ => Value::Unknown,
     }
 }

@@ -1,6 +1,7 @@
 -- The fields and the immediates of a 32-bit instruction word (RISC-V Unprivileged ISA 20240411,
 -- sections 2.2 and 2.3). A word is a natural number, and its bits are numbered from 0, the lowest.
-use Rattle.std.specs.Prelude.{ℕ, ◌+◌, ◌-◌, ◌*◌, ◌/◌, ◌%◌, ◌^◌, Bool, ◌==◌, nat_lt, if◌then◌else◌, ℤ, pos, ◌-ℤ◌}
+use Rattle.std.specs.Prelude.{ℕ, ◌+◌, ◌-◌, ◌*◌, ◌/◌, ◌%◌, ◌^◌, Bool, ◌==◌, nat_lt, if◌then◌else◌, ℤ}
+use Rattle.std.specs.Prelude.{pos, ◌-ℤ◌}
 
 -- bits `high` to `low` of a word, both included, as a number
 abbrev pub field : ℕ → ℕ → ℕ → ℕ
@@ -67,13 +68,15 @@ s_immediate w = sign_extended 12 (field w 31 25 * 2 ^ 5 + field w 11 7)
 -- 5, bits 11 to 8 its bits 4 to 1, and its bit 0 is 0
 abbrev pub b_offset : ℕ → ℤ
 b_offset w =
-    sign_extended 13 (field w 31 31 * 2 ^ 12 + field w 7 7 * 2 ^ 11 + field w 30 25 * 2 ^ 5 + field w 11 8 * 2)
+    sign_extended 13
+    (field w 31 31 * 2 ^ 12 + field w 7 7 * 2 ^ 11 + field w 30 25 * 2 ^ 5 + field w 11 8 * 2)
 
 -- J-immediate (section 2.3): bit 31 is its bit 20, bits 19 to 12 its bits 19 to 12, bit 20 its bit
 -- 11, bits 30 to 21 its bits 10 to 1, and its bit 0 is 0
 abbrev pub j_offset : ℕ → ℤ
 j_offset w =
-    sign_extended 21 (field w 31 31 * 2 ^ 20 + field w 19 12 * 2 ^ 12 + field w 20 20 * 2 ^ 11 + field w 30 21 * 2)
+    sign_extended 21
+    (field w 31 31 * 2 ^ 20 + field w 19 12 * 2 ^ 12 + field w 20 20 * 2 ^ 11 + field w 30 21 * 2)
 
 -- U-immediate (section 2.3): bits 31 to 12 in place, and its bits 11 to 0 are 0
 abbrev pub u_immediate : ℕ → ℤ

@@ -1,28 +1,43 @@
 -- The instruction table of RV64IMA with Zicsr and Zifencei: a line for each row of the standard's
 -- listings (RISC-V Unprivileged ISA 20240411, "RV32/64G Instruction Set Listings").
-use Rattle.std.specs.Prelude.{ℕ, Bool, true, false, ◌==◌, if◌then◌else◌, List, [], ◌∷◌, ◌++◌, Option, Some, None}
+use Rattle.std.specs.Prelude.{ℕ, Bool, true, false, ◌==◌, if◌then◌else◌, List, [], ◌∷◌, ◌++◌}
+use Rattle.std.specs.Prelude.{Option, Some, None}
 use Rattle.std.specs.List.{list_all}
-use Rattle.rv_decode.specs.Fields.{field, rd, rs1, rs2, acquire, release, csr, shift_amount, word_shift_amount, i_immediate, s_immediate, b_offset, j_offset, u_immediate}
+use Rattle.rv_decode.specs.Fields.{field, rd, rs1, rs2, acquire, release, csr, shift_amount}
+use Rattle.rv_decode.specs.Fields.{word_shift_amount, i_immediate, s_immediate, b_offset, j_offset}
+use Rattle.rv_decode.specs.Fields.{u_immediate}
 use Rattle.rv_decode.specs.declared.instructions.Insn.{Insn}
-use Rattle.rv_decode.specs.declared.instructions.Insn.TheVariants.{Lui, Auipc, Jal, Jalr, Branch, Load, Store, Imm, ImmW, Reg, RegW, Atomic, Fence, FenceI, Ecall, Ebreak, Csr}
+use Rattle.rv_decode.specs.declared.instructions.Insn.TheVariants.{Lui, Auipc, Jal, Jalr, Branch}
+use Rattle.rv_decode.specs.declared.instructions.Insn.TheVariants.{Load, Store, Imm, ImmW, Reg}
+use Rattle.rv_decode.specs.declared.instructions.Insn.TheVariants.{RegW, Atomic, Fence, FenceI}
+use Rattle.rv_decode.specs.declared.instructions.Insn.TheVariants.{Ecall, Ebreak, Csr}
 use Rattle.rv_decode.specs.declared.instructions.BranchKind.{BranchKind}
-use Rattle.rv_decode.specs.declared.instructions.BranchKind.TheVariants.{Beq, Bne, Blt, Bge, Bltu, Bgeu}
+use Rattle.rv_decode.specs.declared.instructions.BranchKind.TheVariants.{Beq, Bne, Blt, Bge, Bltu}
+use Rattle.rv_decode.specs.declared.instructions.BranchKind.TheVariants.{Bgeu}
 use Rattle.rv_decode.specs.declared.instructions.LoadKind.{LoadKind}
-use Rattle.rv_decode.specs.declared.instructions.LoadKind.TheVariants.{Lb, Lh, Lw, Ld, Lbu, Lhu, Lwu}
+use Rattle.rv_decode.specs.declared.instructions.LoadKind.TheVariants.{Lb, Lh, Lw, Ld, Lbu, Lhu}
+use Rattle.rv_decode.specs.declared.instructions.LoadKind.TheVariants.{Lwu}
 use Rattle.rv_decode.specs.declared.instructions.StoreKind.{StoreKind}
 use Rattle.rv_decode.specs.declared.instructions.StoreKind.TheVariants.{Sb, Sh, Sw, Sd}
 use Rattle.rv_decode.specs.declared.instructions.ImmKind.{ImmKind}
-use Rattle.rv_decode.specs.declared.instructions.ImmKind.TheVariants.{Addi, Slti, Sltiu, Xori, Ori, Andi, Slli, Srli, Srai}
+use Rattle.rv_decode.specs.declared.instructions.ImmKind.TheVariants.{Addi, Slti, Sltiu, Xori, Ori}
+use Rattle.rv_decode.specs.declared.instructions.ImmKind.TheVariants.{Andi, Slli, Srli, Srai}
 use Rattle.rv_decode.specs.declared.instructions.ImmWKind.{ImmWKind}
 use Rattle.rv_decode.specs.declared.instructions.ImmWKind.TheVariants.{Addiw, Slliw, Srliw, Sraiw}
 use Rattle.rv_decode.specs.declared.instructions.RegKind.{RegKind}
-use Rattle.rv_decode.specs.declared.instructions.RegKind.TheVariants.{Add, Sll, Slt, Sltu, Xor, Srl, Or, And, Sub, Sra, Mul, Mulh, Mulhsu, Mulhu, Div, Divu, Rem, Remu}
+use Rattle.rv_decode.specs.declared.instructions.RegKind.TheVariants.{Add, Sll, Slt, Sltu, Xor, Srl}
+use Rattle.rv_decode.specs.declared.instructions.RegKind.TheVariants.{Or, And, Sub, Sra, Mul, Mulh}
+use Rattle.rv_decode.specs.declared.instructions.RegKind.TheVariants.{Mulhsu, Mulhu, Div, Divu, Rem}
+use Rattle.rv_decode.specs.declared.instructions.RegKind.TheVariants.{Remu}
 use Rattle.rv_decode.specs.declared.instructions.RegWKind.{RegWKind}
-use Rattle.rv_decode.specs.declared.instructions.RegWKind.TheVariants.{Addw, Sllw, Srlw, Subw, Sraw, Mulw, Divw, Divuw, Remw, Remuw}
+use Rattle.rv_decode.specs.declared.instructions.RegWKind.TheVariants.{Addw, Sllw, Srlw, Subw, Sraw}
+use Rattle.rv_decode.specs.declared.instructions.RegWKind.TheVariants.{Mulw, Divw, Divuw, Remw}
+use Rattle.rv_decode.specs.declared.instructions.RegWKind.TheVariants.{Remuw}
 use Rattle.rv_decode.specs.declared.instructions.AtomicKind.{AtomicKind}
 use Rattle.rv_decode.specs.declared.instructions.AtomicKind.TheVariants as atomic_kind
 use Rattle.rv_decode.specs.declared.instructions.CsrKind.{CsrKind}
-use Rattle.rv_decode.specs.declared.instructions.CsrKind.TheVariants.{Csrrw, Csrrs, Csrrc, Csrrwi, Csrrsi, Csrrci}
+use Rattle.rv_decode.specs.declared.instructions.CsrKind.TheVariants.{Csrrw, Csrrs, Csrrc, Csrrwi}
+use Rattle.rv_decode.specs.declared.instructions.CsrKind.TheVariants.{Csrrsi, Csrrci}
 
 -- ---- rows
 
@@ -90,7 +105,10 @@ upper_rows =
 unfoldable pub jump_rows : List Row
 jump_rows =
     record { conditions = opcode_is 0x6F ∷ []; meaning = λ w. Jal (rd w) (j_offset w) } ∷
-    record { conditions = opcode_is 0x67 ∷ funct3_is 0 ∷ []; meaning = λ w. Jalr (rd w) (rs1 w) (i_immediate w) }
+    record {
+      conditions = opcode_is 0x67 ∷ funct3_is 0 ∷ [];
+      meaning = λ w. Jalr (rd w) (rs1 w) (i_immediate w);
+    }
     ∷ []
 
 -- ---- opcode 63: BRANCH (section 2.5.2), by funct3
@@ -184,7 +202,10 @@ imm_w_row f3 kind = record { conditions = opcode_is 0x1B ∷ funct3_is f3 ∷ []
 
 abbrev pub shift_w_row : ℕ → ℕ → ImmWKind → Row
 shift_w_row f3 f7 kind =
-    record { conditions = opcode_is 0x1B ∷ funct3_is f3 ∷ funct7_is f7 ∷ []; meaning = shift_w kind }
+    record {
+      conditions = opcode_is 0x1B ∷ funct3_is f3 ∷ funct7_is f7 ∷ [];
+      meaning = shift_w kind;
+    }
 
 unfoldable pub imm_w_rows : List Row
 imm_w_rows =
@@ -254,11 +275,17 @@ atomic wide kind w = Atomic kind wide (acquire w) (release w) (rd w) (rs1 w) (rs
 -- LR has rs2 = 0
 abbrev pub lr_row : ℕ → Bool → Row
 lr_row f3 wide =
-    record { conditions = opcode_is 0x2F ∷ funct3_is f3 ∷ funct5_is 0b00010 ∷ rs2_is 0 ∷ []; meaning = atomic wide atomic_kind.Lr }
+    record {
+      conditions = opcode_is 0x2F ∷ funct3_is f3 ∷ funct5_is 0b00010 ∷ rs2_is 0 ∷ [];
+      meaning = atomic wide atomic_kind.Lr;
+    }
 
 abbrev pub atomic_row : ℕ → Bool → ℕ → AtomicKind → Row
 atomic_row f3 wide f5 kind =
-    record { conditions = opcode_is 0x2F ∷ funct3_is f3 ∷ funct5_is f5 ∷ []; meaning = atomic wide kind }
+    record {
+      conditions = opcode_is 0x2F ∷ funct3_is f3 ∷ funct5_is f5 ∷ [];
+      meaning = atomic wide kind;
+    }
 
 -- LR.W to AMOMAXU.W at funct3 = 2, LR.D to AMOMAXU.D at funct3 = 3
 unfoldable pub atomic_rows_of : ℕ → Bool → List Row
@@ -287,12 +314,15 @@ fence_rows =
     record { conditions = opcode_is 0x0F ∷ funct3_is 0 ∷ []; meaning = λ w. Fence } ∷
     record { conditions = opcode_is 0x0F ∷ funct3_is 1 ∷ []; meaning = λ w. FenceI } ∷ []
 
--- ---- opcode 73: SYSTEM, ECALL and EBREAK (section 2.8), each one word, and the operations on control
--- and status registers (section 7.1), by funct3
+-- ---- opcode 73: SYSTEM, ECALL and EBREAK (section 2.8), each one word, and the operations on
+-- control and status registers (section 7.1), by funct3
 
 abbrev pub environment_row : ℕ → Insn → Row
 environment_row f12 instruction_meant =
-    record { conditions = opcode_is 0x73 ∷ funct3_is 0 ∷ rd_is 0 ∷ rs1_is 0 ∷ funct12_is f12 ∷ []; meaning = λ w. instruction_meant }
+    record {
+      conditions = opcode_is 0x73 ∷ funct3_is 0 ∷ rd_is 0 ∷ rs1_is 0 ∷ funct12_is f12 ∷ [];
+      meaning = λ w. instruction_meant;
+    }
 
 abbrev pub csr_access : CsrKind → ℕ → Insn
 csr_access kind w = Csr kind (rd w) (rs1 w) (csr w)

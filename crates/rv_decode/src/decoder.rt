@@ -4,7 +4,8 @@
 ghost use Rattle.std.specs.Prelude.{◌≡◌, ◌≢◌, ◌⊎◌, if◌then◌else◌, true, false};
 ghost use Rattle.std.specs.Option.{option_map};
 ghost use Rattle.rv_decode.specs.Fields.{opcode, funct3, funct7};
-ghost use Rattle.rv_decode.specs.Table.{instruction, branch, load, store, imm, shift, imm_w, shift_w, reg, reg_w, atomic, csr_access};
+ghost use Rattle.rv_decode.specs.Table.{instruction, branch, load, store, imm, shift, imm_w};
+ghost use Rattle.rv_decode.specs.Table.{shift_w, reg, reg_w, atomic, csr_access};
 
 use crate::fields::{
     acquire, b_offset, csr, funct3, funct5, funct6, funct7, i_immediate, j_offset, opcode, rd,
@@ -383,8 +384,10 @@ fn atomic(word: u32, wide: bool) -> Option<Insn>
 #[tactic(auto, using(crate::proofs::ByOpcode::atomic_word_cases, crate::proofs::ByOpcode::atomic_double_cases))]
 fn atomic_kind(word: u32) -> Option<AtomicKind>
     requires { opcode word ≡ AMO }
-    ensures word { funct3 word ≡ 2 → option_map (λ kind. atomic false kind word) result ≡ instruction word }
-    ensures doubleword { funct3 word ≡ 3 → option_map (λ kind. atomic true kind word) result ≡ instruction word }
+    ensures word { funct3 word ≡ 2
+        → option_map (λ kind. atomic false kind word) result ≡ instruction word }
+    ensures doubleword { funct3 word ≡ 3
+        → option_map (λ kind. atomic true kind word) result ≡ instruction word }
 {
     match funct5(word) {
         0b00010 => (rs2(word) == 0).then_some(AtomicKind::Lr),

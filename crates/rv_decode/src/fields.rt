@@ -2,7 +2,9 @@
 //! sections 2.2 and 2.3).
 
 ghost use Rattle.std.specs.Prelude.{◌≡◌, ◌*◌, ◌^◌, ◌<◌, ◌≤◌, nat_lt, if◌then◌else◌, pos, ◌-ℤ◌};
-ghost use Rattle.rv_decode.specs.Fields.{opcode, rd, funct3, rs1, rs2, funct7, funct6, funct5, acquire, release, csr, shift_amount, word_shift_amount, i_immediate, s_immediate, b_offset, j_offset, u_immediate};
+ghost use Rattle.rv_decode.specs.Fields.{opcode, rd, funct3, rs1, rs2, funct7, funct6, funct5};
+ghost use Rattle.rv_decode.specs.Fields.{acquire, release, csr, shift_amount, word_shift_amount};
+ghost use Rattle.rv_decode.specs.Fields.{i_immediate, s_immediate, b_offset, j_offset, u_immediate};
 
 /// Bits 6 to 0.
 pub fn opcode(word: u32) -> u8

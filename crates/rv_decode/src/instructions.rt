@@ -106,8 +106,8 @@ pub enum Insn {
         source: u8,
         csr: u16,
     },
-    /// An instruction of the F or D extension (chapters 21 and 22), by the integer registers that it
-    /// uses alone: the one that it writes and the one that it reads, 0 for none.
+    /// An instruction of the F or D extension (chapters 21 and 22), by the integer registers that
+    /// it uses alone: the one that it writes and the one that it reads, 0 for none.
     Float {
         writes: u8,
         reads: u8,

@@ -1,6 +1,7 @@
 //! Laws of the instruction table, each proved as the contract of a function that does nothing.
 
-ghost use Rattle.rv_decode.specs.Laws.{AtMostOneRowHolds, ARowDecides, EachComesFromARow, NoneWhereNoRowHolds, EachHas32Bits};
+ghost use Rattle.rv_decode.specs.Laws.{AtMostOneRowHolds, ARowDecides, EachComesFromARow};
+ghost use Rattle.rv_decode.specs.Laws.{NoneWhereNoRowHolds, EachHas32Bits};
 
 /// At most one row of the instruction table holds of a word.
 pub fn at_most_one_row_holds()

@@ -3,7 +3,8 @@
 -- instruction that it stands for.
 use Rattle.std.specs.Prelude.{ℕ, List, [], ◌∷◌, Option}
 use Rattle.rvc_expand.specs.Formats.{i_type, s_type}
-use Rattle.rvc_expand.specs.Halfword.{is_at, first_register, second_register, first_popular, second_popular, double_offset, ldsp_offset, sdsp_offset}
+use Rattle.rvc_expand.specs.Halfword.{is_at, first_register, second_register, first_popular}
+use Rattle.rvc_expand.specs.Halfword.{second_popular, double_offset, ldsp_offset, sdsp_offset}
 use Rattle.rvc_expand.specs.Table.{Form, form, first_word, stack_pointer}
 
 -- a load's address is rs1 plus the offset; a store writes rs2 there
@@ -19,7 +20,8 @@ float_forms =
     -- C.FLD
     form (λ h. is_at h 0b00 0b001) (λ h. fld (second_popular h) (first_popular h) (double_offset h))
     -- C.FSD
-    ∷ form (λ h. is_at h 0b00 0b101) (λ h. fsd (second_popular h) (first_popular h) (double_offset h))
+    ∷ form (λ h. is_at h 0b00 0b101)
+    (λ h. fsd (second_popular h) (first_popular h) (double_offset h))
     -- C.FLDSP
     ∷ form (λ h. is_at h 0b10 0b001) (λ h. fld (first_register h) stack_pointer (ldsp_offset h))
     -- C.FSDSP

@@ -13,12 +13,15 @@ IsRowAt i r = slice_get float_rows i ≡ Some r
 -- At most one row of the float table holds of a word.
 abbrev pub AtMostOneRowHolds : Type 0
 AtMostOneRowHolds =
-    (w i j : ℕ) (r s : Row) → IsRowAt i r → IsRowAt j s → IsTrue (r.holds w) → IsTrue (s.holds w) → i ≡ j
+    (w i j : ℕ) (r s : Row) → IsRowAt i r → IsRowAt j s → IsTrue (r.holds w) → IsTrue (s.holds w)
+    → i ≡ j
 
 -- A word is an instruction of one of the two tables at most.
 abbrev pub TablesAreApart : Type 0
-TablesAreApart = (w : ℕ) (found : Insn) → float_instruction w ≡ Some found → base.instruction w ≡ None
+TablesAreApart = (w : ℕ) (found : Insn) → float_instruction w ≡ Some found
+    → base.instruction w ≡ None
 
 -- A halfword expands by one of the two tables of compressed forms at most.
 abbrev pub FormsAreApart : Type 0
-FormsAreApart = (half word : ℕ) → float_expansion half ≡ Some word → compressed.expansion half ≡ None
+FormsAreApart = (half word : ℕ) → float_expansion half ≡ Some word
+    → compressed.expansion half ≡ None

@@ -1,7 +1,8 @@
--- The instructions of the F and D extensions (RISC-V Unprivileged ISA 20240411, chapters 21 and 22, and
--- "RV32/64G Instruction Set Listings"). Which words with reserved fields are taken is this project's
--- profile: the rows alone decide.
-use Rattle.std.specs.Prelude.{ℕ, Bool, ◌&&◌, ◌==◌, if◌then◌else◌, List, [], ◌∷◌, ◌++◌, Option, Some, None}
+-- The instructions of the F and D extensions (RISC-V Unprivileged ISA 20240411, chapters 21 and 22,
+-- and "RV32/64G Instruction Set Listings"). Which words with reserved fields are taken is this
+-- project's profile: the rows alone decide.
+use Rattle.std.specs.Prelude.{ℕ, Bool, ◌&&◌, ◌==◌, if◌then◌else◌, List, [], ◌∷◌, ◌++◌, Option, Some}
+use Rattle.std.specs.Prelude.{None}
 use Rattle.std.specs.List.{list_any}
 use Rattle.rv_decode.specs.Fields.{field, opcode, funct3, funct7, rd, rs1, rs2}
 use Rattle.rv_decode.specs.declared.instructions.Insn.{Insn}
@@ -45,7 +46,8 @@ memory_rows =
 
 -- opcode 43, 47, 4B and 4F: fused multiplications and additions (sections 21.6 and 22.4)
 abbrev pub fused_row : ℕ → Row
-fused_row code = row (λ w. opcode w == code && is_among (0 ∷ 1 ∷ []) (precision w) && rounds w) within
+fused_row code = row (λ w. opcode w == code && is_among (0 ∷ 1 ∷ []) (precision w)
+    && rounds w) within
 
 unfoldable pub fused_rows : List Row
 fused_rows = fused_row 0x43 ∷ fused_row 0x47 ∷ fused_row 0x4B ∷ fused_row 0x4F ∷ []
@@ -57,7 +59,8 @@ is_operation functions w = opcode w == 0x53 && is_among functions (funct7 w)
 unfoldable pub operation_rows : List Row
 operation_rows =
     -- FADD, FSUB, FMUL, FDIV
-    row (λ w. is_operation (0x00 ∷ 0x01 ∷ 0x04 ∷ 0x05 ∷ 0x08 ∷ 0x09 ∷ 0x0C ∷ 0x0D ∷ []) w && rounds w) within ∷
+    row (λ w. is_operation (0x00 ∷ 0x01 ∷ 0x04 ∷ 0x05 ∷ 0x08 ∷ 0x09 ∷ 0x0C ∷ 0x0D ∷ []) w
+    && rounds w) within ∷
     -- FSQRT
     row (λ w. is_operation (0x2C ∷ 0x2D ∷ []) w && rs2 w == 0 && rounds w) within ∷
     -- FCVT.S.D, FCVT.D.S
@@ -68,13 +71,17 @@ operation_rows =
     -- FMIN, FMAX
     row (λ w. is_operation (0x14 ∷ 0x15 ∷ []) w && is_among (0 ∷ 1 ∷ []) (funct3 w)) within ∷
     -- FLE, FLT, FEQ
-    row (λ w. is_operation (0x50 ∷ 0x51 ∷ []) w && is_among (0 ∷ 1 ∷ 2 ∷ []) (funct3 w)) to_integer ∷
+    row (λ w. is_operation (0x50 ∷ 0x51 ∷ []) w
+    && is_among (0 ∷ 1 ∷ 2 ∷ []) (funct3 w)) to_integer ∷
     -- FCVT to W, WU, L, LU
-    row (λ w. is_operation (0x60 ∷ 0x61 ∷ []) w && is_among (0 ∷ 1 ∷ 2 ∷ 3 ∷ []) (rs2 w) && rounds w) to_integer ∷
+    row (λ w. is_operation (0x60 ∷ 0x61 ∷ []) w && is_among (0 ∷ 1 ∷ 2 ∷ 3 ∷ []) (rs2 w)
+    && rounds w) to_integer ∷
     -- FMV.X, FCLASS
-    row (λ w. is_operation (0x70 ∷ 0x71 ∷ []) w && rs2 w == 0 && is_among (0 ∷ 1 ∷ []) (funct3 w)) to_integer ∷
+    row (λ w. is_operation (0x70 ∷ 0x71 ∷ []) w && rs2 w == 0
+    && is_among (0 ∷ 1 ∷ []) (funct3 w)) to_integer ∷
     -- FCVT from W, WU, L, LU
-    row (λ w. is_operation (0x68 ∷ 0x69 ∷ []) w && is_among (0 ∷ 1 ∷ 2 ∷ 3 ∷ []) (rs2 w) && rounds w) from_integer ∷
+    row (λ w. is_operation (0x68 ∷ 0x69 ∷ []) w && is_among (0 ∷ 1 ∷ 2 ∷ 3 ∷ []) (rs2 w)
+    && rounds w) from_integer ∷
     -- FMV from X
     row (λ w. is_operation (0x78 ∷ 0x79 ∷ []) w && rs2 w == 0 && funct3 w == 0) from_integer ∷ []
 

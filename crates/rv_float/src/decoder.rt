@@ -4,7 +4,8 @@
 ghost use Rattle.std.specs.Prelude.{◌≡◌, ◌⊎◌, ◌==◌, ◌&&◌, if◌then◌else◌, Some, None, [], ◌∷◌};
 ghost use Rattle.rv_decode.specs.Fields.{opcode, funct3, rs2};
 ghost use Rattle.rv_float.specs.Table as table;
-ghost use Rattle.rv_float.specs.Table.{float_instruction, first_meaning, operation_rows, is_among, precision};
+ghost use Rattle.rv_float.specs.Table.{float_instruction, first_meaning, operation_rows, is_among};
+ghost use Rattle.rv_float.specs.Table.{precision};
 
 use rv_decode::Insn;
 use rv_decode::fields::{funct3, funct7, opcode, rd, rs1, rs2};
@@ -27,7 +28,8 @@ const OP_FP: u8 = 0x53;
 /// The instruction of the F or D extension that a 32-bit word encodes (RISC-V Unprivileged ISA
 /// 20240411, chapters 21 and 22), or `None` where no row of the table holds of the word.
 ///
-/// Whether the word's length is 32 bits is not asked: each row's opcode ends in 11, and none ends in
+/// Whether the word's length is 32 bits is not asked: each row's opcode ends in 11, and none ends
+/// in
 /// 11111.
 #[tactic(auto, using(crate::proofs::ByOpcode::load_is, crate::proofs::ByOpcode::store_is, crate::proofs::ByOpcode::madd_is, crate::proofs::ByOpcode::msub_is, crate::proofs::ByOpcode::nmsub_is, crate::proofs::ByOpcode::nmadd_is, crate::proofs::ByOpcode::operation_is, crate::proofs::ByOpcode::other_is))]
 pub fn decode_float(word: u32) -> Option<Insn>
@@ -69,7 +71,8 @@ fn rounds(word: u32) -> bool
     matches!(funct3(word), 0..=4 | 7)
 }
 
-/// Whether `rs2` names a format of integers, W, WU, L or LU, and a rounding mode stands in `funct3`.
+/// Whether `rs2` names a format of integers, W, WU, L or LU, and a rounding mode stands in
+/// `funct3`.
 fn converts(word: u32) -> bool
     ensures { result ≡ (is_among (0 ∷ 1 ∷ 2 ∷ 3 ∷ []) (rs2 word) && table.rounds word) }
 {

@@ -1,5 +1,5 @@
-//! Laws of the float table and of the four compressed forms, each proved as the contract of a function
-//! that does nothing.
+//! Laws of the float table and of the four compressed forms, each proved as the contract of a
+//! function that does nothing.
 
 ghost use Rattle.rv_float.specs.Laws.{AtMostOneRowHolds, TablesAreApart, FormsAreApart};
 

@@ -2,7 +2,9 @@
 use Rattle.std.specs.Prelude.{◌≡◌, ℕ, ◌<◌, ◌%◌, ◌^◌, Some, IsSome, pos}
 use Rattle.rv_decode.specs.Fields.{sign_extended}
 use Rattle.rv_decode.specs.Table.{instruction}
-use Rattle.rv_decode.specs.declared.instructions.Insn.TheVariants.{Lui, Jal, Jalr, Branch, Load, Store, Imm, ImmW, Reg, RegW, Ebreak}
+use Rattle.rv_decode.specs.declared.instructions.Insn.TheVariants.{Lui, Jal, Jalr, Branch, Load}
+use Rattle.rv_decode.specs.declared.instructions.Insn.TheVariants.{Store, Imm, ImmW, Reg, RegW}
+use Rattle.rv_decode.specs.declared.instructions.Insn.TheVariants.{Ebreak}
 use Rattle.rv_decode.specs.declared.instructions.BranchKind.TheVariants.{Beq, Bne}
 use Rattle.rv_decode.specs.declared.instructions.LoadKind.TheVariants.{Lw, Ld}
 use Rattle.rv_decode.specs.declared.instructions.StoreKind.TheVariants.{Sw, Sd}
@@ -10,7 +12,9 @@ use Rattle.rv_decode.specs.declared.instructions.ImmKind.TheVariants.{Addi, Andi
 use Rattle.rv_decode.specs.declared.instructions.ImmWKind.TheVariants.{Addiw}
 use Rattle.rv_decode.specs.declared.instructions.RegKind.TheVariants.{Add, Sub, Xor, Or, And}
 use Rattle.rv_decode.specs.declared.instructions.RegWKind.TheVariants.{Addw, Subw}
-use Rattle.rvc_expand.specs.Instructions.{addi, andi, slli, srli, srai, addiw, lui, lw, ld, sw, sd, add, sub, xor, or, and, addw, subw, jal, jalr, beq, bne, ebreak}
+use Rattle.rvc_expand.specs.Instructions.{addi, andi, slli, srli, srai, addiw, lui, lw, ld, sw, sd}
+use Rattle.rvc_expand.specs.Instructions.{add, sub, xor, or, and, addw, subw, jal, jalr, beq, bne}
+use Rattle.rvc_expand.specs.Instructions.{ebreak}
 use Rattle.rvc_expand.specs.Table.{expansion}
 
 -- A word that a halfword expands to is an instruction: no compressed form leads out of the

@@ -1,3 +1,5 @@
 pub mod Placed
 pub mod Raw
+pub mod Straight
 pub mod Laws
+pub mod Inner

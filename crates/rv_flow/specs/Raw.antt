@@ -1,7 +1,8 @@
 -- Where one instruction alone sends control (RISC-V Unprivileged ISA 20240411, sections 2.5 and
 -- 2.8; the link registers x1 and x5 are those of its section 2.5.1, "Return-address stack
 -- prediction").
-use Rattle.std.specs.Prelude.{ℕ, ◌+◌, ◌-◌, ◌*◌, ◌/◌, ◌%◌, ◌^◌, ◌==◌, ◌&&◌, ◌||◌, nat_le, Bool, true, false, List, ℤ, Option, Some, None, if◌then◌else◌}
+use Rattle.std.specs.Prelude.{ℕ, ◌+◌, ◌-◌, ◌*◌, ◌/◌, ◌%◌, ◌^◌, ◌==◌, ◌&&◌, ◌||◌, nat_le, Bool, true}
+use Rattle.std.specs.Prelude.{false, List, ℤ, Option, Some, None, if◌then◌else◌}
 use Rattle.std.specs.Option.{option_and_then, option_map}
 use Rattle.std.specs.Int.{cast_unsigned, w64}
 use Rattle.elf_image.specs.Code.{section_start, word_at}
@@ -23,7 +24,8 @@ address_plus a offset = (a + cast_unsigned w64 offset) % 2 ^ 64
 -- The word right before the instruction at a, where it lies in the same code section.
 abbrev pub word_before : List ℕ → ℕ → Option ℕ
 word_before bytes a =
-    option_and_then (λ start. if nat_le (start + 4) a then word_at bytes (a - 4) else None) (section_start bytes a)
+    option_and_then (λ start. if nat_le (start + 4) a then word_at bytes (a - 4) else None)
+    (section_start bytes a)
 
 -- What an AUIPC at an address, or a LUI, leaves in register r.
 abbrev pub upper_of : ℕ → ℕ → Insn → Option ℕ

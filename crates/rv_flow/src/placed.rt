@@ -53,14 +53,14 @@ pub fn insn_at(image: &Image, a: u64) -> Placed
 }
 
 // The instruction that a 16-bit form stands for.
-fn compressed_insn(half: u16) -> Option<Insn>
+pub(crate) fn compressed_insn(half: u16) -> Option<Insn>
     ensures { result ≡ compressed_insn half }
 {
     word_insn(expanded(half)?)
 }
 
 // The instruction that a whole word is, where the word is there.
-fn whole_insn(word: Option<u32>) -> Option<Insn>
+pub(crate) fn whole_insn(word: Option<u32>) -> Option<Insn>
     ensures { result ≡ whole_insn word }
 {
     word_insn(word?)

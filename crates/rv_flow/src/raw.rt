@@ -4,7 +4,8 @@
 ghost use Rattle.std.specs.Prelude.{◌≡◌, ◌≤◌, IsTrue, Some};
 ghost use Rattle.elf_image.specs.Code.{is_code};
 ghost use Rattle.elf_image.specs.Faults.{IsImage};
-ghost use Rattle.rv_flow.specs.Raw.{raw_flow_at, raw_flow_by, insn_flow, jalr_flow, pair_target, upper_before, upper_of, word_before, address_plus, is_unimp};
+ghost use Rattle.rv_flow.specs.Raw.{raw_flow_at, raw_flow_by, insn_flow, jalr_flow, pair_target};
+ghost use Rattle.rv_flow.specs.Raw.{upper_before, upper_of, word_before, address_plus, is_unimp};
 
 use crate::placed::insn_at;
 use elf_image::Image;
@@ -83,7 +84,7 @@ fn insn_flow(image: &Image, a: u64, insn: Insn) -> RawFlow
     }
 }
 
-fn is_unimp(kind: CsrKind, rd: u8, source: u8, csr: u16) -> bool
+pub(crate) fn is_unimp(kind: CsrKind, rd: u8, source: u8, csr: u16) -> bool
     ensures { result ≡ is_unimp kind rd source csr }
 {
     matches!(kind, CsrKind::Csrrw) && rd == 0 && source == 0 && csr == 0xC00

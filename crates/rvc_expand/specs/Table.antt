@@ -1,10 +1,17 @@
 -- The compressed instructions of RV64C without the floating-point forms, one row a form (RISC-V
 -- Unprivileged ISA 20240411, chapter "C" Extension for Compressed Instructions, "RVC Instruction
 -- Set Listings"). Which hints and reserved encodings the rows hold of is this project's profile.
-use Rattle.std.specs.Prelude.{ℕ, Bool, not, ◌&&◌, ◌==◌, List, [], ◌∷◌, ◌++◌, Option, Some, None, if◌then◌else◌}
+use Rattle.std.specs.Prelude.{ℕ, Bool, not, ◌&&◌, ◌==◌, List, [], ◌∷◌, ◌++◌, Option, Some, None}
+use Rattle.std.specs.Prelude.{if◌then◌else◌}
 use Rattle.rvc_expand.specs.Bits.{field}
-use Rattle.rvc_expand.specs.Halfword.{is_at, is_nonzero, first_register, second_register, first_popular, second_popular, shift_amount, small_immediate, lui_immediate, addi16sp_immediate, addi4spn_immediate, word_offset, double_offset, lwsp_offset, ldsp_offset, swsp_offset, sdsp_offset, jump_offset, branch_offset}
-use Rattle.rvc_expand.specs.Instructions.{addi, andi, slli, srli, srai, addiw, lui, lw, ld, sw, sd, add, sub, xor, or, and, addw, subw, jal, jalr, beq, bne, ebreak}
+use Rattle.rvc_expand.specs.Halfword.{is_at, is_nonzero, first_register, second_register}
+use Rattle.rvc_expand.specs.Halfword.{first_popular, second_popular, shift_amount, small_immediate}
+use Rattle.rvc_expand.specs.Halfword.{lui_immediate, addi16sp_immediate, addi4spn_immediate}
+use Rattle.rvc_expand.specs.Halfword.{word_offset, double_offset, lwsp_offset, ldsp_offset}
+use Rattle.rvc_expand.specs.Halfword.{swsp_offset, sdsp_offset, jump_offset, branch_offset}
+use Rattle.rvc_expand.specs.Instructions.{addi, andi, slli, srli, srai, addiw, lui, lw, ld, sw, sd}
+use Rattle.rvc_expand.specs.Instructions.{add, sub, xor, or, and, addw, subw, jal, jalr, beq, bne}
+use Rattle.rvc_expand.specs.Instructions.{ebreak}
 
 -- a row: which halfwords it holds of, and the 32-bit instruction that such a halfword stands for
 pub record Form : Type 0 where
@@ -33,11 +40,13 @@ quadrant_0 =
     -- C.LW
     ∷ form (λ h. is_at h 0b00 0b010) (λ h. lw (second_popular h) (first_popular h) (word_offset h))
     -- C.LD
-    ∷ form (λ h. is_at h 0b00 0b011) (λ h. ld (second_popular h) (first_popular h) (double_offset h))
+    ∷ form (λ h. is_at h 0b00 0b011)
+    (λ h. ld (second_popular h) (first_popular h) (double_offset h))
     -- C.SW
     ∷ form (λ h. is_at h 0b00 0b110) (λ h. sw (second_popular h) (first_popular h) (word_offset h))
     -- C.SD
-    ∷ form (λ h. is_at h 0b00 0b111) (λ h. sd (second_popular h) (first_popular h) (double_offset h))
+    ∷ form (λ h. is_at h 0b00 0b111)
+    (λ h. sd (second_popular h) (first_popular h) (double_offset h))
     ∷ []
 
 -- the arithmetic forms of quadrant 1, at funct3 100: bits 11 to 10 choose
@@ -53,36 +62,49 @@ is_register_arithmetic half bit_12 funct2 =
 unfoldable pub quadrant_1 : List Form
 quadrant_1 =
     -- C.NOP, C.ADDI
-    form (λ h. is_at h 0b01 0b000) (λ h. addi (first_register h) (first_register h) (small_immediate h))
+    form (λ h. is_at h 0b01 0b000)
+    (λ h. addi (first_register h) (first_register h) (small_immediate h))
     -- C.ADDIW
     ∷ form (λ h. is_at h 0b01 0b001 && is_nonzero (first_register h))
     (λ h. addiw (first_register h) (first_register h) (small_immediate h))
     -- C.LI
-    ∷ form (λ h. is_at h 0b01 0b010) (λ h. addi (first_register h) zero_register (small_immediate h))
+    ∷ form (λ h. is_at h 0b01 0b010)
+    (λ h. addi (first_register h) zero_register (small_immediate h))
     -- C.ADDI16SP
-    ∷ form (λ h. is_at h 0b01 0b011 && first_register h == stack_pointer && is_nonzero (addi16sp_immediate h))
+    ∷ form (λ h. is_at h 0b01 0b011 && first_register h == stack_pointer
+    && is_nonzero (addi16sp_immediate h))
     (λ h. addi stack_pointer stack_pointer (addi16sp_immediate h))
     -- C.LUI
-    ∷ form (λ h. is_at h 0b01 0b011 && not (first_register h == stack_pointer) && is_nonzero (lui_immediate h))
+    ∷ form (λ h. is_at h 0b01 0b011 && not (first_register h == stack_pointer)
+    && is_nonzero (lui_immediate h))
     (λ h. lui (first_register h) (lui_immediate h))
     -- C.SRLI
-    ∷ form (λ h. is_arithmetic h 0b00) (λ h. srli (first_popular h) (first_popular h) (shift_amount h))
+    ∷ form (λ h. is_arithmetic h 0b00)
+    (λ h. srli (first_popular h) (first_popular h) (shift_amount h))
     -- C.SRAI
-    ∷ form (λ h. is_arithmetic h 0b01) (λ h. srai (first_popular h) (first_popular h) (shift_amount h))
+    ∷ form (λ h. is_arithmetic h 0b01)
+    (λ h. srai (first_popular h) (first_popular h) (shift_amount h))
     -- C.ANDI
-    ∷ form (λ h. is_arithmetic h 0b10) (λ h. andi (first_popular h) (first_popular h) (small_immediate h))
+    ∷ form (λ h. is_arithmetic h 0b10)
+    (λ h. andi (first_popular h) (first_popular h) (small_immediate h))
     -- C.SUB
-    ∷ form (λ h. is_register_arithmetic h 0 0b00) (λ h. sub (first_popular h) (first_popular h) (second_popular h))
+    ∷ form (λ h. is_register_arithmetic h 0 0b00)
+    (λ h. sub (first_popular h) (first_popular h) (second_popular h))
     -- C.XOR
-    ∷ form (λ h. is_register_arithmetic h 0 0b01) (λ h. xor (first_popular h) (first_popular h) (second_popular h))
+    ∷ form (λ h. is_register_arithmetic h 0 0b01)
+    (λ h. xor (first_popular h) (first_popular h) (second_popular h))
     -- C.OR
-    ∷ form (λ h. is_register_arithmetic h 0 0b10) (λ h. or (first_popular h) (first_popular h) (second_popular h))
+    ∷ form (λ h. is_register_arithmetic h 0 0b10)
+    (λ h. or (first_popular h) (first_popular h) (second_popular h))
     -- C.AND
-    ∷ form (λ h. is_register_arithmetic h 0 0b11) (λ h. and (first_popular h) (first_popular h) (second_popular h))
+    ∷ form (λ h. is_register_arithmetic h 0 0b11)
+    (λ h. and (first_popular h) (first_popular h) (second_popular h))
     -- C.SUBW
-    ∷ form (λ h. is_register_arithmetic h 1 0b00) (λ h. subw (first_popular h) (first_popular h) (second_popular h))
+    ∷ form (λ h. is_register_arithmetic h 1 0b00)
+    (λ h. subw (first_popular h) (first_popular h) (second_popular h))
     -- C.ADDW
-    ∷ form (λ h. is_register_arithmetic h 1 0b01) (λ h. addw (first_popular h) (first_popular h) (second_popular h))
+    ∷ form (λ h. is_register_arithmetic h 1 0b01)
+    (λ h. addw (first_popular h) (first_popular h) (second_popular h))
     -- C.J
     ∷ form (λ h. is_at h 0b01 0b101) (λ h. jal zero_register (jump_offset h))
     -- C.BEQZ
@@ -100,7 +122,8 @@ is_move_or_jump half bit_12 = is_at half 0b10 0b100 && field half 12 12 == bit_1
 unfoldable pub quadrant_2 : List Form
 quadrant_2 =
     -- C.SLLI
-    form (λ h. is_at h 0b10 0b000) (λ h. slli (first_register h) (first_register h) (shift_amount h))
+    form (λ h. is_at h 0b10 0b000)
+    (λ h. slli (first_register h) (first_register h) (shift_amount h))
     -- C.LWSP
     ∷ form (λ h. is_at h 0b10 0b010 && is_nonzero (first_register h))
     (λ h. lw (first_register h) stack_pointer (lwsp_offset h))

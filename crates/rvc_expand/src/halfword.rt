@@ -2,7 +2,11 @@
 //! immediate is in two's complement, of the width that its 32-bit instruction has.
 
 ghost use Rattle.std.specs.Prelude.{◌≡◌, ◌<◌, ◌^◌};
-ghost use Rattle.rvc_expand.specs.Halfword.{first_register, second_register, first_popular, second_popular, shift_amount, small_immediate, lui_immediate, addi16sp_immediate, addi4spn_immediate, word_offset, double_offset, lwsp_offset, ldsp_offset, swsp_offset, sdsp_offset, jump_offset, branch_offset};
+ghost use Rattle.rvc_expand.specs.Halfword.{first_register, second_register, first_popular};
+ghost use Rattle.rvc_expand.specs.Halfword.{second_popular, shift_amount, small_immediate};
+ghost use Rattle.rvc_expand.specs.Halfword.{lui_immediate, addi16sp_immediate, addi4spn_immediate};
+ghost use Rattle.rvc_expand.specs.Halfword.{word_offset, double_offset, lwsp_offset, ldsp_offset};
+ghost use Rattle.rvc_expand.specs.Halfword.{swsp_offset, sdsp_offset, jump_offset, branch_offset};
 
 use crate::bits::field;
 

@@ -2,7 +2,9 @@
 //! an immediate or offset is in two's complement, of the width of its format.
 
 ghost use Rattle.std.specs.Prelude.{◌≡◌, ◌<◌, ◌^◌};
-ghost use Rattle.rvc_expand.specs.Instructions.{addi, andi, slli, srli, srai, addiw, lui, lw, ld, sw, sd, add, sub, xor, or, and, addw, subw, jal, jalr, beq, bne, ebreak};
+ghost use Rattle.rvc_expand.specs.Instructions.{addi, andi, slli, srli, srai, addiw, lui, lw, ld};
+ghost use Rattle.rvc_expand.specs.Instructions.{sw, sd, add, sub, xor, or, and, addw, subw, jal};
+ghost use Rattle.rvc_expand.specs.Instructions.{jalr, beq, bne, ebreak};
 
 use crate::formats::{b_type, i_type, j_type, r_type, s_type, u_type};
 

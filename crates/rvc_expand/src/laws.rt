@@ -1,6 +1,7 @@
 //! Laws of the compressed table, each proved as the contract of a function that does nothing.
 
-ghost use Rattle.rvc_expand.specs.Laws.{AtMostOneFormHolds, AFormDecides, EachComesFromAForm, NoneWhereNoFormHolds, NoneOfQuadrant3};
+ghost use Rattle.rvc_expand.specs.Laws.{AtMostOneFormHolds, AFormDecides, EachComesFromAForm};
+ghost use Rattle.rvc_expand.specs.Laws.{NoneWhereNoFormHolds, NoneOfQuadrant3};
 
 /// At most one form of the compressed table holds of a halfword.
 pub fn at_most_one_form_holds()

@@ -13,7 +13,8 @@ abbrev pub HasOverhang : List Section → Type 0
 HasOverhang xs =
     (k : ℕ)
     × (k + 1 < length xs)
-    × ((d : Section) → (slice_index_or xs (k + 1) d).address < (slice_index_or xs k d).address + (slice_index_or xs k d).size)
+    × ((d : Section) → (slice_index_or xs (k + 1) d).address < (slice_index_or xs k d).address +
+    (slice_index_or xs k d).size)
 
 -- the first of xs and the first of ys that have some bytes are the same section
 abbrev pub FindsSame : List Section → List Section → Type 0

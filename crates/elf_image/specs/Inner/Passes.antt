@@ -1,7 +1,12 @@
 -- The faults of an image, in the order of `image_faults`, as the passes of the parse judge them.
 use Rattle.std.specs.Prelude.{List, [], ◌∷◌}
 use Rattle.elf_image.specs.declared.fault.Fault.{Fault}
-use Rattle.elf_image.specs.declared.fault.Fault.TheVariants.{TooLarge, Short, Magic, Class, Data, Version, Machine, FileType, HeaderSize, ProgramTable, Interp, NoSections, SectionTable, SectionRange, SectionWrap, CodeParity, CodeOverlap, Entry}
+use Rattle.elf_image.specs.declared.fault.Fault.TheVariants.{TooLarge, Short, Magic, Class, Data}
+use Rattle.elf_image.specs.declared.fault.Fault.TheVariants.{Version, Machine, FileType, HeaderSize}
+use Rattle.elf_image.specs.declared.fault.Fault.TheVariants.{ProgramTable, Interp, NoSections}
+use Rattle.elf_image.specs.declared.fault.Fault.TheVariants.{SectionTable, SectionRange}
+use Rattle.elf_image.specs.declared.fault.Fault.TheVariants.{SectionWrap, CodeParity, CodeOverlap}
+use Rattle.elf_image.specs.declared.fault.Fault.TheVariants.{Entry}
 
 -- size and identification
 abbrev pub ident_faults : List Fault

@@ -26,6 +26,7 @@ IsNoLess None (Some t) = ⊥
 IsNoLess (Some s) (Some t) = is_lt (slice_cmp nat_cmp t s) ≡ false
 
 -- a name is the least of those of some seeds at an address
-pub record IsLeastName (bytes : List ℕ) (In : Seed → Type 0) (a : ℕ) (name : Option (List ℕ)) : Type 0 where
+pub record IsLeastName (bytes : List ℕ) (In : Seed → Type 0) (a : ℕ)
+    (name : Option (List ℕ)) : Type 0 where
   pub some : IfSome name (λ t. (s : Seed) × In s × (s.address ≡ a) × (text_of bytes s ≡ Some t))
   pub least : (s : Seed) → In s → s.address ≡ a → IsNoLess name (text_of bytes s)

@@ -1,33 +1,41 @@
 use Rattle.std.proofs.Common.{◌≡◌, ◌+◌, ◌-◌, ◌*◌, ◌<◌, ◌≤◌, suc, ◌∙◌, sym, arith}
-use Rattle.jump_table.proofs.Nearest.{all-distances, tests-here, tests-further, tests-past, tests-end}
+use Rattle.jump_table.specs.Bound.{test_at}
+use Rattle.jump_table.proofs.Nearest.{nearest-here, nearest-further, nearest-past, nearest-end}
+use Rattle.jump_table.proofs.Searches.{all-tests}
 use Rattle.jump_table.proofs.bound.bound_test.Goals as goal
 
-pub loop-half-init : goal.loop-half-init
-loop-half-init c = all-distances c.args.image.now c.args.start c.args.j
+pub loop-parcels-init : goal.loop-parcels-init
+loop-parcels-init c =
+    let way = c.args.way.now in
+    all-tests way.image.now way.start way.jump
 
-pub returns-then-j-start-clause-test : goal.returns-then-j-start-clause-test
-returns-then-j-start-clause-test c =
-    let past : c.args.j < c.args.start + 2 * c.loop-half.half = omega arith in
-    sym (c.loop-half.invariant ∙ tests-past c.args.image.now c.args.start c.args.j (35 - c.loop-half.half) (2 * c.loop-half.half) past)
+pub returns-then-way-parcels-clause-test : goal.returns-then-way-parcels-clause-test
+returns-then-way-parcels-clause-test c =
+    let way = c.args.way.now in
+    let past : way.jump < way.start + 2 * c.loop-parcels.parcels = omega arith in
+    sym (c.loop-parcels.invariant ∙ nearest-past (test_at way.image.now way.start way.jump) way.start way.jump (35 - c.loop-parcels.parcels) (2 * c.loop-parcels.parcels) past)
 
 pub returns-in-Some-clause-test : goal.returns-in-Some-clause-test
 returns-in-Some-clause-test c =
-    let half = c.loop-half.half in
-    let left : 35 - half ≡ suc (35 - (half + 1)) = omega arith in
-    let within : c.args.start + 2 * half ≤ c.args.j = omega arith in
+    let way = c.args.way.now in
+    let parcels = c.loop-parcels.parcels in
+    let left : 35 - parcels ≡ suc (35 - (parcels + 1)) = omega arith in
+    let within : way.start + 2 * parcels ≤ way.jump = omega arith in
     let found = sym c.test_at.ensures.test ∙ c.in-Some.is in
-    sym (c.loop-half.invariant ∙ tests-here c.args.image.now c.args.start c.args.j (35 - half) (35 - (half + 1)) (2 * half) c.in-Some.test left within found)
+    sym (c.loop-parcels.invariant ∙ nearest-here (test_at way.image.now way.start way.jump) way.start way.jump (35 - parcels) (35 - (parcels + 1)) (2 * parcels) c.in-Some.test left within found)
 
-pub loop-half-preserved : goal.loop-half-preserved
-loop-half-preserved c =
-    let half = c.loop-half.half in
-    let left : 35 - half ≡ suc (35 - (half + 1)) = omega arith in
-    let within : c.args.start + 2 * half ≤ c.args.j = omega arith in
-    let next : 2 * (half + 1) ≡ 2 * half + 2 = omega arith in
+pub loop-parcels-preserved : goal.loop-parcels-preserved
+loop-parcels-preserved c =
+    let way = c.args.way.now in
+    let parcels = c.loop-parcels.parcels in
+    let left : 35 - parcels ≡ suc (35 - (parcels + 1)) = omega arith in
+    let within : way.start + 2 * parcels ≤ way.jump = omega arith in
+    let next : 2 * (parcels + 1) ≡ 2 * parcels + 2 = omega arith in
     let none = sym c.test_at.ensures.test ∙ c.in_default.is in
-    c.loop-half.invariant ∙ tests-further c.args.image.now c.args.start c.args.j (35 - half) (35 - (half + 1)) (2 * half) (2 * (half + 1)) left next within none
+    c.loop-parcels.invariant ∙ nearest-further (test_at way.image.now way.start way.jump) way.start way.jump (35 - parcels) (35 - (parcels + 1)) (2 * parcels) (2 * (parcels + 1)) left next within none
 
 pub returns-clause-test : goal.returns-clause-test
 returns-clause-test c =
-    let left : 35 - c.loop-half.half ≡ 0 = omega arith in
-    sym (c.loop-half.invariant ∙ tests-end c.args.image.now c.args.start c.args.j (35 - c.loop-half.half) (2 * c.loop-half.half) left)
+    let way = c.args.way.now in
+    let left : 35 - c.loop-parcels.parcels ≡ 0 = omega arith in
+    sym (c.loop-parcels.invariant ∙ nearest-end (test_at way.image.now way.start way.jump) way.start way.jump (35 - c.loop-parcels.parcels) (2 * c.loop-parcels.parcels) left)

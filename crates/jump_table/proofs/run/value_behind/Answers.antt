@@ -1,42 +1,62 @@
-use Rattle.std.proofs.Common.{◌≡◌, ℕ, ◌+◌, ◌-◌, suc, Some, ◌∙◌, sym, ap, arith}
-use Rattle.jump_table.specs.Values.{Registers, after_placed}
-use Rattle.jump_table.specs.Inner.Walk.{held_by}
-use Rattle.jump_table.proofs.Runs.{value_from, value-here, value-no_more, value-end, value-on}
+use Rattle.std.proofs.Common.{◌≡◌, ◌≢◌, ◌+◌, ◌-◌, ◌*◌, suc, Some, sym, ap, ◌∙◌, arith}
+use Rattle.jump_table.specs.Inner.Steps.{IsStep, LeadsNowhere}
+use Rattle.jump_table.specs.Inner.Held.{held_by}
+use Rattle.jump_table.specs.Values.{Registers}
+use Rattle.jump_table.proofs.Runs.{value_from, value-here, value-none, value-end, value-on}
+use Rattle.jump_table.proofs.Ways.{steps-step, steps-none, step-operands}
 use Rattle.jump_table.proofs.run.value_behind.Goals as goal
 
-pub returns-then-a-j : goal.returns-then-a-j
-returns-then-a-j c =
+pub returns-then-left-eq0 : goal.returns-then-left-eq0
+returns-then-left-eq0 c =
+    let way = c.args.way.now in
+    let here : way.jump - 2 * c.loop.left ≡ way.jump = omega arith in
     ap (λ value. Some value) c.get.ensures
-    ∙ sym (value-here c.args.image.now c.args.start c.args.j (16 - c.loop.counter) c.loop.a (held_by c.loop.registers.values) c.args.register c.if-a-j.true)
-    ∙ sym c.loop.invariant
+    ∙ sym (c.loop.invariant.same
+    ∙ value-here way.image.now way.start way.jump c.args.is_open (16 - c.loop.counter) (way.jump - 2 * c.loop.left) (held_by c.loop.registers.values) c.args.register here)
 
-pub returns-in_err-placed : goal.returns-in_err-placed
-returns-in_err-placed c =
-    let none = sym c.straight_at.ensures.value ∙ c.in_err-placed.was in
+pub returns-in_err-step : goal.returns-in_err-step
+returns-in_err-step c =
+    let way = c.args.way.now in
+    let nowhere : LeadsNowhere way.image.now way.start way.jump c.loop.left =
+    steps-none way.image.now way.start way.jump way.steps way.lead c.loop.left (omega arith) (omega (arith, c.loop.invariant.nearer)) (omega (arith, c.loop.invariant.nearer)) c.in_err-step.was in
     c.from_residual.ensures
-    ∙ sym (value-no_more c.args.image.now c.args.start c.args.j (16 - c.loop.counter) c.loop.a (held_by c.loop.registers.values) c.args.register c.if-a-j.false none)
-    ∙ sym c.loop.invariant
+    ∙ sym (c.loop.invariant.same
+    ∙ value-none way.image.now way.start way.jump c.args.is_open (16 - c.loop.counter) (way.jump - 2 * c.loop.left) (held_by c.loop.registers.values) c.args.register (nowhere (16 - c.loop.counter)))
+
+pub pass-requires : goal.pass-requires
+pass-requires c =
+    let way = c.args.way.now in
+    let step = c.in_ok-step.step in
+    step-operands way.image.now way.start way.jump c.loop.left step
+    (steps-step way.image.now way.start way.jump way.steps way.lead c.loop.left step (omega arith) (omega (arith, c.loop.invariant.nearer)) (omega (arith, c.loop.invariant.nearer)) c.in_ok-step.was)
 
 pub loop-preserved : goal.loop-preserved
 loop-preserved c =
-    let left : 16 - c.loop.counter ≡ suc (16 - (c.loop.counter + 1)) = omega arith in
-    let some = sym c.straight_at.ensures.value ∙ c.in_ok-placed.was in
-    let placed = c.in_ok-placed.placed in
-    let onward : ℕ → Registers → _ =
-    λ length before. value_from c.args.image.now c.args.start c.args.j (16 - (c.loop.counter + 1)) (c.loop.a + length) before c.args.register in
-    c.loop.invariant
-    ∙ value-on c.args.image.now c.args.start c.args.j (16 - c.loop.counter) (16 - (c.loop.counter + 1)) c.loop.a placed (held_by c.loop.registers.values) c.args.register left c.if-a-j.false some
-    ∙ ap (λ (length : ℕ). onward length (after_placed c.loop.a placed.insn (held_by c.loop.registers.values))) (sym c.from-a.ensures)
-    ∙ ap (λ (before : Registers). onward c.from-a.result before) (sym c.behind-registers.ensures)
+    let way = c.args.way.now in
+    let more : 16 - c.loop.counter ≡ suc (16 - (c.loop.counter + 1)) = omega arith in
+    let step = c.in_ok-step.step in
+    let is : IsStep way.image.now way.start way.jump c.loop.left step =
+    steps-step way.image.now way.start way.jump way.steps way.lead c.loop.left step (omega arith) (omega (arith, c.loop.invariant.nearer)) (omega (arith, c.loop.invariant.nearer)) c.in_ok-step.was in
+    record {
+      nearer = omega (arith, is.nearer, c.loop.invariant.nearer);
+      same = c.loop.invariant.same
+          ∙ value-on way.image.now way.start way.jump c.loop.left step (omega arith) (omega (arith, c.loop.invariant.nearer)) is c.args.is_open (16 - c.loop.counter) (16 - (c.loop.counter + 1))
+          (held_by c.loop.registers.values) c.args.register more
+          ∙ ap (λ (before : Registers). value_from c.args.is_open way.image.now way.start way.jump (16 - (c.loop.counter + 1)) (way.jump - 2 * step.next) before c.args.register) (sym c.pass.ensures);
+    }
 
-pub returns-then-a-j-2 : goal.returns-then-a-j-2
-returns-then-a-j-2 c =
-    ap (λ value. Some value) c.get-then-a-j-2.ensures
-    ∙ sym (value-here c.args.image.now c.args.start c.args.j (16 - c.loop.counter) c.loop.a (held_by c.loop.registers.values) c.args.register c.if-a-j-2.true)
-    ∙ sym c.loop.invariant
+pub returns-then-left-eq0-2 : goal.returns-then-left-eq0-2
+returns-then-left-eq0-2 c =
+    let way = c.args.way.now in
+    let here : way.jump - 2 * c.loop.left ≡ way.jump = omega arith in
+    ap (λ value. Some value) c.get-then-left-eq0-2.ensures
+    ∙ sym (c.loop.invariant.same
+    ∙ value-here way.image.now way.start way.jump c.args.is_open (16 - c.loop.counter) (way.jump - 2 * c.loop.left) (held_by c.loop.registers.values) c.args.register here)
 
-pub returns-else-a-j-2 : goal.returns-else-a-j-2
-returns-else-a-j-2 c =
-    let left : 16 - c.loop.counter ≡ 0 = omega arith in
-    sym (value-end c.args.image.now c.args.start c.args.j (16 - c.loop.counter) c.loop.a (held_by c.loop.registers.values) c.args.register left c.if-a-j-2.false)
-    ∙ sym c.loop.invariant
+pub returns-else-left-eq0-2 : goal.returns-else-left-eq0-2
+returns-else-left-eq0-2 c =
+    let way = c.args.way.now in
+    let none : 16 - c.loop.counter ≡ 0 = omega arith in
+    let away : way.jump - 2 * c.loop.left ≢ way.jump = λ is. omega (arith, c.loop.invariant.nearer) in
+    sym (c.loop.invariant.same
+    ∙ value-end way.image.now way.start way.jump c.args.is_open (16 - c.loop.counter) (way.jump - 2 * c.loop.left) (held_by c.loop.registers.values) c.args.register none away)

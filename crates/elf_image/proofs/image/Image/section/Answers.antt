@@ -3,6 +3,7 @@ use Rattle.elf_image.specs.Header as header
 use Rattle.elf_image.specs.Sections.{section, is_code_section, holds_bytes}
 use Rattle.elf_image.specs.Code.{code_section_of}
 use Rattle.elf_image.specs.FaultTests.{is_out_of_file}
+use Rattle.elf_image.specs.Faults.{IsImage}
 use Rattle.elf_image.proofs.Accepted.{is_small, is_in_file}
 use Rattle.elf_image.proofs.Ranges.{length-sections, get_or-sections, Contains-section}
 use Rattle.elf_image.proofs.OneSection.{code_section-same}
@@ -44,3 +45,6 @@ returns-clause-code c = λ a code even holds.
 
 pub returns-clause-small : goal.returns-clause-small
 returns-clause-small c = omega (arith, ap length c.self.view_is, is_small c.self.inside.bytes.items c.self.invariant.image)
+
+pub returns-clause-image : goal.returns-clause-image
+returns-clause-image c = subst IsImage c.self.view_is c.self.invariant.image

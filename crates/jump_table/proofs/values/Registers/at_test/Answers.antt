@@ -6,4 +6,4 @@ use Rattle.jump_table.proofs.values.Registers.at_test.Goals as goal
 
 pub returns : goal.returns
 returns c =
-    c.with.ensures ∙ ap (λ (before : Registers). written before c.args.index Index) c.unknown.ensures ∙ written-forgotten c.args.index
+    c.set.ensures ∙ ap (λ (before : Registers). written before c.args.index Index) c.unknown-registers.ensures ∙ written-forgotten c.args.index

@@ -1,0 +1,7 @@
+pub mod CodeSections
+pub mod Spans
+pub mod Ends
+pub mod Lengths
+pub mod Passes
+pub mod Joins
+pub mod Looking

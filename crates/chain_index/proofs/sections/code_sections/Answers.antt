@@ -1,0 +1,7 @@
+use Rattle.std.proofs.Common.{rules}
+use Rattle.std.proofs.lemmas.List.Sorted.{IsNonDecreasingBy-from_sort_by_key}
+use Rattle.elf_image.specs.declared.section.Section.{Section}
+use Rattle.chain_index.proofs.sections.code_sections.Goals as goal
+
+pub returns-clause-sorted : goal.returns-clause-sorted
+returns-clause-sorted c = IsNonDecreasingBy-from_sort_by_key (λ (s : Section). s.address) _ c.sort_unstable_by_key.ensures.sorted (λ a r q k. search rules)

@@ -1,0 +1,26 @@
+//! Where the chain of each instruction of an image ends.
+//!
+//! Whether control goes straight on behind an instruction, and how long it is, depends on the file
+//! alone, and not on the cuts of jump tables. So the ends are found once, in one pass from the back
+//! of each code section, and are looked up from then on.
+//!
+//! - `index`: [`ChainIndex`], what is kept and looked up.
+//! - `laws`: that a chain has one end.
+//! - `lookup`: what is kept of each section, and the search for one.
+//! - `sections`: the code sections of an image, in the order of their addresses.
+//! - `reach`: the pass over one section.
+#![tactic(auto)]
+
+mod index;
+mod laws;
+mod lookup;
+mod memory;
+mod reach;
+mod sections;
+
+pub use index::ChainIndex;
+pub use laws::one_chain_end;
+pub use memory::Memory;
+
+#[cfg(test)]
+mod tests;

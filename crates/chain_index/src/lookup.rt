@@ -1,0 +1,71 @@
+//! Code sections with the reaches of their halfwords, looked up by address.
+
+ghost use Rattle.std.specs.Prelude.{◌≡◌, ℕ, ◌+◌, ◌-◌, ◌*◌, ◌/◌, ◌≤◌, ◌<◌, List, length, Some};
+ghost use Rattle.std.specs.Prelude.{IfSome, IfNone};
+ghost use Rattle.elf_image.specs.Code.{half_at};
+ghost use Rattle.chain_index.specs.Chain.{IsChainEnd};
+ghost use Rattle.chain_index.specs.Inner.{AreRight, AreFalling, IsCountAbove, BeginsAt};
+ghost use Rattle.chain_index.specs.Inner.{IsReachedAt, Reaches};
+
+use elf_image::{Image, Span, u16_at};
+
+/// A code section, and how far the chains of its halfwords reach.
+#[derive(Drop)]
+pub(crate) struct SectionReaches {
+    /// The address of its first byte in memory.
+    pub(crate) address: u64,
+    /// Where its bytes begin in the file.
+    pub(crate) offset: u64,
+    /// Of each of its halfwords, how many halfwords the last address of the chain lies ahead.
+    pub(crate) reaches: Vec<u32>,
+}
+
+impl SectionReaches {
+    /// How many halfwords the end of the chain of its address `a` lies ahead.
+    pub(crate) fn reach(&self, a: u64) -> u32
+        requires start { self.now.address ≤ a }
+        requires within { (a - self.now.address) / 2 < length self.now.reaches.items }
+        ensures { (bytes : List ℕ) → IsReachedAt bytes a self.now
+            → IsChainEnd bytes a (a + 2 * result) }
+    {
+        self.reaches[((a - self.address) / 2) as usize]
+    }
+
+    /// The halfword at its address `a`.
+    pub(crate) fn half(&self, image: &Image, a: u64) -> u16
+        requires { IsReachedAt image.now a self.now }
+        ensures { half_at image.now a ≡ Some result }
+    {
+        let at = self.offset + (a - self.address);
+        let bytes = image.bytes(Span {
+            at: at as u32,
+            len: 2,
+        });
+        u16_at(bytes, 0)
+    }
+}
+
+/// How many of the sections begin above `a`: the next one, where there is one, is the last that
+/// begins at `a` or before.
+pub(crate) fn count_above(sections: &[SectionReaches], a: u64) -> usize
+    requires { AreFalling sections.now }
+    ensures { IsCountAbove sections.now a result }
+{
+    sections.partition_point(|s| s.address > a)
+}
+
+/// How far the chain of the address `a` reaches, where one of the sections begins there.
+pub(crate) fn first_reach(sections: &[SectionReaches], a: u64) -> Option<u32>
+    requires { AreFalling sections.now }
+    ensures some { IfSome result
+        (λ _. (bytes : List ℕ) → AreRight bytes sections.now → Reaches bytes a result) }
+    ensures none { IfNone result
+        ((bytes : List ℕ) → AreRight bytes sections.now → BeginsAt sections.now a → ⊥) }
+{
+    let s = sections.get(count_above(sections, a))?;
+    if s.address == a {
+        s.reaches.first().copied()
+    } else {
+        None
+    }
+}

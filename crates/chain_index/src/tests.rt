@@ -1,0 +1,72 @@
+//! Sections that join, of even and odd sizes, and a word that two sections share.
+
+use super::*;
+use elf_image::{ElfError, Image};
+use std::alloc::Global;
+use std::test::Fail;
+
+/// Six code sections, not in the order of their addresses. At 10000 (hexadecimal): `addi x0, x0, 0`
+/// and two `c.nop`; at 10008: `c.nop` and `addi x0, x0, 0`; at 1000E: `c.nop` and the lower half of
+/// `addi x0, x0, 0`, whose upper half is the first of the section at 10012, then `c.nop` and a
+/// single byte; at 10018: `c.jr x1`; at 10020: `c.nop`.
+const FILE: [u8; 480] = [
+    0x7F, 0x45, 0x4C, 0x46, 2, 1, 1, 0, 0, 0, 0, 0, 0, 0, 0, 0, 2, 0, 0xF3, 0, 1, 0, 0, 0, 0, 0, 1,
+    0, 0, 0, 0, 0, 0, 0, 0, 0, 0, 0, 0, 0, 0x60, 0, 0, 0, 0, 0, 0, 0, 0, 0, 0, 0, 0x40, 0, 0, 0, 0,
+    0, 0x40, 0, 6, 0, 0, 0, 0x13, 0, 0, 0, 1, 0, 1, 0, 1, 0, 0x13, 0, 0, 0, 1, 0, 0x13, 0, 0, 0, 1,
+    0, 1, 0x82, 0x80, 1, 0, 0, 0, 0, 0, 0, 0, 0, 0, 0, 1, 0, 0, 0, 6, 0, 0, 0, 0, 0, 0, 0, 0xE, 0,
+    1, 0, 0, 0, 0, 0, 0x4E, 0, 0, 0, 0, 0, 0, 0, 4, 0, 0, 0, 0, 0, 0, 0, 0, 0, 0, 0, 0, 0, 0, 0, 1,
+    0, 0, 0, 0, 0, 0, 0, 0, 0, 0, 0, 0, 0, 0, 0, 0, 0, 0, 0, 1, 0, 0, 0, 6, 0, 0, 0, 0, 0, 0, 0, 0,
+    0, 1, 0, 0, 0, 0, 0, 0x40, 0, 0, 0, 0, 0, 0, 0, 8, 0, 0, 0, 0, 0, 0, 0, 0, 0, 0, 0, 0, 0, 0, 0,
+    1, 0, 0, 0, 0, 0, 0, 0, 0, 0, 0, 0, 0, 0, 0, 0, 0, 0, 0, 0, 1, 0, 0, 0, 6, 0, 0, 0, 0, 0, 0, 0,
+    0x20, 0, 1, 0, 0, 0, 0, 0, 0x59, 0, 0, 0, 0, 0, 0, 0, 2, 0, 0, 0, 0, 0, 0, 0, 0, 0, 0, 0, 0, 0,
+    0, 0, 1, 0, 0, 0, 0, 0, 0, 0, 0, 0, 0, 0, 0, 0, 0, 0, 0, 0, 0, 0, 1, 0, 0, 0, 6, 0, 0, 0, 0, 0,
+    0, 0, 8, 0, 1, 0, 0, 0, 0, 0, 0x48, 0, 0, 0, 0, 0, 0, 0, 6, 0, 0, 0, 0, 0, 0, 0, 0, 0, 0, 0, 0,
+    0, 0, 0, 1, 0, 0, 0, 0, 0, 0, 0, 0, 0, 0, 0, 0, 0, 0, 0, 0, 0, 0, 0, 1, 0, 0, 0, 6, 0, 0, 0, 0,
+    0, 0, 0, 0x18, 0, 1, 0, 0, 0, 0, 0, 0x57, 0, 0, 0, 0, 0, 0, 0, 2, 0, 0, 0, 0, 0, 0, 0, 0, 0, 0,
+    0, 0, 0, 0, 0, 1, 0, 0, 0, 0, 0, 0, 0, 0, 0, 0, 0, 0, 0, 0, 0, 0, 0, 0, 0, 1, 0, 0, 0, 6, 0, 0,
+    0, 0, 0, 0, 0, 0x12, 0, 1, 0, 0, 0, 0, 0, 0x52, 0, 0, 0, 0, 0, 0, 0, 5, 0, 0, 0, 0, 0, 0, 0, 0,
+    0, 0, 0, 0, 0, 0, 0, 1, 0, 0, 0, 0, 0, 0, 0, 0, 0, 0, 0, 0, 0, 0, 0,
+];
+
+/// Code addresses, where their chains end, and where control goes straight on to.
+const CASES: [(u64, u64, Option<u64>); 13] = [
+    (0x10000, 0x10010, Some(0x10004)),
+    (0x10002, 0x10002, None),
+    (0x10004, 0x10010, Some(0x10006)),
+    (0x10006, 0x10010, Some(0x10008)),
+    (0x10008, 0x10010, Some(0x1000A)),
+    (0x1000A, 0x10010, Some(0x1000E)),
+    (0x1000C, 0x1000C, None),
+    (0x1000E, 0x10010, Some(0x10010)),
+    (0x10010, 0x10010, None),
+    (0x10012, 0x10012, None),
+    (0x10014, 0x10014, None),
+    (0x10018, 0x10018, None),
+    (0x10020, 0x10020, None),
+];
+
+fn image(alloc: Global) -> Result<Image, ElfError> {
+    let bytes = Vec::from_slice(alloc, &FILE).map_err(|_| ElfError::Memory)?;
+    Image::parse(alloc, bytes)
+}
+
+/// The index may be shared between threads.
+fn shared<T: Sync>(_value: &T) {}
+
+#[test]
+fn chains_end_across_sections(rt: HostRuntime) -> Result<(), Fail> {
+    let image = image(rt.alloc())?;
+    let index = ChainIndex::new(rt.alloc(), &image)?;
+    shared(&index);
+    for (a, end, next) in CASES {
+        assert!(rt; image.is_code(a));
+        assert_eq!(rt; index.term(a), end, "the end of the chain of {a}");
+        assert_eq!(rt; index.next(a), next, "the address behind {a}");
+    }
+    Ok(())
+}
+
+#[test]
+fn laws_hold() {
+    one_chain_end();
+}

@@ -1,8 +1,0 @@
-use Rattle.std.proofs.Common.{◌<◌, length, arith}
-use Rattle.jump_table.proofs.Writes.{held-set}
-use Rattle.jump_table.proofs.values.Registers.with.Goals as goal
-
-pub returns : goal.returns
-returns c =
-    let within : c.args.rd < length c.args.self.values = omega (arith, c.args.self.whole) in
-    held-set c.args.self.values c.args.rd c.args.value within

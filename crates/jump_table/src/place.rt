@@ -1,0 +1,111 @@
+//! Where a jump table stands.
+
+ghost use Rattle.std.specs.Prelude.{◌≡◌, ◌+◌, ◌-◌, ◌*◌, ◌<◌, ◌≤◌};
+ghost use Rattle.jump_table.specs.Inner.Operands.{IsRegister};
+ghost use Rattle.jump_table.specs.Inner.Near.{IsNear};
+ghost use Rattle.jump_table.specs.Table.{place_of, place_by_test};
+ghost use Rattle.jump_table.specs.Table.{bounded_place, place_from, open_place};
+
+use crate::approach::{Approach, MOST_PARCELS};
+use crate::bound::{BoundTest, bound_test};
+use crate::run::value_behind;
+use crate::values::{Registers, Value};
+use crate::width::Width;
+
+/// How many entries of a table may count that has no bound test.
+const MOST_OPEN_ENTRIES: u32 = 1024;
+
+/// Where a jump table stands, whose entries are not counted yet.
+#[derive(Clone, Copy)]
+pub(crate) struct Place {
+    /// The address of the first entry.
+    pub(crate) base: u64,
+    /// The size of an entry.
+    pub(crate) width: Width,
+    /// What is added to an entry.
+    pub(crate) add: u64,
+    /// How many entries may count.
+    pub(crate) bound: u32,
+    /// Whether it was found without a bound test.
+    pub(crate) is_open: bool,
+}
+
+/// Where the table of the jump through `register` would stand by its bound test.
+pub(crate) fn bounded_place(way: &Approach, register: u8) -> Option<Place>
+    requires { IsRegister register }
+    ensures { result ≡ bounded_place way.now.image.now way.now.start way.now.jump register }
+{
+    place_by_test(way, bound_test(way)?, register)
+}
+
+// Where the table would stand by this bound test of the jump.
+fn place_by_test(way: &Approach, test: BoundTest, register: u8) -> Option<Place>
+    requires near { IsNear way.now.start way.now.jump test.at }
+    requires index { IsRegister test.index }
+    requires register { IsRegister register }
+    ensures { result ≡ place_by_test way.now.image.now way.now.start way.now.jump register test }
+{
+    let parcels = (way.jump - (test.at + 4)) as usize / 2;
+    let value = value_behind(
+        way,
+        parcels,
+        Registers::at_test(test.index),
+        false,
+        register,
+    )?;
+    place_of(false, test.bound?, value)
+}
+
+/// Where the table of the jump through `register` would stand without a bound test: by the run
+/// nearest to the jump, from 4 up to 64 bytes before it, that tells a place. No other is tried.
+pub(crate) fn open_place(way: &Approach, register: u8) -> Option<Place>
+    requires { IsRegister register }
+    ensures { result ≡ open_place way.now.image.now way.now.start way.now.jump register }
+{
+    for parcels in 2..=MOST_PARCELS {
+        if way.jump - way.start < 2 * parcels as u64 {
+            return None;
+        }
+        if let Some(place) = place_from(way, parcels, register) {
+            return Some(place);
+        }
+    }
+    None
+}
+
+// Where the table would stand by the run that begins so many parcels before the jump.
+fn place_from(way: &Approach, parcels: usize, register: u8) -> Option<Place>
+    requires few { parcels < 33 }
+    requires inside { way.now.start + 2 * parcels ≤ way.now.jump }
+    requires register { IsRegister register }
+    ensures { result
+        ≡ place_from way.now.image.now way.now.start way.now.jump register
+        (way.now.jump - 2 * parcels) }
+{
+    let value = value_behind(way, parcels, Registers::unknown(), true, register)?;
+    place_of(true, MOST_OPEN_ENTRIES, value)
+}
+
+// Where the table stands of which `bound` entries may count: the value of the jump's register tells
+// it.
+fn place_of(is_open: bool, bound: u32, value: Value) -> Option<Place>
+    ensures { result ≡ place_of is_open bound value }
+{
+    match value {
+        Value::Entry(base, width) => Some(Place {
+            base,
+            width,
+            add: 0,
+            bound,
+            is_open,
+        }),
+        Value::EntryPlus { table, width, add } => Some(Place {
+            base: table,
+            width,
+            add,
+            bound,
+            is_open,
+        }),
+        _ => None,
+    }
+}
