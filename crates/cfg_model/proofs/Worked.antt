@@ -4,3 +4,4 @@ pub mod StateRows
 pub mod SelfCallRow
 pub mod WaitRow
 pub mod GraphRows
+pub mod TableFacts

@@ -7,16 +7,13 @@ ghost use Rattle.cfg_model.specs.Program.Meeting.{IsMeeting};
 
 use crate::flow::{Chains, Flow};
 
-/// The terminator of the chain of `a`, its last address. It takes time linear in the chain.
+/// The terminator of the chain of `a`, its last address, as the program itself finds it: see
+/// [`Chains::term`].
 pub fn term<C: Chains>(code: &C, a: u64) -> u64
     requires { IsSome (C.map code.now a) }
     ensures { IsTerminatorOf (C.map code.now) a result }
 {
-    let mut k = a;
-    while let Some(next) = behind(code, k) {
-        k = next;
-    }
-    k
+    code.term(a)
 }
 
 /// Whether `k` is on the chain of `s`. It takes time linear in the chain of `s` up to `k`.
@@ -69,7 +66,8 @@ fn climb<C: Chains>(code: &C, s: u64, k: u64) -> u64
     ensures lawful { IsLawful (C.map code.now) }
     ensures known { IsSome (C.map code.now result) }
     ensures on_chain { OnChain (C.map code.now) s result }
-    ensures ahead { (x : ℕ) → k ≤ x → OnChain (C.map code.now) s x → OnChain (C.map code.now) result x }
+    ensures ahead { (x : ℕ) → k ≤ x → OnChain (C.map code.now) s x
+        → OnChain (C.map code.now) result x }
     ensures found { OnChain (C.map code.now) s k → result ≡ k }
 {
     let mut at = s;

@@ -1,5 +1,6 @@
 //! The control flow of one instruction, and a program as a map of them.
 
+use crate::memory::Memory;
 use std::marker::Sync;
 
 /// Where control goes from one instruction. Every address is that of an instruction of the program.
@@ -29,11 +30,12 @@ pub enum Flow {
     IndirectCall {
         fall: Option<u64>,
     },
-    /// A jump through a table of `entries` kept targets; `full` says that these are as many as the
-    /// bound test in front of the jump allows.
+    /// A jump through a table of `entries` kept targets. `full` says that these are as many as the
+    /// table's bound allows, and `is_open` that no bound test was found in front of the jump.
     Table {
         entries: u32,
         full: bool,
+        is_open: bool,
     },
     /// A return from the function.
     Return,
@@ -46,8 +48,11 @@ pub enum Flow {
 /// A program: a finite map from the addresses of its instructions to their length, their flow and,
 /// for a table jump, the kept targets. The map is lawful: see `specs/Program/Instructions.antt`.
 pub trait Chains: Sync {
-    ghost use Rattle.std.specs.Prelude.{◌≡◌, ◌<◌, ◌↔◌, IsTrue, IsSome, Some, slice_get, length};
-    ghost use Rattle.cfg_model.specs.Program.Instructions.{InstructionMap, IsLawful, flow_at, length_at, targets_at};
+    ghost use Rattle.std.specs.Prelude.{◌≡◌, ◌<◌, ◌↔◌, IsTrue, IsSome, Some, IfOk};
+    ghost use Rattle.std.specs.Prelude.{slice_get, length};
+    ghost use Rattle.cfg_model.specs.Program.Instructions.{InstructionMap, IsLawful};
+    ghost use Rattle.cfg_model.specs.Program.Instructions.{flow_at, length_at, targets_at};
+    ghost use Rattle.cfg_model.specs.Program.Chain.{IsTerminatorOf};
 
     /// The instructions, by address.
     ghost map: { Self → InstructionMap };
@@ -74,4 +79,25 @@ pub trait Chains: Sync {
         requires { i < length (targets_at (map self.now) a) }
         ensures target { slice_get (targets_at (map self.now) a) i ≡ Some result }
         ensures lawful { IsLawful (map self.now) };
+
+    /// The kept targets of the table jump at `a`, in the order of the table; none of any other
+    /// instruction. [`Memory`] where memory ran out.
+    fn targets(&self, a: u64) -> Result<Vec<u64>, Memory>
+        requires { IsSome (map self.now a) }
+        ensures targets { IfOk result (λ v. v.items ≡ targets_at (map self.now) a) }
+        ensures lawful { IsLawful (map self.now) };
+
+    /// The terminator of the chain of `a`, its last address. Where a program has no shorter way it
+    /// is found by walking the chain, in time linear in it.
+    fn term(&self, a: u64) -> u64
+        requires { IsSome (map self.now a) }
+        ensures term { IsTerminatorOf (map self.now) a result }
+        ensures lawful { IsLawful (map self.now) }
+    {
+        let mut k = a;
+        while let Flow::Straight { next } = self.flow(k) {
+            k = next;
+        }
+        k
+    }
 }

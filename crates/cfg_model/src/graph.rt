@@ -25,6 +25,9 @@ pub enum EndKind {
     Table,
     /// A jump through a table, of which fewer entries are kept than its bound test allows.
     TableCut,
+    /// A jump through a table without a bound test: more entries may be in use than are in the
+    /// graph, and fewer.
+    TableOpen,
     /// A jump whose target is not known.
     Unknown,
     /// Execution does not go on.
@@ -181,7 +184,8 @@ impl Edges {
     /// Sets the kind of edge number `i`, and leaves all else as it is.
     pub fn set_kind(&mut self, i: usize, kind: EdgeKind)
         requires { i < length self.old }
-        ensures { IfSome (slice_get self.old i) (λ edge. self.new ≡ slice_set self.old i (record edge { kind = kind })) }
+        ensures { IfSome (slice_get self.old i)
+            (λ edge. self.new ≡ slice_set self.old i (record edge { kind = kind })) }
     {
         self.items[i].kind = kind;
     }

@@ -28,5 +28,5 @@ pub use graph::{
 };
 pub use laws::{one_graph, one_map_of_cuts, parts_are_blocks};
 pub use memory::Memory;
-pub use outline::{add_edges, block_of, edges_in_order};
+pub use outline::{add_edges, add_edges_by, block_by, block_of, edges_in_order};
 pub use state::{Mark, WaitKind, Waiter};

@@ -1,12 +1,13 @@
 //! Blocks and edges, read off the last instruction of a block.
 
-ghost use Rattle.std.specs.Prelude.{◌≡◌, ◌↔◌, ◌⊎◌, ℕ, AllPairs, Contains, IsSome, IsTrue, OnOk, length};
+ghost use Rattle.std.specs.Prelude.{◌≡◌, ◌↔◌, ◌⊎◌, ℕ, AllPairs, Contains};
+ghost use Rattle.std.specs.Prelude.{IsSome, IsTrue, OnOk, Some};
 ghost use Rattle.cfg_model.specs.Graph.Block.{end_kind, IsBlockOf};
 ghost use Rattle.cfg_model.specs.Graph.Edge.{Leaves};
 ghost use Rattle.cfg_model.specs.Graph.Graph.{EdgeBefore};
 ghost use Rattle.cfg_model.specs.Graph.Listing.{Gains};
 ghost use Rattle.cfg_model.specs.Inner.Ways.{edge_to, IsEdgeTo};
-ghost use Rattle.cfg_model.specs.Program.Instructions.{IsLawful, targets_at};
+ghost use Rattle.cfg_model.specs.Program.Instructions.{IsLawful, flow_at, targets_at};
 
 use crate::flow::{Chains, Flow};
 use crate::graph::{Block, Edge, EdgeKind, EndKind};
@@ -18,12 +19,21 @@ pub fn block_of<C: Chains>(code: &C, s: u64, k: u64) -> Block
     ensures lawful { IsLawful (C.map code.now) }
     ensures block { IsBlockOf (C.map code.now) s k result }
 {
-    let kind = end_kind_of(code.flow(k));
+    block_by(code, s, k, code.flow(k))
+}
+
+/// The block from `s` to the instruction at `k`, whose flow this is.
+pub fn block_by<C: Chains>(code: &C, s: u64, k: u64, flow: Flow) -> Block
+    requires stands { IsSome (C.map code.now k) }
+    requires flow { flow_at (C.map code.now) k ≡ Some flow }
+    ensures lawful { IsLawful (C.map code.now) }
+    ensures block { IsBlockOf (C.map code.now) s k result }
+{
     let end = k + u64::from(code.length(k));
     Block {
         start: s,
         end,
-        kind,
+        kind: end_kind_of(flow),
     }
 }
 
@@ -41,17 +51,26 @@ fn end_kind_of(flow: Flow) -> EndKind
         Flow::Jump { .. } => EndKind::Jump,
         Flow::Call { .. } => EndKind::Call,
         Flow::IndirectCall { .. } => EndKind::IndirectCall,
-        Flow::Table { full: true, .. } => EndKind::Table,
-        Flow::Table { full: false, .. } => EndKind::TableCut,
+        Flow::Table { is_open: true, .. } => EndKind::TableOpen,
+        Flow::Table {
+            full: true,
+            is_open: false,
+            ..
+        } => EndKind::Table,
+        Flow::Table {
+            full: false,
+            is_open: false,
+            ..
+        } => EndKind::TableCut,
         Flow::Return => EndKind::Return,
         Flow::Unknown => EndKind::Unknown,
         Flow::Stop => EndKind::Stop,
     }
 }
 
-/// Adds the edges of the block that starts at `s` and whose last instruction stands at `k`. Where that
-/// is a call of a known address, `returns` says whether its target returns. [`Memory`] where memory ran
-/// out.
+/// Adds the edges of the block that starts at `s` and whose last instruction stands at `k`. Where
+/// that is a call of a known address, `returns` says whether its target returns. [`Memory`] where
+/// memory ran out.
 pub fn add_edges<C: Chains>(
     code: &C,
     s: u64,
@@ -60,22 +79,41 @@ pub fn add_edges<C: Chains>(
     edges: &mut Vec<Edge>,
 ) -> Result<(), Memory>
     requires { IsSome (C.map code.now k) }
-    ensures { OnOk result (Gains edges.old.items edges.new.items (Leaves (C.map code.now) (λ _. IsTrue returns) s k)) }
+    ensures { OnOk result (Gains edges.old.items edges.new.items
+        (Leaves (C.map code.now) (λ _. IsTrue returns) s k)) }
 {
-    match code.flow(k) {
+    add_edges_by(code, s, k, code.flow(k), returns, edges)
+}
+
+/// The same, where `flow` is the flow of the instruction at `k`.
+pub fn add_edges_by<C: Chains>(
+    code: &C,
+    s: u64,
+    k: u64,
+    flow: Flow,
+    returns: bool,
+    edges: &mut Vec<Edge>,
+) -> Result<(), Memory>
+    requires lawful { IsLawful (C.map code.now) }
+    requires flow { flow_at (C.map code.now) k ≡ Some flow }
+    ensures { OnOk result (Gains edges.old.items edges.new.items
+        (Leaves (C.map code.now) (λ _. IsTrue returns) s k)) }
+{
+    match flow {
         Flow::Straight { next } => add_edge(s, EdgeKind::Fall, next, edges),
         Flow::Branch { taken, fall } => add_branch(s, taken, fall, edges),
         Flow::Jump { target } => add_edge(s, EdgeKind::Jump, target, edges),
         Flow::Call { target, fall } => add_call(s, target, fall, returns, edges),
         Flow::IndirectCall { fall } => add_some(s, EdgeKind::After, fall, edges),
-        Flow::Table { entries, .. } => add_table(code, s, k, entries, edges),
+        Flow::Table { .. } => add_table(code, s, k, edges),
         Flow::Return | Flow::Unknown | Flow::Stop => Ok(()),
     }
 }
 
 /// Adds this edge.
 fn add_edge(from: u64, kind: EdgeKind, to: u64, edges: &mut Vec<Edge>) -> Result<(), Memory>
-    ensures { OnOk result (Gains edges.old.items edges.new.items (λ edge. edge ≡ edge_to from kind to)) }
+    ensures { OnOk result
+        (Gains edges.old.items edges.new.items (λ edge. edge ≡ edge_to from kind to)) }
 {
     edges.push(Edge { from, to, kind })?;
     Ok(())
@@ -98,7 +136,8 @@ fn add_branch(
     fall: Option<u64>,
     edges: &mut Vec<Edge>,
 ) -> Result<(), Memory>
-    ensures { OnOk result (Gains edges.old.items edges.new.items (λ edge. IsEdgeTo from EdgeKind.Taken taken edge ⊎ IsEdgeTo from EdgeKind.Fall fall edge)) }
+    ensures { OnOk result (Gains edges.old.items edges.new.items
+        (λ edge. IsEdgeTo from EdgeKind.Taken taken edge ⊎ IsEdgeTo from EdgeKind.Fall fall edge)) }
 {
     add_some(from, EdgeKind::Taken, taken, edges)?;
     add_some(from, EdgeKind::Fall, fall, edges)
@@ -112,7 +151,9 @@ fn add_call(
     returns: bool,
     edges: &mut Vec<Edge>,
 ) -> Result<(), Memory>
-    ensures { OnOk result (Gains edges.old.items edges.new.items (λ edge. (edge ≡ edge_to from EdgeKind.Call target) ⊎ (IsTrue returns × IsEdgeTo from EdgeKind.After fall edge))) }
+    ensures { OnOk result
+        (Gains edges.old.items edges.new.items (λ edge. (edge ≡ edge_to from EdgeKind.Call target)
+        ⊎ (IsTrue returns × IsEdgeTo from EdgeKind.After fall edge))) }
 {
     add_edge(from, EdgeKind::Call, target, edges)?;
     if returns {
@@ -123,21 +164,16 @@ fn add_call(
 }
 
 /// Of a table jump at `k`: its kept targets.
-fn add_table<C: Chains>(
-    code: &C,
-    from: u64,
-    k: u64,
-    entries: u32,
-    edges: &mut Vec<Edge>,
-) -> Result<(), Memory>
-    requires { entries ≡ length (targets_at (C.map code.now) k) }
-    ensures { OnOk result (Gains edges.old.items edges.new.items (λ edge. (to : ℕ) × Contains (targets_at (C.map code.now) k) to × (edge ≡ edge_to from EdgeKind.Table to))) }
+fn add_table<C: Chains>(code: &C, from: u64, k: u64, edges: &mut Vec<Edge>) -> Result<(), Memory>
+    requires { IsSome (C.map code.now k) }
+    ensures { OnOk result (Gains edges.old.items edges.new.items (λ edge. (to : ℕ)
+        × Contains (targets_at (C.map code.now) k) to × (edge ≡ edge_to from EdgeKind.Table to))) }
 {
-    for i in 0..entries {
-        let to = code.target(k, i);
+    let targets = code.targets(k)?;
+    for to in &targets {
         edges.push(Edge {
             from,
-            to,
+            to: *to,
             kind: EdgeKind::Table,
         })?;
     }

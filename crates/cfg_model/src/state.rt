@@ -17,8 +17,8 @@ pub enum Mark {
 pub enum WaitKind {
     /// It returns when the terminator that it waits at does.
     Follow,
-    /// It is a call, the chain of its target ends at the terminator that it waits at, and the return
-    /// of that one frees the call's fall.
+    /// It is a call, the chain of its target ends at the terminator that it waits at, and the
+    /// return of that one frees the call's fall.
     Release,
 }
 

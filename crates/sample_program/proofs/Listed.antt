@@ -49,7 +49,7 @@ module _ (slots : List Place) (targets : List ℕ) where
   flow_from_fits a bytes (Jump target) h = refl
   flow_from_fits a bytes (Call target fall) h = refl
   flow_from_fits a bytes (IndirectCall fall) h = refl
-  flow_from_fits a bytes (Table entries full) h = table_fits entries h
+  flow_from_fits a bytes (Table entries full is_open) h = table_fits entries h
   flow_from_fits a bytes Return h = refl
   flow_from_fits a bytes Unknown h = refl
   flow_from_fits a bytes Stop h = refl
@@ -83,7 +83,7 @@ module _ (slots : List Place) (targets : List ℕ) where
   flow_keeps (Jump target) i h = absurd (omega arith)
   flow_keeps (Call target fall) i h = absurd (omega arith)
   flow_keeps (IndirectCall fall) i h = absurd (omega arith)
-  flow_keeps (Table entries full) i h = refl
+  flow_keeps (Table entries full is_open) i h = refl
   flow_keeps Return i h = absurd (omega arith)
   flow_keeps Unknown i h = absurd (omega arith)
   flow_keeps Stop i h = absurd (omega arith)

@@ -1,4 +1,5 @@
--- A program given as lists, and tests of the lists that say that it is a lawful one with these seeds.
+-- A program given as lists, and tests of the lists that say that it is a lawful one with these
+-- seeds.
 use Rattle.std.specs.Prelude.{ℕ, ◌+◌, ◌^◌, ◌==◌, nat_lt, suc, Bool, true, false, ◌&&◌, ◌||◌}
 use Rattle.std.specs.Prelude.{List, [], ◌∷◌, length, Option, Some, None, is_some, slice_index_or}
 use Rattle.std.specs.List.{list_all}
@@ -17,7 +18,7 @@ slot_at slots a = slice_index_or slots a None
 
 -- The kept targets of a flow, where every table jump keeps these.
 abbrev pub kept_by : List ℕ → Flow → List ℕ
-kept_by targets (Table entries full) = targets
+kept_by targets (Table entries full is_open) = targets
 kept_by targets _ = []
 
 -- The program whose instruction at address a is item a of the list.
@@ -34,7 +35,7 @@ are_known slots targets named = list_all (λ b. is_some (listed_at slots targets
 -- there, and a table jump keeps as many targets as it says, at least one.
 abbrev pub flow_fits : List ℕ → ℕ → Flow → Bool
 flow_fits targets end (Straight next) = next == end
-flow_fits targets end (Table entries full) = (entries == length targets) && nat_lt 0 entries
+flow_fits targets end (Table entries full is_open) = (entries == length targets) && nat_lt 0 entries
 flow_fits targets end _ = true
 
 -- Test of one address: an instruction there has 2 or 4 bytes and ends below 2^64, its flow fits it,

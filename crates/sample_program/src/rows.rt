@@ -2,6 +2,7 @@
 
 use crate::sample::{Sample, Slot};
 use cfg_model::Flow;
+use std::alloc::Global;
 
 /// No instruction starts at the address.
 const GAP: Slot = None;
@@ -29,8 +30,9 @@ static ROW_6: [Slot; 13] = [
 ];
 
 /// Row 6: a branch back into its own block.
-pub fn row_6() -> Sample<'static> {
+pub fn row_6(alloc: Global) -> Sample<'static> {
     Sample {
+        alloc,
         slots: &ROW_6,
         targets: &[],
         seeds: &[0],
@@ -56,8 +58,9 @@ static ROW_8: [Slot; 9] = [
 ];
 
 /// Row 8: a second stream of instructions that is found late, and joins the first one at 4.
-pub fn row_8() -> Sample<'static> {
+pub fn row_8(alloc: Global) -> Sample<'static> {
     Sample {
+        alloc,
         slots: &ROW_8,
         targets: &[],
         seeds: &[0],
@@ -79,8 +82,9 @@ static ROW_9: [Slot; 5] = [
 ];
 
 /// Row 9: a function that calls itself, and so never returns.
-pub fn row_9() -> Sample<'static> {
+pub fn row_9(alloc: Global) -> Sample<'static> {
     Sample {
+        alloc,
         slots: &ROW_9,
         targets: &[],
         seeds: &[0],
@@ -126,8 +130,9 @@ static ROW_10: [Slot; 17] = [
 ];
 
 /// Row 10: two functions that call each other, and return.
-pub fn row_10() -> Sample<'static> {
+pub fn row_10(alloc: Global) -> Sample<'static> {
     Sample {
+        alloc,
         slots: &ROW_10,
         targets: &[],
         seeds: &[0],
@@ -149,8 +154,9 @@ static ROW_12: [Slot; 5] = [
 ];
 
 /// Row 12: a branch that is cut off, and whose fall jumps to itself.
-pub fn row_12() -> Sample<'static> {
+pub fn row_12(alloc: Global) -> Sample<'static> {
     Sample {
+        alloc,
         slots: &ROW_12,
         targets: &[],
         seeds: &[0],
@@ -179,10 +185,11 @@ static ROW_17: [Slot; 13] = [
     Some((4, Flow::Jump { target: 0 })),
 ];
 
-/// Row 17: a jump to the entry of its own function, and one to that entry from another function, which is a
-/// tail call.
-pub fn row_17() -> Sample<'static> {
+/// Row 17: a jump to the entry of its own function, and one to that entry from another function,
+/// which is a tail call.
+pub fn row_17(alloc: Global) -> Sample<'static> {
     Sample {
+        alloc,
         slots: &ROW_17,
         targets: &[],
         seeds: &[0, 12],
@@ -195,6 +202,7 @@ static TABLE_JUMP: [Slot; 5] = [
         Flow::Table {
             entries: 3,
             full: true,
+            is_open: false,
         },
     )),
     GAP,
@@ -204,8 +212,9 @@ static TABLE_JUMP: [Slot; 5] = [
 ];
 
 /// A table jump with two targets, one of which is kept twice.
-pub fn table_jump() -> Sample<'static> {
+pub fn table_jump(alloc: Global) -> Sample<'static> {
     Sample {
+        alloc,
         slots: &TABLE_JUMP,
         targets: &[4, 2, 4],
         seeds: &[0],
@@ -218,6 +227,7 @@ static CUT_TABLE: [Slot; 5] = [
         Flow::Table {
             entries: 3,
             full: false,
+            is_open: false,
         },
     )),
     GAP,
@@ -227,8 +237,9 @@ static CUT_TABLE: [Slot; 5] = [
 ];
 
 /// The same table jump where its table was cut.
-pub fn cut_table() -> Sample<'static> {
+pub fn cut_table(alloc: Global) -> Sample<'static> {
     Sample {
+        alloc,
         slots: &CUT_TABLE,
         targets: &[4, 2, 4],
         seeds: &[0],

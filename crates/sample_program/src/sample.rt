@@ -5,16 +5,19 @@ ghost use Rattle.cfg_model.specs.Program.Instructions.{IsLawful};
 ghost use Rattle.cfg_model.specs.Program.Reach.{AreSeeds};
 ghost use Rattle.sample_program.specs.Listed.{slot_at, listed_at, are_lawful, are_seeds};
 
-use cfg_model::{Chains, Flow};
+use cfg_model::{Chains, Flow, Memory};
+use std::alloc::Global;
 
 /// What stands at an address: the length of an instruction, in bytes, and its flow. `None` where no
 /// instruction starts.
 pub type Slot = Option<(u8, Flow)>;
 
-/// A program with its seeds. Both lists of it were tested: the instructions are a lawful program, and
-/// the seeds rise and are addresses of instructions.
+/// A program with its seeds. Both lists of it were tested: the instructions are a lawful program,
+/// and the seeds rise and are addresses of instructions.
 #[derive(Drop)]
 pub struct Sample<'a> {
+    /// Where lists of targets are made.
+    pub alloc: Global,
     /// What stands at each address, from 0 on.
     pub slots: &'a [Slot],
     /// The kept targets of every table jump.
@@ -69,5 +72,12 @@ impl Chains for Sample<'_> {
 
     fn target(&self, _a: u64, i: u32) -> u64 {
         self.targets[i as usize]
+    }
+
+    fn targets(&self, a: u64) -> Result<Vec<u64>, Memory> {
+        match self.slot(a) {
+            Some((_, Flow::Table { .. })) => Ok(Vec::from_slice(self.alloc, self.targets)?),
+            _ => Ok(Vec::new(self.alloc)),
+        }
     }
 }

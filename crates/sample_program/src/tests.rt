@@ -2,19 +2,20 @@
 
 use crate::{Sample, cut_table, row_6, row_8, row_9, row_10, row_12, row_17, table_jump};
 use cfg_model::{Chains, Flow, before, meet, on_chain, term};
+use std::test::Fail;
 
 /// Where instructions stand in each of the programs, and which of them are seeds.
 #[test]
 fn instructions(rt: HostRuntime) {
     let programs: [(Sample, &[u64], &[u64]); 8] = [
-        (row_6(), &[0, 4, 8, 12], &[0]),
-        (row_8(), &[0, 2, 4, 8], &[0]),
-        (row_9(), &[0, 4], &[0]),
-        (row_10(), &[0, 4, 8, 12, 16], &[0]),
-        (row_12(), &[0, 4], &[0]),
-        (row_17(), &[0, 4, 8, 12], &[0, 12]),
-        (table_jump(), &[0, 2, 4], &[0]),
-        (cut_table(), &[0, 2, 4], &[0]),
+        (row_6(rt.alloc()), &[0, 4, 8, 12], &[0]),
+        (row_8(rt.alloc()), &[0, 2, 4, 8], &[0]),
+        (row_9(rt.alloc()), &[0, 4], &[0]),
+        (row_10(rt.alloc()), &[0, 4, 8, 12, 16], &[0]),
+        (row_12(rt.alloc()), &[0, 4], &[0]),
+        (row_17(rt.alloc()), &[0, 4, 8, 12], &[0, 12]),
+        (table_jump(rt.alloc()), &[0, 2, 4], &[0]),
+        (cut_table(rt.alloc()), &[0, 2, 4], &[0]),
     ];
     for (code, addresses, seeds) in &programs {
         assert_eq!(rt; code.seeds(), *seeds);
@@ -26,25 +27,33 @@ fn instructions(rt: HostRuntime) {
 
 /// The flow and the length of an instruction, and the targets of a table jump.
 #[test]
-fn one_instruction(rt: HostRuntime) {
+fn one_instruction(rt: HostRuntime) -> Result<(), Fail> {
     let table = Flow::Table {
         entries: 2,
         full: true,
+        is_open: false,
     };
     let code = Sample {
+        alloc: rt.alloc(),
         slots: &[Some((2, table)), None, Some((4, Flow::Return))],
         targets: &[2, 0],
         seeds: &[0],
     };
     assert_eq!(rt; code.flow(0), table);
     assert_eq!(rt; code.length(2), 4);
-    assert_eq!(rt; code.target(0, 1), 0);
+    let targets = code.targets(0)?;
+    assert_eq!(rt; targets.as_slice(), [2, 0].as_slice());
+    for i in 0..2 {
+        assert_eq!(rt; code.target(0, i), targets[i as usize]);
+    }
+    assert!(rt; code.targets(2)?.is_empty());
+    Ok(())
 }
 
 /// Places on the chains of two streams of instructions that meet at 4.
 #[test]
 fn places_on_chains(rt: HostRuntime) {
-    let code = row_8();
+    let code = row_8(rt.alloc());
     assert!(rt; code.has(0) && code.has(2) && code.has(4));
     assert!(rt; on_chain(&code, 0, 4));
     assert!(rt; on_chain(&code, 2, 4));

@@ -112,7 +112,7 @@ module _ (map : InstructionMap) (seeds : List ℕ) (Less More : Fact → Type 0)
   wait_more k w r = record { entered = more _ r.entered; waiter = more _ r.waiter; depends = r.depends; callee = callee_more w.terminator w.kind r.callee }
 
   pub parsed_more : (s : ℕ) → ParsedReason map Less s → ParsedReason map More s
-  parsed_more s r = record { start = more _ r.start; end = r.end; ends = r.ends; anchored = more _ r.anchored; entered = more _ r.entered }
+  parsed_more s r = record { start = more _ r.start; at = r.at; anchored = more _ r.anchored; end = r.end; before = r.before; ends = r.ends; entered = more _ r.entered }
 
   pub terminator_more : (k : ℕ) → TerminatorReason map Less k → TerminatorReason map More k
   terminator_more k r = record { from = r.from; start = more _ r.start; ends = r.ends }

@@ -1,29 +1,33 @@
-//! What events keep of return status, of each shard and of what is known, and what a closed state shows.
-//! Each law is proved as the contract of a function that does nothing. It holds for every lawful program
-//! and all seeds, and speaks of all nine events.
+//! What events keep of return status, of each shard and of what is known, and what a closed state
+//! shows. Each law is proved as the contract of a function that does nothing. It holds for every
+//! lawful program and all seeds, and speaks of all nine events.
 #![tactic(auto)]
 
-ghost use Rattle.cfg_model.specs.Builder.Laws.{EventsKeepStatus, FactsLast, ReasonsLast, AllowedStaysAllowed, OwnShardStaysBacked, OtherShardsStay, OtherShardsStayBacked, KeptIsBacked, StepsStayInShard, PartsAreShown, FactsReadBack, ReasonsGrow, ClosedShowsGraph};
+ghost use Rattle.cfg_model.specs.Builder.Laws.{EventsKeepStatus, FactsLast, ReasonsLast};
+ghost use Rattle.cfg_model.specs.Builder.Laws.{AllowedStaysAllowed, OwnShardStaysBacked};
+ghost use Rattle.cfg_model.specs.Builder.Laws.{OtherShardsStay, OtherShardsStayBacked};
+ghost use Rattle.cfg_model.specs.Builder.Laws.{KeptIsBacked, StepsStayInShard, PartsAreShown};
+ghost use Rattle.cfg_model.specs.Builder.Laws.{FactsReadBack, ReasonsGrow, ClosedShowsGraph};
 
-/// Each allowed event keeps what the invariant says of return status: what is marked as returning returns,
-/// and waits, terminators that are dealt with and waiters that were told still have the reason to be. The
-/// law that an event keeps the whole invariant stands on it.
+/// Each allowed event keeps what the invariant says of return status: what is marked as returning
+/// returns, and waits, terminators that are dealt with and waiters that were told still have the
+/// reason to be. The law that an event keeps the whole invariant stands on it.
 pub fn events_keep_status()
     ensures { EventsKeepStatus }
 {}
 
-/// What is known of a state stays true under every allowed event, and so does the reason for another
-/// event, and what is allowed stays allowed. A builder relies on it that looks at one entry, lets others
-/// make their events, and then makes its own.
+/// What is known of a state stays true under every allowed event, and so does the reason for
+/// another event, and what is allowed stays allowed. A builder relies on it that looks at one
+/// entry, lets others make their events, and then makes its own.
 pub fn what_is_known_lasts()
     ensures facts { FactsLast }
     ensures reasons { ReasonsLast }
     ensures allowed { AllowedStaysAllowed }
 {}
 
-/// A state is kept exactly where each of its shards is backed. An event changes no shard but its own; an
-/// allowed one leaves its own shard backed, and every other one that was. Whoever keeps the shards under
-/// locks of their own relies on it, and looks at one shard at a time.
+/// A state is kept exactly where each of its shards is backed. An event changes no shard but its
+/// own; an allowed one leaves its own shard backed, and every other one that was. Whoever keeps the
+/// shards under locks of their own relies on it, and looks at one shard at a time.
 pub fn shards_stay_backed()
     ensures whole { KeptIsBacked }
     ensures own { OwnShardStaysBacked }
@@ -31,10 +35,10 @@ pub fn shards_stay_backed()
     ensures others { OtherShardsStayBacked }
 {}
 
-/// The entries of one shard by themselves are a state: an event of the whole is the same event of its own
-/// shard alone; what a shard shows, the whole shows; what the whole shows of a shard's own entries, the
-/// shard shows; and a reason by what a part shows is one by what the whole shows. Whoever looks at one
-/// shard at a time relies on it.
+/// The entries of one shard by themselves are a state: an event of the whole is the same event of
+/// its own shard alone; what a shard shows, the whole shows; what the whole shows of a shard's own
+/// entries, the shard shows; and a reason by what a part shows is one by what the whole shows.
+/// Whoever looks at one shard at a time relies on it.
 pub fn a_shard_is_a_state()
     ensures steps { StepsStayInShard }
     ensures shown { PartsAreShown }
@@ -42,9 +46,9 @@ pub fn a_shard_is_a_state()
     ensures reasons { ReasonsGrow }
 {}
 
-/// A closed state shows exactly the graph: the leaders, the first and last addresses of the blocks, the
-/// reachable terminators, and those of them that return. That the order of events does not matter stands
-/// on it.
+/// A closed state shows exactly the graph: the leaders, the first and last addresses of the blocks,
+/// the reachable terminators, and those of them that return. That the order of events does not
+/// matter stands on it.
 pub fn a_closed_state_shows_the_graph()
     ensures { ClosedShowsGraph }
 {}

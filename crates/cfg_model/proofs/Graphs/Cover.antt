@@ -67,7 +67,7 @@ module _ (map : InstructionMap) (seeds : List ℕ) where
   onward a b (Some (flows.Call target fall)) is from covered reached among = absurd (Contains-none b among)
   onward a b (Some (flows.IndirectCall fall)) is from covered reached among =
       fallen a b (flows.IndirectCall fall) is from reached (among_fall fall b among)
-  onward a b (Some (flows.Table entries full)) is from covered reached among = targeted a b (flows.Table entries full) is from reached among
+  onward a b (Some (flows.Table entries full is_open)) is from covered reached among = targeted a b (flows.Table entries full is_open) is from reached among
   onward a b (Some flows.Return) is from covered reached among = absurd (Contains-none b among)
   onward a b (Some flows.Unknown) is from covered reached among = absurd (Contains-none b among)
   onward a b (Some flows.Stop) is from covered reached among = absurd (Contains-none b among)

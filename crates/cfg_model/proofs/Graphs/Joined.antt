@@ -89,7 +89,7 @@ module _ (map : InstructionMap) (lawful : IsLawful map) (IsCut : ℕ → Type 0)
       by (flows.Jump target) is = none (ended s known (flow_ends s (flows.Jump target) is tt))
       by (flows.Call target fall) is = none (ended s known (flow_ends s (flows.Call target fall) is tt))
       by (flows.IndirectCall fall) is = none (ended s known (flow_ends s (flows.IndirectCall fall) is tt))
-      by (flows.Table entries full) is = none (ended s known (flow_ends s (flows.Table entries full) is tt))
+      by (flows.Table entries full is_open) is = none (ended s known (flow_ends s (flows.Table entries full is_open) is tt))
       by flows.Return is = none (ended s known (flow_ends s flows.Return is tt))
       by flows.Unknown is = none (ended s known (flow_ends s flows.Unknown is tt))
       by flows.Stop is = none (ended s known (flow_ends s flows.Stop is tt))
@@ -158,8 +158,8 @@ module _ (map : InstructionMap) (seeds : List ℕ) (lawful : IsLawful map) where
     leader = record { reached = Reached.past_call reached h back; starts = StartsBlock.past_call reached h back };
     known = fall_known map lawful k target to h;
   }
-  leads_leader {k} reached stops (LeadsTo.table {to = to} {entries = entries} {full = full} h c) =
-      onward_leads lawful reached (successor_from_flow map k (flows.Table entries full) h to c) (StartsBlock.target reached h c)
+  leads_leader {k} reached stops (LeadsTo.table {to = to} {entries = entries} {full = full} {is_open = is_open} h c) =
+      onward_leads lawful reached (successor_from_flow map k (flows.Table entries full is_open) h to c) (StartsBlock.target reached h c)
 
   edge_leader : (edge : Edge) → IsEdge map seeds edge → IsKnownLeader map seeds edge.to
   edge_leader edge is = leads_leader (reached_along is.from.reached is.ends.runs) next_leads is.leads

@@ -22,7 +22,7 @@ module _ (map : InstructionMap) (MayReturn : ℕ → Type 0) (s k : ℕ) where
   By (Some (Jump target)) edge = edge ≡ edge_to s kinds.Jump target
   By (Some (Call target fall)) edge = (edge ≡ edge_to s kinds.Call target) ⊎ (MayReturn target × IsEdgeTo s kinds.After fall edge)
   By (Some (IndirectCall fall)) edge = IsEdgeTo s kinds.After fall edge
-  By (Some (Table entries full)) edge = (to : ℕ) × Contains (targets_at map k) to × (edge ≡ edge_to s kinds.Table to)
+  By (Some (Table entries full is_open)) edge = (to : ℕ) × Contains (targets_at map k) to × (edge ≡ edge_to s kinds.Table to)
   By (Some Return) edge = ⊥
   By (Some Unknown) edge = ⊥
   By (Some Stop) edge = ⊥
@@ -57,7 +57,7 @@ module _ (map : InstructionMap) (MayReturn : ℕ → Type 0) (s k : ℕ) where
   by_leaves edge (Some (Jump target)) h way = leads_as target kinds.Jump edge way (LeadsTo.jump h)
   by_leaves edge (Some (Call target fall)) h way = call_leads target fall edge h way
   by_leaves edge (Some (IndirectCall fall)) h way = leads_some fall kinds.After edge (λ to e. LeadsTo.after_indirect (h ∙ ap (λ o. Some (IndirectCall o)) e)) way
-  by_leaves edge (Some (Table entries full)) h way = leads_as way.0 kinds.Table edge way.2 (LeadsTo.table h way.1)
+  by_leaves edge (Some (Table entries full is_open)) h way = leads_as way.0 kinds.Table edge way.2 (LeadsTo.table h way.1)
   by_leaves edge (Some Return) h way = absurd way
   by_leaves edge (Some Unknown) h way = absurd way
   by_leaves edge (Some Stop) h way = absurd way
@@ -75,7 +75,7 @@ way_by map MayReturn s o at (LeadsTo.jump {k = k} {to = to} h) = by_at map MayRe
 way_by map MayReturn s o at (LeadsTo.call {k = k} {to = to} {fall = fall} h) = by_at map MayReturn s k o (edge_to s kinds.Call to) (Call to fall) at h (inl refl)
 way_by map MayReturn s o at (LeadsTo.after_indirect {k = k} {to = to} h) = by_at map MayReturn s k o (edge_to s kinds.After to) (IndirectCall (Some to)) at h refl
 way_by map MayReturn s o at (LeadsTo.after_call {k = k} {target = target} {to = to} h back) = by_at map MayReturn s k o (edge_to s kinds.After to) (Call target (Some to)) at h (inr (back, refl))
-way_by map MayReturn s o at (LeadsTo.table {k = k} {to = to} {entries = entries} {full = full} h c) = by_at map MayReturn s k o (edge_to s kinds.Table to) (Table entries full) at h (to, c, refl)
+way_by map MayReturn s o at (LeadsTo.table {k = k} {to = to} {entries = entries} {full = full} {is_open = is_open} h c) = by_at map MayReturn s k o (edge_to s kinds.Table to) (Table entries full is_open) at h (to, c, refl)
 
 leaves_by : (map : InstructionMap) (MayReturn : ℕ → Type 0) (s k : ℕ) (o : Option Flow) → flow_at map k ≡ o → (edge : Edge) → Leaves map MayReturn s k edge → By map MayReturn s k o edge
 leaves_by map MayReturn s k o at edge leaves = subst (λ from. By map MayReturn s k o (record { from = from; to = edge.to; kind = edge.kind })) (sym leaves.from) (way_by map MayReturn s o at leaves.leads)

@@ -26,7 +26,7 @@ successors_known P kept (Branch taken fall) named all b h =
 successors_known P kept (Jump target) named all b h = All-contains P (target ∷ []) b named h
 successors_known P kept (Call target fall) named all b h = absurd (none_in b h)
 successors_known P kept (IndirectCall fall) named all b h = All-contains P (option_to_list fall) b named h
-successors_known P kept (Table entries full) named all b h = All-contains P kept b all h
+successors_known P kept (Table entries full is_open) named all b h = All-contains P kept b all h
 successors_known P kept Return named all b h = absurd (none_in b h)
 successors_known P kept Unknown named all b h = absurd (none_in b h)
 successors_known P kept Stop named all b h = absurd (none_in b h)
@@ -64,11 +64,11 @@ fall_known map lawful a target fall c =
 
 -- a table jump has as many kept targets as it says
 pub entries_kept :
-    (map : InstructionMap) → IsLawful map → (a entries : ℕ) (full : Bool) →
-    flow_at map a ≡ Some (Table entries full) → entries ≡ length (targets_at map a)
-entries_kept map lawful a entries full e =
-    let h = flow_inverted (map a) (Table entries full) e in
-    let fits : FlowFits a h.0 (Table entries full) =
+    (map : InstructionMap) → IsLawful map → (a entries : ℕ) (full is_open : Bool) →
+    flow_at map a ≡ Some (Table entries full is_open) → entries ≡ length (targets_at map a)
+entries_kept map lawful a entries full is_open e =
+    let h = flow_inverted (map a) (Table entries full is_open) e in
+    let fits : FlowFits a h.0 (Table entries full is_open) =
     subst (λ (f : Flow). FlowFits a h.0 f) h.2 (lawful a h.0 h.1).fits in
     rw h.1 fits.0
 

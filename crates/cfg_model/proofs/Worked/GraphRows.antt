@@ -145,10 +145,10 @@ inner_jump =
 -- Row 15: the table at 20000 is cut to two entries by the base at 20008, and that one is not cut.
 
 abbrev first : Extent
-first = record { base = 0x20000; count = 4 }
+first = record { base = 0x20000; width = 4; count = 4 }
 
 abbrev second : Extent
-second = record { base = 0x20008; count = 2 }
+second = record { base = 0x20008; width = 4; count = 2 }
 
 abbrev tables_15 : ℕ → Option Extent
 tables_15 j = if j == 0x1001c then Some first else (if j == 0x10048 then Some second else None)
@@ -182,6 +182,7 @@ first_cut = record {
   inside = record { jump = 0x10048; counts = inr refl; other = second; at_jump = refl; base = refl; above = omega arith; below = omega arith };
   least = λ b is. ⊎_elim (λ e. let up : 0x20000 < b = is.above in omega (arith, e, up)) (λ e. omega (arith, e)) (bases b first is);
   entries = refl;
+  fewer = omega arith;
 }
 
 pub second_not_cut : (kept : ℕ) → IsCutTo tables_15 reached_15 0x10048 kept → ⊥

@@ -3,8 +3,8 @@ use Rattle.std.specs.Prelude.{List, [], ◌∷◌}
 use Rattle.cfg_model.specs.Builder.Event.{Event}
 use Rattle.cfg_model.specs.Builder.Fact.{Fact}
 
--- Each event brings the facts that name what it did; a settling brings none, since the same start may
--- arrive again.
+-- Each event brings the facts that name what it did; a settling brings none, since the same start
+-- may arrive again.
 abbrev pub facts_of : Event → List Fact
 facts_of (Event.Want s) = Fact.Start s ∷ []
 facts_of (Event.Parsed s) = Fact.Parsed s ∷ []

@@ -1,5 +1,6 @@
 -- The nine changes of a builder's state, each at one key of one map.
-use Rattle.std.specs.Prelude.{◌≡◌, ◌≢◌, ℕ, ◌⊎◌, ◌==◌, if◌then◌else◌, true, false, Option, Some, None}
+use Rattle.std.specs.Prelude.{◌≡◌, ◌≢◌, ℕ, ◌⊎◌, ◌==◌, if◌then◌else◌}
+use Rattle.std.specs.Prelude.{true, false, Option, Some, None}
 use Rattle.std.specs.Option.{option_map_or}
 use Rattle.std.specs.Ordering.{nat_cmp}
 use Rattle.std.specs.FinMap as maps
@@ -8,7 +9,8 @@ use Rattle.cfg_model.specs.declared.state.Mark.TheVariants as marks
 use Rattle.cfg_model.specs.declared.state.Waiter.{Waiter}
 use Rattle.cfg_model.specs.Program.Instructions.{InstructionMap}
 use Rattle.cfg_model.specs.Program.Meeting.{IsMeeting}
-use Rattle.cfg_model.specs.Builder.State.{BuilderState, StartMap, EndMap, TerminatorMap, EndEntry, TerminatorEntry}
+use Rattle.cfg_model.specs.Builder.State.{BuilderState, StartMap, EndMap}
+use Rattle.cfg_model.specs.Builder.State.{TerminatorMap, EndEntry, TerminatorEntry}
 
 -- Want: s becomes a wanted start where it is none. Parsed: the start s becomes a parsed one.
 -- Arrive: s arrives at the end k. Settle: x leaves the displaced starts of k.
@@ -61,7 +63,9 @@ ArrivesAt map k s old new =
 -- The ends with x gone from the displaced starts of k.
 abbrev pub with_settled : EndMap → ℕ → ℕ → EndMap
 with_settled ends k x =
-    option_map_or (λ (entry : EndEntry). maps.insert ends k (record entry { moved = sets.remove entry.moved x })) (maps.get ends k) ends
+    option_map_or
+    (λ (entry : EndEntry). maps.insert ends k
+    (record entry { moved = sets.remove entry.moved x })) (maps.get ends k) ends
 
 -- A terminator of which nothing is known yet.
 abbrev pub new_entry : TerminatorEntry
@@ -75,17 +79,24 @@ with_terminator terminators k =
 -- The terminators with the entry of k changed, where there is one.
 abbrev pub with_changed : TerminatorMap → ℕ → (TerminatorEntry → TerminatorEntry) → TerminatorMap
 with_changed terminators k change =
-    option_map_or (λ entry. maps.insert terminators k (change entry)) (maps.get terminators k) terminators
+    option_map_or (λ entry. maps.insert terminators k (change entry))
+    (maps.get terminators k) terminators
 
--- An entry with the waiter w, untold if it is new; with w told, where it waits; known to return; dealt
--- with.
+-- An entry with the waiter w, untold if it is new; with w told, where it waits; known to return;
+-- dealt with.
 abbrev pub entry_with_waiter : Waiter → TerminatorEntry → TerminatorEntry
 entry_with_waiter w entry =
-    record entry { waiters = if maps.contains_key entry.waiters w then entry.waiters else maps.insert entry.waiters w false }
+    record entry {
+      waiters = if maps.contains_key entry.waiters w then entry.waiters
+          else maps.insert entry.waiters w false;
+    }
 
 abbrev pub entry_with_told : Waiter → TerminatorEntry → TerminatorEntry
 entry_with_told w entry =
-    record entry { waiters = if maps.contains_key entry.waiters w then maps.insert entry.waiters w true else entry.waiters }
+    record entry {
+      waiters = if maps.contains_key entry.waiters w
+          then maps.insert entry.waiters w true else entry.waiters;
+    }
 
 abbrev pub entry_with_return : TerminatorEntry → TerminatorEntry
 entry_with_return entry = record entry { returned = true }

@@ -10,7 +10,8 @@ use Rattle.cfg_model.specs.Program.Status.{Returns}
 use Rattle.cfg_model.specs.Program.Reach.{Reached}
 use Rattle.cfg_model.specs.Graph.Leader.{IsLeader}
 use Rattle.cfg_model.specs.Builder.Waits.{Depends}
-use Rattle.cfg_model.specs.Builder.State.{BuilderState, IsStart, IsParsed, IsAnchored, HasEnd, IsEntered, WaitsAt, IsReturned, IsTold, IsDone}
+use Rattle.cfg_model.specs.Builder.State.{BuilderState, IsStart, IsParsed, IsAnchored, HasEnd}
+use Rattle.cfg_model.specs.Builder.State.{IsEntered, WaitsAt, IsReturned, IsTold, IsDone}
 
 -- Start: s is a start. Parsed: s is a parsed start. Anchored: s is anchored at or before k.
 -- End: k has an entry among the ends. Terminator: k is entered as a terminator.
@@ -44,8 +45,8 @@ pub record IsReachedTerminator (map : InstructionMap) (seeds : List ℕ) (k : �
   pub reached : Reached map seeds k
   pub ends : IsTerminator map k
 
--- Where this terminator is a call and follows another one, the call's target is such. Of a terminator
--- that is no call, or waits to be released, it says nothing.
+-- Where this terminator is a call and follows another one, the call's target is such. Of a
+-- terminator that is no call, or waits to be released, it says nothing.
 abbrev pub WhereCallFollows : InstructionMap → (ℕ → Type 0) → ℕ → WaitKind → Type 0
 WhereCallFollows map Such terminator Follow =
     (target : ℕ) (fall : Option ℕ) → IsCall map terminator target fall → Such target

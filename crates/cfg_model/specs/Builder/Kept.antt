@@ -7,9 +7,12 @@ use Rattle.cfg_model.specs.Program.Status.{Returns}
 use Rattle.cfg_model.specs.Graph.Leader.{IsLeader}
 use Rattle.cfg_model.specs.Program.Meeting.{IsStop}
 use Rattle.cfg_model.specs.Builder.Fact.{Fact, Holds}
-use Rattle.cfg_model.specs.Builder.Reason.{ParsedReason, TerminatorReason, WaitReason, DoneReason, ToldReason}
+use Rattle.cfg_model.specs.Builder.Reason.{ParsedReason, TerminatorReason}
+use Rattle.cfg_model.specs.Builder.Reason.{WaitReason, DoneReason, ToldReason}
 use Rattle.cfg_model.specs.Builder.Left.{HasNothingLeft}
-use Rattle.cfg_model.specs.Builder.State.{BuilderState, StartMap, EndMap, TerminatorMap, IsStart, IsParsed, IsNear, IsMoved, StandsAt, IsEntered, IsReturned, IsDone, WaitsAt, IsTold}
+use Rattle.cfg_model.specs.Builder.State.{BuilderState, StartMap, EndMap, TerminatorMap}
+use Rattle.cfg_model.specs.Builder.State.{IsStart, IsParsed, IsNear, IsMoved, StandsAt}
+use Rattle.cfg_model.specs.Builder.State.{IsEntered, IsReturned, IsDone, WaitsAt, IsTold}
 
 -- Each item speaks of the entries of one map, and reads what it asks of others as known facts.
 

@@ -9,7 +9,8 @@ use Rattle.cfg_model.specs.Builder.State.{BuilderState, empty_state, IsStart, Is
 use Rattle.cfg_model.specs.Builder.Brought.{facts_of}
 use Rattle.cfg_model.specs.Builder.Left.{HasNothingLeft, IsSettled}
 use Rattle.cfg_model.specs.Builder.Kept.{KeepsBlocks, KeepsStatus, ReturnedReturn, IsKept, IsClosed}
-use Rattle.cfg_model.specs.Builder.Shard.{Shard, shard_of_event, shard_of_fact, only, IsSameShard, IsBacked}
+use Rattle.cfg_model.specs.Builder.Shard.{Shard, shard_of_event, shard_of_fact}
+use Rattle.cfg_model.specs.Builder.Shard.{only, IsSameShard, IsBacked}
 use Rattle.cfg_model.specs.Builder.Sound.{IsSound}
 use Rattle.cfg_model.specs.Builder.Shown.{ShowsGraph, ShowSame}
 use Rattle.cfg_model.specs.Builder.Run.{IsRun}
@@ -58,11 +59,12 @@ ReasonsSuffice =
     → KeepsBlocks map seeds state → Reason map seeds (Holds map state) event
     → May map seeds state event
 
--- What an event brings holds after it. And what is read at an end is known: where x stands at k, k has
--- an entry, and x is anchored at or before k.
+-- What an event brings holds after it. And what is read at an end is known: where x stands at k, k
+-- has an entry, and x is anchored at or before k.
 abbrev pub EventsBringFacts : Type 0
 EventsBringFacts =
-    (map : InstructionMap) (seeds : List ℕ) (old : BuilderState) (event : Event) (new : BuilderState)
+    (map : InstructionMap) (seeds : List ℕ) (old : BuilderState) (event : Event)
+    (new : BuilderState)
     → May map seeds old event → Steps map old event new → (fact : Fact)
     → Contains (facts_of event) fact → Holds map new fact
 
@@ -76,8 +78,8 @@ StandingIsKnown =
 abbrev pub EmptyIsKept : Type 0
 EmptyIsKept = (map : InstructionMap) (seeds : List ℕ) → IsKept map seeds empty_state
 
--- Each event that a state allows keeps what is kept of blocks, if no terminator is wrongly marked as
--- returning; it keeps what is kept of status; and so it keeps the state kept.
+-- Each event that a state allows keeps what is kept of blocks, if no terminator is wrongly marked
+-- as returning; it keeps what is kept of status; and so it keeps the state kept.
 abbrev pub EventsKeepBlocks : Type 0
 EventsKeepBlocks =
     (map : InstructionMap) (seeds : List ℕ) → IsLawful map
@@ -126,8 +128,8 @@ KeptIsBacked =
     (map : InstructionMap) (seeds : List ℕ) (state : BuilderState)
     → IsKept map seeds state ↔ ((shard : Shard) → IsBacked map seeds state shard)
 
--- A shard by itself is a state. A step of the whole is a step of the event's own shard; what a shard
--- shows the whole shows; and what the whole shows of a fact's own shard, that shard shows.
+-- A shard by itself is a state. A step of the whole is a step of the event's own shard; what a
+-- shard shows the whole shows; and what the whole shows of a fact's own shard, that shard shows.
 abbrev pub StepsStayInShard : Type 0
 StepsStayInShard =
     (map : InstructionMap) (old : BuilderState) (event : Event) (new : BuilderState)
@@ -191,9 +193,10 @@ ClosedShowsGraph =
     (map : InstructionMap) (seeds : List ℕ) → IsLawful map → (state : BuilderState)
     → IsClosed map seeds state → ShowsGraph map seeds state
 
--- Confluence: whatever allowed events were made from the empty state, in whatever order, the state is
--- kept, so every state on the way is; and if nothing is left in it, it shows exactly the graph.
-pub record IsConfluentAt (map : InstructionMap) (seeds : List ℕ) (state : BuilderState) : Type 0 where
+-- Confluence: whatever allowed events were made from the empty state, in whatever order, the state
+-- is kept, so every state on the way is; and if nothing is left in it, it shows exactly the graph.
+pub record IsConfluentAt (map : InstructionMap) (seeds : List ℕ)
+    (state : BuilderState) : Type 0 where
   pub kept : IsKept map seeds state
   pub shows : HasNothingLeft seeds state → ShowsGraph map seeds state
 

@@ -1,7 +1,8 @@
 -- The work that is left in a builder's state, by what has to be done and where.
 use Rattle.std.specs.Prelude.{ℕ, List, Contains}
 use Rattle.cfg_model.specs.declared.state.Waiter.{Waiter}
-use Rattle.cfg_model.specs.Builder.State.{BuilderState, IsStart, IsWanted, IsParsed, StandsAt, IsMoved, IsEntered, IsDone, IsReturned, IsUntold}
+use Rattle.cfg_model.specs.Builder.State.{BuilderState, IsStart, IsWanted, IsParsed, StandsAt}
+use Rattle.cfg_model.specs.Builder.State.{IsMoved, IsEntered, IsDone, IsReturned, IsUntold}
 
 -- A piece of work: to want a start, to parse one, to move a displaced start of an end, to deal with
 -- the ways on of a terminator, to tell a waiter of a terminator.

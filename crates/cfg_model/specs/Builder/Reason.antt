@@ -1,6 +1,6 @@
 -- Why a builder may make an event: the reason that each of the nine needs, from what is known (this
--- project's profile). Known says which facts are known: those that hold of a state, those that a worker
--- has seen, or those that are true of the program.
+-- project's profile). Known says which facts are known: those that hold of a state, those that a
+-- worker has seen, or those that are true of the program.
 use Rattle.std.specs.Prelude.{◌≢◌, ℕ, List, Contains, Some, ◌⊎◌}
 use Rattle.cfg_model.specs.declared.state.WaitKind.{WaitKind}
 use Rattle.cfg_model.specs.declared.state.WaitKind.TheVariants.{Follow, Release}
@@ -21,16 +21,17 @@ pub record EndReturns (map : InstructionMap) (Known : Fact → Type 0) (t : ℕ)
   pub ends : IsTerminatorOf map t end
   pub returned : Known (Fact.Returned end)
 
--- k ends the chain of a start: of one that is known, or k is known to be entered. In a kept state the
--- second says no more than the first.
+-- k ends the chain of a start: of one that is known, or k is known to be entered. In a kept state
+-- the second says no more than the first.
 pub data EndsAStart (map : InstructionMap) (Known : Fact → Type 0) (k : ℕ) : Type 0 where
   start : {t : ℕ} → Known (Fact.Start t) → IsTerminatorOf map t k → EndsAStart map Known k
   entered : Known (Fact.Terminator k) → EndsAStart map Known k
 
--- s may be wanted: it is a seed; or a target of a terminator that ends a start's chain; or the fall of
--- such a call whose target's chain ends in a return that is known; or it stands at an end, of which
--- where it is anchored is the fact.
-pub data WantReason (map : InstructionMap) (seeds : List ℕ) (Known : Fact → Type 0) (s : ℕ) : Type 0 where
+-- s may be wanted: it is a seed; or a target of a terminator that ends a start's chain; or the fall
+-- of such a call whose target's chain ends in a return that is known; or it stands at an end, of
+-- which where it is anchored is the fact.
+pub data WantReason (map : InstructionMap) (seeds : List ℕ) (Known : Fact → Type 0)
+    (s : ℕ) : Type 0 where
   seed : Contains seeds s → WantReason map seeds Known s
   target : {k : ℕ} → EndsAStart map Known k → IsTarget map k s → WantReason map seeds Known s
   past_call : {k target : ℕ} → EndsAStart map Known k → IsCall map k target (Some s)
@@ -51,12 +52,15 @@ pub record SettleReason (map : InstructionMap) (Known : Fact → Type 0) (k x : 
   pub before : OnChain map at k
   pub apart : at ≢ k
 
--- s may be parsed: it is a start, anchored at or before its terminator, which is entered.
+-- s may be parsed: it is a start, anchored at or before an address whose chain has the terminator
+-- of s, and that is entered.
 pub record ParsedReason (map : InstructionMap) (Known : Fact → Type 0) (s : ℕ) : Type 0 where
   pub start : Known (Fact.Start s)
+  pub at : ℕ
+  pub anchored : Known (Fact.Anchored s at)
   pub end : ℕ
+  pub before : OnChain map at end
   pub ends : IsTerminatorOf map s end
-  pub anchored : Known (Fact.Anchored s end)
   pub entered : Known (Fact.Terminator end)
 
 -- k may be entered: it ends the chain of a start.
@@ -66,7 +70,8 @@ pub record TerminatorReason (map : InstructionMap) (Known : Fact → Type 0) (k 
   pub ends : IsTerminatorOf map from k
 
 -- w may wait at k: both are entered, w depends on k, and a call that follows was released.
-pub record WaitReason (map : InstructionMap) (Known : Fact → Type 0) (k : ℕ) (w : Waiter) : Type 0 where
+pub record WaitReason (map : InstructionMap) (Known : Fact → Type 0) (k : ℕ)
+    (w : Waiter) : Type 0 where
   pub entered : Known (Fact.Terminator k)
   pub waiter : Known (Fact.Terminator w.terminator)
   pub depends : Depends map k w
@@ -100,8 +105,10 @@ abbrev pub EffectStands : InstructionMap → (Fact → Type 0) → ℕ → WaitK
 EffectStands map Known terminator Follow = Known (Fact.Returned terminator)
 EffectStands map Known terminator Release = IsReleased map Known terminator
 
--- w may be marked as told at k: it waits there, k returns, and what it was waiting for has been done.
-pub record ToldReason (map : InstructionMap) (Known : Fact → Type 0) (k : ℕ) (w : Waiter) : Type 0 where
+-- w may be marked as told at k: it waits there, k returns, and what it was waiting for has been
+-- done.
+pub record ToldReason (map : InstructionMap) (Known : Fact → Type 0) (k : ℕ)
+    (w : Waiter) : Type 0 where
   pub waits : Known (Fact.Waits k w)
   pub returned : Known (Fact.Returned k)
   pub effect : EffectStands map Known w.terminator w.kind
@@ -140,6 +147,7 @@ FitsEnd map ends (Event.Told k w) = Unit {0}
 FitsEnd map ends (Event.EdgesDone k) = Unit {0}
 
 -- The state allows the event: the reason holds by the facts that hold of the state.
-pub record May (map : InstructionMap) (seeds : List ℕ) (state : BuilderState) (event : Event) : Type 0 where
+pub record May (map : InstructionMap) (seeds : List ℕ) (state : BuilderState)
+    (event : Event) : Type 0 where
   pub reason : Reason map seeds (Holds map state) event
   pub fits : FitsEnd map state.ends event

@@ -5,9 +5,10 @@ use Rattle.cfg_model.specs.Builder.Event.{Event, Steps}
 use Rattle.cfg_model.specs.Builder.Reason.{May}
 use Rattle.cfg_model.specs.Builder.State.{BuilderState}
 
--- These events, in this order, lead from the old state to the new one, each allowed by the state that
--- it is made in.
+-- These events, in this order, lead from the old state to the new one, each allowed by the state
+-- that it is made in.
 abbrev pub IsRun : InstructionMap → List ℕ → BuilderState → List Event → BuilderState → Type 0
 IsRun map seeds old [] new = new ≡ old
 IsRun map seeds old (event ∷ events) new =
-    (mid : BuilderState) × May map seeds old event × Steps map old event mid × IsRun map seeds mid events new
+    (mid : BuilderState) × May map seeds old event × Steps map old event mid
+    × IsRun map seeds mid events new

@@ -6,7 +6,9 @@ use Rattle.cfg_model.specs.Program.Instructions.{InstructionMap}
 use Rattle.cfg_model.specs.Builder.Event.{Event}
 use Rattle.cfg_model.specs.Builder.Fact.{Fact, Holds}
 use Rattle.cfg_model.specs.Builder.State.{BuilderState, StartMap, EndMap, TerminatorMap}
-use Rattle.cfg_model.specs.Builder.Kept.{StartsLead, StandingLead, StandingStop, DisplacedReachNear, ParsedHold, EntriesHold, ReturnedReturn, WaitsHold, DoneHold, ToldHold}
+use Rattle.cfg_model.specs.Builder.Kept.{StartsLead, StandingLead, StandingStop}
+use Rattle.cfg_model.specs.Builder.Kept.{DisplacedReachNear, ParsedHold, EntriesHold}
+use Rattle.cfg_model.specs.Builder.Kept.{ReturnedReturn, WaitsHold, DoneHold, ToldHold}
 
 -- The number of the shard that an address belongs to: 64 shards of 64 bytes in turn.
 abbrev pub shard_of : ℕ → ℕ
@@ -34,8 +36,8 @@ shard_of_event (Event.Returned k) = Shard.Terminators (shard_of k)
 shard_of_event (Event.Told k w) = Shard.Terminators (shard_of k)
 shard_of_event (Event.EdgesDone k) = Shard.Terminators (shard_of k)
 
--- The one shard that a fact speaks of. Where a start is anchored is read at several ends, so that fact
--- has none.
+-- The one shard that a fact speaks of. Where a start is anchored is read at several ends, so that
+-- fact has none.
 abbrev pub shard_of_fact : Fact → Option Shard
 shard_of_fact (Fact.Start s) = Some (Shard.Starts (shard_of s))
 shard_of_fact (Fact.Parsed s) = Some (Shard.Starts (shard_of s))
@@ -54,7 +56,12 @@ only state (Shard.Starts number) =
 only state (Shard.Ends number) =
     record { starts = maps.empty; ends = part_of state.ends number; terminators = maps.empty }
 only state (Shard.Terminators number) =
-    record { starts = maps.empty; ends = maps.empty; terminators = part_of state.terminators number }
+    record {
+      starts = maps.empty;
+      ends = maps.empty;
+      terminators = part_of
+          state.terminators number;
+    }
 
 -- The shard is in the new state as it was in the old one.
 abbrev pub IsSameShard : BuilderState → BuilderState → Shard → Type 0
@@ -65,16 +72,19 @@ IsSameShard old new (Shard.Terminators number) =
 
 -- Some starts are backed: the items of the invariant on starts hold of them, and what these ask of
 -- other entries is known. Likewise some ends, and some terminators.
-pub record BackedStarts (map : InstructionMap) (seeds : List ℕ) (Known : Fact → Type 0) (starts : StartMap) : Type 0 where
+pub record BackedStarts (map : InstructionMap) (seeds : List ℕ) (Known : Fact → Type 0)
+    (starts : StartMap) : Type 0 where
   pub leaders : StartsLead map seeds starts
   pub parsed : ParsedHold map Known starts
 
-pub record BackedEnds (map : InstructionMap) (seeds : List ℕ) (Known : Fact → Type 0) (ends : EndMap) : Type 0 where
+pub record BackedEnds (map : InstructionMap) (seeds : List ℕ) (Known : Fact → Type 0)
+    (ends : EndMap) : Type 0 where
   pub leaders : StandingLead map seeds ends
   pub stops : StandingStop map Known ends
   pub displaced : DisplacedReachNear map ends
 
-pub record BackedTerminators (map : InstructionMap) (Known : Fact → Type 0) (terminators : TerminatorMap) : Type 0 where
+pub record BackedTerminators (map : InstructionMap) (Known : Fact → Type 0)
+    (terminators : TerminatorMap) : Type 0 where
   pub entries : EntriesHold map Known terminators
   pub returned : ReturnedReturn map terminators
   pub waits : WaitsHold map Known terminators

@@ -7,9 +7,9 @@ use Rattle.cfg_model.specs.Graph.Block.{IsLastOf}
 use Rattle.cfg_model.specs.Builder.Fact.{IsReachedTerminator}
 use Rattle.cfg_model.specs.Builder.State.{BuilderState, IsStart, IsNear, IsEntered, IsReturned}
 
--- The state shows exactly the graph: its starts are the leaders; its near starts, each with its end,
--- are the first and last addresses of the blocks; its terminators are the reachable ones; and those
--- that it marks as returning are those of them that return.
+-- The state shows exactly the graph: its starts are the leaders; its near starts, each with its
+-- end, are the first and last addresses of the blocks; its terminators are the reachable ones; and
+-- those that it marks as returning are those of them that return.
 pub record ShowsGraph (map : InstructionMap) (seeds : List ℕ) (state : BuilderState) : Type 0 where
   pub starts : (s : ℕ) → IsStart state.starts s ↔ IsLeader map seeds s
   pub blocks : (s k : ℕ)
@@ -18,7 +18,8 @@ pub record ShowsGraph (map : InstructionMap) (seeds : List ℕ) (state : Builder
   pub returning : (k : ℕ)
       → IsReturned state.terminators k ↔ (IsReachedTerminator map seeds k × Returns map k)
 
--- Two states show the same: starts, blocks by first and last address, terminators, and which return.
+-- Two states show the same: starts, blocks by first and last address, terminators, and which
+-- return.
 pub record ShowSame (left right : BuilderState) : Type 0 where
   pub starts : (s : ℕ) → IsStart left.starts s ↔ IsStart right.starts s
   pub blocks : (s k : ℕ) → IsNear left.ends k s ↔ IsNear right.ends k s

@@ -6,8 +6,10 @@ use Rattle.cfg_model.specs.Program.Chain.{OnChain}
 use Rattle.cfg_model.specs.Graph.Leader.{IsLeader}
 use Rattle.cfg_model.specs.Program.Meeting.{IsStop}
 use Rattle.cfg_model.specs.Builder.Fact.{IsReachedTerminator, IsSoundWait}
-use Rattle.cfg_model.specs.Builder.State.{BuilderState, EndMap, TerminatorMap, StandsAt, IsEntered, WaitsAt}
-use Rattle.cfg_model.specs.Builder.Kept.{StartsLead, StandingLead, DisplacedReachNear, ReturnedReturn}
+use Rattle.cfg_model.specs.Builder.State.{BuilderState, EndMap, TerminatorMap}
+use Rattle.cfg_model.specs.Builder.State.{StandsAt, IsEntered, WaitsAt}
+use Rattle.cfg_model.specs.Builder.Kept.{StartsLead, StandingLead}
+use Rattle.cfg_model.specs.Builder.Kept.{DisplacedReachNear, ReturnedReturn}
 
 -- Where x stands at k, k is on the chain of x and is a terminator or comes just before a leader.
 abbrev pub StandingSoundly : InstructionMap → List ℕ → EndMap → Type 0
@@ -30,7 +32,8 @@ pub record SoundEnds (map : InstructionMap) (seeds : List ℕ) (ends : EndMap) :
   pub stops : StandingSoundly map seeds ends
   pub displaced : DisplacedReachNear map ends
 
-pub record SoundTerminators (map : InstructionMap) (seeds : List ℕ) (terminators : TerminatorMap) : Type 0 where
+pub record SoundTerminators (map : InstructionMap) (seeds : List ℕ)
+    (terminators : TerminatorMap) : Type 0 where
   pub entries : EntriesReached map seeds terminators
   pub returned : ReturnedReturn map terminators
   pub waits : WaitsSound map seeds terminators

@@ -44,4 +44,5 @@ coded_wait_kind = code_by Bool coded_bool is_release wait_kind_of wait_kind_back
 
 abbrev pub coded_waiter : Coded Waiter
 coded_waiter =
-    code_by (ℕ × WaitKind) (coded× coded_ℕ coded_wait_kind) (λ w. (w.terminator, w.kind)) (λ p. record { terminator = p.0; kind = p.1 }) (λ _. refl)
+    code_by (ℕ × WaitKind) (coded× coded_ℕ coded_wait_kind) (λ w. (w.terminator, w.kind))
+    (λ p. record { terminator = p.0; kind = p.1 }) (λ _. refl)

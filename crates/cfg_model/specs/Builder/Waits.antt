@@ -34,15 +34,15 @@ DependsAs map k terminator Release = IsReleasedBy map k terminator
 abbrev pub Depends : InstructionMap → ℕ → Waiter → Type 0
 Depends map k w = DependsAs map k w.terminator w.kind
 
--- The targets of a terminator: the addresses that become starts on account of it alone. They are its
--- successors, and the target of a call. (The fall of a call waits for the target's return.)
+-- The targets of a terminator: the addresses that become starts on account of it alone. They are
+-- its successors, and the target of a call. (The fall of a call waits for the target's return.)
 pub data IsTarget (map : InstructionMap) (terminator to : ℕ) : Type 0 where
   onward : IsSuccessor map terminator to → IsTarget map terminator to
   called : {fall : Option ℕ} → IsCall map terminator to fall → IsTarget map terminator to
 
--- The waits of a terminator: it follows the end of each successor's chain, and a call with a fall is
--- released at the end of its target's chain. (The follower of a call's fall is placed when the call
--- is released.)
+-- The waits of a terminator: it follows the end of each successor's chain, and a call with a fall
+-- is released at the end of its target's chain. (The follower of a call's fall is placed when the
+-- call is released.)
 pub data IsWait (map : InstructionMap) (terminator : ℕ) : ℕ → Waiter → Type 0 where
   follow : {to k : ℕ} → IsSuccessor map terminator to → IsTerminatorOf map to k
       → IsWait map terminator k (follower terminator)

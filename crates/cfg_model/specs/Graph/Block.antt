@@ -1,7 +1,9 @@
 -- Basic blocks.
 use Rattle.std.specs.Prelude.{◌≡◌, ℕ, ◌+◌, List, Some, None, true, false}
 use Rattle.cfg_model.specs.declared.flow.Flow.{Flow}
-use Rattle.cfg_model.specs.declared.flow.Flow.TheVariants.{Straight, Branch, Jump, Call, IndirectCall, Table, Return, Unknown, Stop}
+use Rattle.cfg_model.specs.declared.flow.Flow.TheVariants.{Straight, Branch, Jump}
+use Rattle.cfg_model.specs.declared.flow.Flow.TheVariants.{Call, IndirectCall, Table}
+use Rattle.cfg_model.specs.declared.flow.Flow.TheVariants.{Return, Unknown, Stop}
 use Rattle.cfg_model.specs.declared.graph.Block.{Block}
 use Rattle.cfg_model.specs.declared.graph.EndKind.{EndKind}
 use Rattle.cfg_model.specs.declared.graph.EndKind.TheVariants as ends
@@ -16,8 +18,8 @@ pub data RunsTo (map : InstructionMap) (IsCut : ℕ → Type 0) : ℕ → ℕ �
   on : {s next k : ℕ} → GoesOnTo map s next → ¬ IsCut next → RunsTo map IsCut next k
       → RunsTo map IsCut s k
 
--- k is the last address of the block of s, where blocks are cut at these addresses: the terminator of
--- its chain, or the last address before one of them if that comes first.
+-- k is the last address of the block of s, where blocks are cut at these addresses: the terminator
+-- of its chain, or the last address before one of them if that comes first.
 pub record IsLastOf (map : InstructionMap) (IsCut : ℕ → Type 0) (s k : ℕ) : Type 0 where
   pub runs : RunsTo map IsCut s k
   pub stops : IsStop map IsCut k
@@ -31,14 +33,15 @@ end_kind (Branch None fall) = ends.BranchOut
 end_kind (Jump target) = ends.Jump
 end_kind (Call target fall) = ends.Call
 end_kind (IndirectCall fall) = ends.IndirectCall
-end_kind (Table entries true) = ends.Table
-end_kind (Table entries false) = ends.TableCut
+end_kind (Table entries full true) = ends.TableOpen
+end_kind (Table entries true false) = ends.Table
+end_kind (Table entries false false) = ends.TableCut
 end_kind Return = ends.Return
 end_kind Unknown = ends.Unknown
 end_kind Stop = ends.Stop
 
--- The block from s to the instruction at k: it ends behind that instruction, and has the kind of its
--- flow.
+-- The block from s to the instruction at k: it ends behind that instruction, and has the kind of
+-- its flow.
 pub record IsBlockOf (map : InstructionMap) (s k : ℕ) (block : Block) : Type 0 where
   pub start : block.start ≡ s
   pub ends : (bytes : ℕ) × (length_at map k ≡ Some bytes) × (block.end ≡ k + bytes)

@@ -11,9 +11,9 @@ use Rattle.cfg_model.specs.Program.Status.{Returns}
 use Rattle.cfg_model.specs.Graph.Leader.{IsLeader}
 use Rattle.cfg_model.specs.Graph.Block.{IsLastOf}
 
--- The ways on from the instruction at k, a rule a kind of edge: straight on; the fall of a branch; a
--- branch taken; a jump; a call; where a call through a register returns to; where a call returns to
--- whose target is one of those that return; a kept entry of a table.
+-- The ways on from the instruction at k, a rule a kind of edge: straight on; the fall of a branch;
+-- a branch taken; a jump; a call; where a call through a register returns to; where a call returns
+-- to whose target is one of those that return; a kept entry of a table.
 pub data LeadsTo (map : InstructionMap) (MayReturn : ℕ → Type 0) : ℕ → ℕ → EdgeKind → Type 0 where
   straight : {k to : ℕ} → GoesOnTo map k to → LeadsTo map MayReturn k to kinds.Fall
   not_taken : {k to : ℕ} {taken : Option ℕ} → flow_at map k ≡ Some (Branch taken (Some to))
@@ -26,16 +26,17 @@ pub data LeadsTo (map : InstructionMap) (MayReturn : ℕ → Type 0) : ℕ → �
       → LeadsTo map MayReturn k to kinds.After
   after_call : {k target to : ℕ} → IsCall map k target (Some to) → MayReturn target
       → LeadsTo map MayReturn k to kinds.After
-  table : {k to entries : ℕ} {full : _} → flow_at map k ≡ Some (Table entries full)
+  table : {k to entries : ℕ} {full is_open : _} → flow_at map k ≡ Some (Table entries full is_open)
       → Contains (targets_at map k) to → LeadsTo map MayReturn k to kinds.Table
 
 -- An edge that leaves the block of s by a way on from the instruction at k, the last of the block.
-pub record Leaves (map : InstructionMap) (MayReturn : ℕ → Type 0) (s k : ℕ) (edge : Edge) : Type 0 where
+pub record Leaves (map : InstructionMap) (MayReturn : ℕ → Type 0) (s k : ℕ)
+    (edge : Edge) : Type 0 where
   pub from : edge.from ≡ s
   pub leads : LeadsTo map MayReturn k edge.to edge.kind
 
--- An edge of the program leaves a block by a way on from its last instruction; a call returns where its
--- target does.
+-- An edge of the program leaves a block by a way on from its last instruction; a call returns where
+-- its target does.
 pub record IsEdge (map : InstructionMap) (seeds : List ℕ) (edge : Edge) : Type 0 where
   pub last : ℕ
   pub from : IsLeader map seeds edge.from

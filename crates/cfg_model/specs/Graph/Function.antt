@@ -22,9 +22,9 @@ pub record StaysIn (AnEntry : ℕ → Type 0) (entry : ℕ) (edge : Edge) : Type
   pub no_call : edge.kind ≢ kinds.Call
   pub inside : (edge.to ≡ entry) ⊎ (¬ AnEntry edge.to)
 
--- The body of the function of this entry, by the starts of its blocks, where these are the edges and the
--- entries: the least set that has the entry's block and is closed under the edges that stay in the
--- function.
+-- The body of the function of this entry, by the starts of its blocks, where these are the edges
+-- and the entries: the least set that has the entry's block and is closed under the edges that stay
+-- in the function.
 pub data InBody (AnEdge : Edge → Type 0) (AnEntry : ℕ → Type 0) (entry : ℕ) : ℕ → Type 0 where
   entry : InBody AnEdge AnEntry entry entry
   along : {edge : Edge} → InBody AnEdge AnEntry entry edge.from → AnEdge edge
@@ -47,7 +47,8 @@ pub record IsTail (AnEntry : ℕ → Type 0) (IsIn : ℕ → ℕ → Type 0) (fr
 abbrev pub IsTailCall : InstructionMap → List ℕ → ℕ → ℕ → Type 0
 IsTailCall map seeds = IsTail (IsEntry map seeds) (InBody (IsEdge map seeds) (IsEntry map seeds))
 
--- An edge of the graph: an edge between blocks, of kind tail where it is a jump that is a tail call.
+-- An edge of the graph: an edge between blocks, of kind tail where it is a jump that is a tail
+-- call.
 pub data IsMarkedEdge (map : InstructionMap) (seeds : List ℕ) : Edge → Type 0 where
   other : {edge : Edge} → IsEdge map seeds edge → edge.kind ≢ kinds.Jump
       → IsMarkedEdge map seeds edge

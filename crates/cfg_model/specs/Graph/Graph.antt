@@ -36,12 +36,14 @@ EdgeBefore a b =
     ⊎ ((a.from ≡ b.from) × ((a.to < b.to) ⊎ ((a.to ≡ b.to) × (rank a.kind < rank b.kind))))
 
 -- The blocks and edges of a program, before tail calls are told from other jumps.
-pub record IsOutline (map : InstructionMap) (seeds : List ℕ) (blocks : List Block) (edges : List Edge) : Type 0 where
+pub record IsOutline (map : InstructionMap) (seeds : List ℕ) (blocks : List Block)
+    (edges : List Edge) : Type 0 where
   pub all_blocks : Lists BlockBefore (IsBlock map seeds) blocks
   pub all_edges : Lists EdgeBefore (IsEdge map seeds) edges
 
 -- The graph of a program: its functions, its blocks, and its edges with tail calls marked.
-pub record IsGraph (map : InstructionMap) (seeds : List ℕ) (entry : ℕ) (graph : Graph) : Type 0 where
+pub record IsGraph (map : InstructionMap) (seeds : List ℕ) (entry : ℕ)
+    (graph : Graph) : Type 0 where
   pub starts : graph.entry ≡ entry
   pub functions : Lists FunctionBefore (IsFunction map seeds) graph.functions
   pub blocks : Lists BlockBefore (IsBlock map seeds) graph.blocks

@@ -14,7 +14,7 @@ abbrev pub targets_by : List ℕ → Flow → List ℕ
 targets_by kept (Branch taken fall) = option_to_list taken
 targets_by kept (Jump target) = target ∷ []
 targets_by kept (Call target fall) = target ∷ []
-targets_by kept (Table entries full) = kept
+targets_by kept (Table entries full is_open) = kept
 targets_by kept _ = []
 
 -- The fall of a branch or of a call through a register.

@@ -1,11 +1,12 @@
 -- Table cuts: how many entries of a jump table are kept where another jump table begins inside it.
-use Rattle.std.specs.Prelude.{◌≡◌, ◌↔◌, ℕ, ◌+◌, ◌-◌, ◌*◌, ◌/◌, ◌<◌, ◌≤◌, List, Option, Some}
+use Rattle.std.specs.Prelude.{◌≡◌, ◌↔◌, ℕ, ◌+◌, ◌-◌, ◌*◌, ◌/◌, ◌<◌, ◌≤◌, max, List, Option, Some}
 use Rattle.cfg_model.specs.Program.Instructions.{InstructionMap}
 use Rattle.cfg_model.specs.Program.Reach.{Reached}
 
--- Where a jump table lies: its base, and its number of entries of four bytes.
+-- Where a jump table lies: its base, the width of its entries in bytes, and their number.
 pub record Extent : Type 0 where
   pub base : ℕ
+  pub width : ℕ
   pub count : ℕ
 
 -- The jump tables, by the address of their jump.
@@ -13,17 +14,23 @@ abbrev pub Tables : Type 0
 Tables = ℕ → Option Extent
 
 -- b is the base of the jump table of a jump that counts, strictly inside this one.
-pub record IsBaseInside (tables : Tables) (IsCounted : ℕ → Type 0) (table : Extent) (b : ℕ) : Type 0 where
+pub record IsBaseInside (tables : Tables) (IsCounted : ℕ → Type 0) (table : Extent)
+    (b : ℕ) : Type 0 where
   pub jump : ℕ
   pub counts : IsCounted jump
   pub other : Extent
   pub at_jump : tables jump ≡ Some other
   pub base : other.base ≡ b
   pub above : table.base < b
-  pub below : b < table.base + 4 * table.count
+  pub below : b < table.base + table.width * table.count
 
--- The jump table of j is cut to this many entries: up to the least base of another one inside it.
--- The jumps that count are those reached where none is cut (this project's profile).
+-- How many whole entries of a table lie before this address inside it; the first always counts.
+abbrev pub kept_before : Extent → ℕ → ℕ
+kept_before table b = max 1 ((b - table.base) / table.width)
+
+-- The jump table of j is cut to this many entries, fewer than it has: up to the least base of
+-- another one inside it. The jumps that count are those reached where none is cut (this project's
+-- profile).
 pub record IsCutTo (tables : Tables) (IsCounted : ℕ → Type 0) (j kept : ℕ) : Type 0 where
   pub counts : IsCounted j
   pub table : Extent
@@ -31,7 +38,8 @@ pub record IsCutTo (tables : Tables) (IsCounted : ℕ → Type 0) (j kept : ℕ)
   pub base : ℕ
   pub inside : IsBaseInside tables IsCounted table base
   pub least : (b : ℕ) → IsBaseInside tables IsCounted table b → base ≤ b
-  pub entries : kept ≡ (base - table.base) / 4
+  pub entries : kept ≡ kept_before table base
+  pub fewer : kept < table.count
 
 -- These are the cuts of the jump tables: for each jump the number of entries kept, where it is cut.
 abbrev pub AreCuts : Tables → (ℕ → Type 0) → (ℕ → Option ℕ) → Type 0

@@ -1,8 +1,10 @@
 -- A program as a control-flow graph sees it: a finite map from addresses to instructions.
-use Rattle.std.specs.Prelude.{◌≡◌, ℕ, ◌+◌, ◌<◌, ◌^◌, ◌⊎◌, List, [], ◌∷◌, ◌++◌, length, All, Option, Some, IsSome, option_to_list}
+use Rattle.std.specs.Prelude.{◌≡◌, ℕ, ◌+◌, ◌<◌, ◌^◌, ◌⊎◌, List, [], ◌∷◌, ◌++◌}
+use Rattle.std.specs.Prelude.{length, All, Option, Some, IsSome, option_to_list}
 use Rattle.std.specs.Option.{option_map, option_map_or}
 use Rattle.cfg_model.specs.declared.flow.Flow.{Flow}
-use Rattle.cfg_model.specs.declared.flow.Flow.TheVariants.{Straight, Branch, Jump, Call, IndirectCall, Table}
+use Rattle.cfg_model.specs.declared.flow.Flow.TheVariants.{Straight, Branch, Jump}
+use Rattle.cfg_model.specs.declared.flow.Flow.TheVariants.{Call, IndirectCall, Table}
 
 -- One instruction: its length in bytes, its flow, and, where that is a table jump, the targets kept
 -- in the table, in its order.
@@ -40,7 +42,7 @@ named_by _ = []
 -- says, one at least; no other instruction has kept targets.
 abbrev pub FlowFits : ℕ → Instruction → Flow → Type 0
 FlowFits a i (Straight next) = (next ≡ a + i.bytes) × (i.targets ≡ [])
-FlowFits a i (Table entries full) = (entries ≡ length i.targets) × (0 < entries)
+FlowFits a i (Table entries full is_open) = (entries ≡ length i.targets) × (0 < entries)
 FlowFits a i _ = i.targets ≡ []
 
 -- What holds of each instruction of a program: it has 2 or 4 bytes and ends within 64 bits, its

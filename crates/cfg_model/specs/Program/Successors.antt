@@ -1,7 +1,9 @@
 -- Where control goes from one instruction within its function.
-use Rattle.std.specs.Prelude.{◌≡◌, ℕ, List, [], ◌∷◌, ◌++◌, Contains, Option, Some, None, option_to_list}
+use Rattle.std.specs.Prelude.{◌≡◌, ℕ, List, [], ◌∷◌, ◌++◌, Contains}
+use Rattle.std.specs.Prelude.{Option, Some, None, option_to_list}
 use Rattle.cfg_model.specs.declared.flow.Flow.{Flow}
-use Rattle.cfg_model.specs.declared.flow.Flow.TheVariants.{Straight, Branch, Jump, Call, IndirectCall, Table, Return, Unknown}
+use Rattle.cfg_model.specs.declared.flow.Flow.TheVariants.{Straight, Branch, Jump, Call}
+use Rattle.cfg_model.specs.declared.flow.Flow.TheVariants.{IndirectCall, Table, Return, Unknown}
 use Rattle.cfg_model.specs.Program.Instructions.{InstructionMap, flow_at, targets_at}
 
 -- The intraprocedural successors that a flow gives, with the kept targets of a table: the next
@@ -12,7 +14,7 @@ successors_by kept (Straight next) = next ∷ []
 successors_by kept (Branch taken fall) = option_to_list taken ++ option_to_list fall
 successors_by kept (Jump target) = target ∷ []
 successors_by kept (IndirectCall fall) = option_to_list fall
-successors_by kept (Table entries full) = kept
+successors_by kept (Table entries full is_open) = kept
 successors_by kept _ = []
 
 abbrev pub successors_of_flow : List ℕ → Option Flow → List ℕ

@@ -96,9 +96,11 @@ may_4 =
     record {
       reason = record {
         start = simp maps.gets;
-        end = 0x10000;
-        ends = itself;
+        at = 0x10000;
         anchored = record { at = 0x10000; stands = inl (near_here _ _ _ at_3); reaches = OnChain.here; before = OnChain.here };
+        end = 0x10000;
+        before = OnChain.here;
+        ends = itself;
         entered = simp maps.gets;
       };
       fits = tt;
