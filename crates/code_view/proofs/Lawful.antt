@@ -10,7 +10,7 @@ use Rattle.elf_image.specs.declared.section.Section.{Section}
 use Rattle.elf_image.specs.Sections.{holds_bytes}
 use Rattle.elf_image.specs.Number.{u32_at}
 use Rattle.elf_image.specs.Sections.{file_offset}
-use Rattle.elf_image.specs.Code.{is_code, code_section_of, half_at, word_at, word_in}
+use Rattle.elf_image.specs.Code.{is_code, section_start, code_section_of, half_at, word_at, word_in}
 use Rattle.elf_image.specs.Faults.{IsImage}
 use Rattle.elf_image.specs.Inner.Found.{IsFoundAt}
 use Rattle.elf_image.proofs.Accepted.{code_section-found}
@@ -22,7 +22,7 @@ use Rattle.rv_flow.specs.declared.raw.RawFlow.TheVariants as raw
 use Rattle.rv_flow.specs.Placed.{placed_at, placed_by, whole, whole_insn, bad}
 use Rattle.rv_flow.specs.Raw.{raw_flow_at, raw_flow_by}
 use Rattle.jump_table.specs.declared.table.Table.{Table}
-use Rattle.jump_table.specs.Table.{table_at, table_targets}
+use Rattle.jump_table.specs.Table.{table_at, table_targets, table_through, jump_register}
 use Rattle.jump_table.proofs.Targets.{IsTable, is_table}
 use Rattle.cfg_model.specs.declared.flow.Flow.{Flow}
 use Rattle.cfg_model.specs.Program.Instructions.{Instruction, IsLawfulAt, IsLawful, FlowFits, named_by, length_at, flow_at, targets_at}
@@ -114,6 +114,10 @@ module _ (bytes : List ℕ) (cuts : ℕ → Option ℕ) (fit : CutsFit bytes cut
   pub table-fits : (o : Option Table) → table_at bytes a ≡ o → IfSome o (KeptFits bytes (cuts a))
   table-fits None is = tt
   table-fits (Some table) is = kept_fits (cuts a) refl table is
+
+-- The kept targets of a table, where there is one.
+abbrev pub kept_of_table : List ℕ → Option ℕ → Option Table → List ℕ
+kept_of_table bytes cut o = option_map_or (λ table. take (kept_entries cut table) (table_targets bytes table)) o []
 
 -- ---- flows
 
@@ -243,6 +247,34 @@ module _ (bytes : List ℕ) (cuts : ℕ → Option ℕ) (a : ℕ) where
   targets-program code = ap (λ o. option_map_or (λ (i : Instruction). i.targets) o []) (program-at_code code)
 
 -- ---- kept targets
+
+-- Only a jump through a register has a table, so its table alone tells what is kept.
+kept-of-table : (bytes : List ℕ) (a : ℕ) (cut : Option ℕ) → kept_by bytes cut (table_at bytes a) (raw_flow_at bytes a) ≡ kept_of_table bytes cut (table_at bytes a)
+unfolding table_at
+kept-of-table bytes a cut = go (raw_flow_at bytes a) (section_start bytes a)
+  where
+    table_by : RawFlow → Option ℕ → Option Table
+    table_by raw start = option_and_then (λ start. option_and_then (table_through bytes start a) (jump_register raw)) start
+
+    none_by : (raw : RawFlow) → jump_register raw ≡ None → (start : Option ℕ) → table_by raw start ≡ None
+    none_by raw none None = refl
+    none_by raw none (Some start) = ap (λ r. option_and_then (table_through bytes start a) r) none
+
+    nothing : (o : Option Table) → o ≡ None → [] ≡ kept_of_table bytes cut o
+    nothing o none = ap (λ t. kept_of_table bytes cut t) (sym none)
+
+    go : (r : RawFlow) (start : Option ℕ) → kept_by bytes cut (table_by r start) r ≡ kept_of_table bytes cut (table_by r start)
+    go raw.Straight start = nothing _ (none_by raw.Straight refl start)
+    go (raw.Branch target) start = nothing _ (none_by (raw.Branch target) refl start)
+    go (raw.Jump target) start = nothing _ (none_by (raw.Jump target) refl start)
+    go (raw.Call target) start = nothing _ (none_by (raw.Call target) refl start)
+    go raw.IndirectCall start = nothing _ (none_by raw.IndirectCall refl start)
+    go raw.Return start = nothing _ (none_by raw.Return refl start)
+    go (raw.RegisterJump register offset) start = refl
+    go raw.Stop start = nothing _ (none_by raw.Stop refl start)
+
+pub targets-of-table : (bytes : List ℕ) (cuts : ℕ → Option ℕ) (a : ℕ) → is_code bytes a ≡ true → targets_at (program_under bytes cuts) a ≡ kept_of_table bytes (cuts a) (table_at bytes a)
+targets-of-table bytes cuts a code = targets-program bytes cuts a code ∙ kept-of-table bytes a (cuts a)
 
 slice_get-take : (n : ℕ) (xs : List ℕ) (i : ℕ) → i < n → slice_get (take n xs) i ≡ slice_get xs i
 slice_get-take zero xs i below = absurd (omega arith)

@@ -1,3 +1,4 @@
 pub mod Counts
 pub mod Lawful
 pub mod Views
+pub mod ChainEnds

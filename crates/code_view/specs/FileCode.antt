@@ -14,7 +14,8 @@ pub record FileCode : Type 0 where
 -- It is stored as the pair of its fields.
 abbrev pub file_code : Coded FileCode
 file_code =
-    code_by (List ℕ × Counts) (coded× (coded_list coded_ℕ) (map.code coded_ℕ coded_ℕ)) (λ c. (c.bytes, c.cuts)) (λ p. record { bytes = p.0; cuts = p.1 }) (λ _. refl)
+    code_by (List ℕ × Counts) (coded× (coded_list coded_ℕ) (map.code coded_ℕ coded_ℕ))
+    (λ c. (c.bytes, c.cuts)) (λ p. record { bytes = p.0; cuts = p.1 }) (λ _. refl)
 
 -- The program that it is.
 abbrev pub program_of : FileCode → InstructionMap

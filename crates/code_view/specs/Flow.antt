@@ -1,5 +1,5 @@
--- The control flow of an instruction of a file under table cuts (Meng et al., PPoPP 2021; what counts
--- as outside the code, and what is dropped, is this project's profile).
+-- The control flow of an instruction of a file under table cuts (Meng et al., PPoPP 2021; what
+-- counts as outside the code, and what is dropped, is this project's profile).
 use Rattle.std.specs.Prelude.{ℕ, ◌==◌, List, [], Option, Some, None, take, unwrap_or, if◌then◌else◌}
 use Rattle.std.specs.Option.{option_map_or}
 use Rattle.elf_image.specs.Code.{is_code}
@@ -32,25 +32,31 @@ call_flow (Some target) fall = flow.Call target fall
 abbrev pub kept_entries : Option ℕ → Table → ℕ
 kept_entries cut table = unwrap_or cut table.count
 
--- A jump through a table, which is full where as many entries are kept as the bound test allows; a
--- jump through a register without a table goes nobody knows where.
+-- A jump through a table, which is full where as many entries are kept as its bound allows, and
+-- open where it has no bound test; a jump through a register without a table goes nobody knows
+-- where.
 abbrev pub table_flow : Option ℕ → Option Table → Flow
 table_flow cut None = flow.Unknown
-table_flow cut (Some table) = flow.Table (kept_entries cut table) (kept_entries cut table == table.bound)
+table_flow cut (Some table) =
+    flow.Table (kept_entries cut table) (kept_entries cut table == table.bound) table.is_open
 
--- The flow of an instruction that alone has this one: `behind` is the address behind it, `table` and
+-- The flow of an instruction that alone has this one: `behind` is the address behind it, `table`
+-- and
 -- `cut` are those of its address.
 abbrev pub flow_by : List ℕ → ℕ → Option ℕ → Option Table → RawFlow → Flow
 flow_by bytes behind cut table raw.Straight = straight_flow (in_code bytes behind)
-flow_by bytes behind cut table (raw.Branch target) = flow.Branch (in_code bytes target) (in_code bytes behind)
+flow_by bytes behind cut table (raw.Branch target) =
+    flow.Branch (in_code bytes target) (in_code bytes behind)
 flow_by bytes behind cut table (raw.Jump target) = jump_flow (in_code bytes target)
-flow_by bytes behind cut table (raw.Call target) = call_flow (in_code bytes target) (in_code bytes behind)
+flow_by bytes behind cut table (raw.Call target) =
+    call_flow (in_code bytes target) (in_code bytes behind)
 flow_by bytes behind cut table raw.IndirectCall = flow.IndirectCall (in_code bytes behind)
 flow_by bytes behind cut table raw.Return = flow.Return
 flow_by bytes behind cut table (raw.RegisterJump register offset) = table_flow cut table
 flow_by bytes behind cut table raw.Stop = flow.Stop
 
--- The kept targets of a jump through a table, the first of its targets; none of any other instruction.
+-- The kept targets of a jump through a table, the first of its targets; none of any other
+-- instruction.
 abbrev pub kept_by : List ℕ → Option ℕ → Option Table → RawFlow → List ℕ
 kept_by bytes cut table (raw.RegisterJump register offset) =
     option_map_or (λ table. take (kept_entries cut table) (table_targets bytes table)) table []

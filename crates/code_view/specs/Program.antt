@@ -8,7 +8,8 @@ use Rattle.jump_table.specs.Table.{table_at}
 use Rattle.cfg_model.specs.Program.Instructions.{Instruction, InstructionMap}
 use Rattle.code_view.specs.Flow.{flow_by, kept_by}
 
--- The instruction at a code address, with the tables and the cuts that count, by address of the jump.
+-- The instruction at a code address, with the tables and the cuts that count, by address of the
+-- jump.
 unfoldable pub instruction_at : List ℕ → (ℕ → Option Table) → (ℕ → Option ℕ) → ℕ → Instruction
 instruction_at bytes tables cuts a = record {
   bytes = (placed_at bytes a).length;
@@ -18,7 +19,8 @@ instruction_at bytes tables cuts a = record {
 
 -- The instructions of a file, one at each code address.
 abbrev pub program_with : List ℕ → (ℕ → Option Table) → (ℕ → Option ℕ) → InstructionMap
-program_with bytes tables cuts a = if is_code bytes a then Some (instruction_at bytes tables cuts a) else None
+program_with bytes tables cuts a =
+    if is_code bytes a then Some (instruction_at bytes tables cuts a) else None
 
 -- The program of a file under table cuts.
 abbrev pub program_under : List ℕ → (ℕ → Option ℕ) → InstructionMap

@@ -2,7 +2,9 @@
 
 use crate::cuts::Cuts;
 use crate::flow::{call_flow, in_code, jump_flow, straight_flow, table_flow};
-use cfg_model::{Chains, Flow};
+use crate::kept::kept_targets;
+use cfg_model::{Chains, Flow, Memory};
+use chain_index::ChainIndex;
 use elf_image::Image;
 use jump_table::{Table, find_table, target_of};
 use rv_flow::{RawFlow, flow_of, insn_at};
@@ -10,13 +12,15 @@ use std::marker::Model;
 
 /// The code of an image under table cuts, as a program: an instruction at each code address.
 ///
-/// Targets outside the code are dropped: a jump or a call whose target is outside is one whose target
-/// is not known, and a branch that loses one of its ways is cut off. A straight instruction with no
-/// code behind it stops. A jump through a register that is no return goes through its jump table, of
-/// which as many entries are kept as its cut says, and where it has none nobody knows where.
+/// Targets outside the code are dropped: a jump or a call whose target is outside is one whose
+/// target is not known, and a branch that loses one of its ways is cut off. A straight instruction
+/// with no code behind it stops. A jump through a register that is no return goes through its jump
+/// table, of which as many entries are kept as its cut says, and where it has none nobody knows
+/// where.
 #[derive(Drop)]
 pub struct Code<'a> {
     image: &'a Image,
+    index: &'a ChainIndex<'a>,
     cuts: &'a Cuts,
 }
 
@@ -29,9 +33,9 @@ impl<'a> Model for Code<'a> {
 
     ghost view = { λ c. record { bytes = c.image.now; cuts = c.cuts.now } };
 
-    ghost use Rattle.code_view.specs.Inner.{IsCutToFit};
+    ghost use Rattle.code_view.specs.Inner.{IsCodeOf};
 
-    ghost invariant = { IsCutToFit };
+    ghost invariant = { IsCodeOf };
 }
 
 impl<'a> Code<'a> {
@@ -41,19 +45,24 @@ impl<'a> Code<'a> {
     ghost use Rattle.code_view.specs.Cuts.{cut_of, CutsFit};
     ghost use Rattle.code_view.specs.Flow.{flow_by};
     ghost use Rattle.code_view.specs.Program.{program_under};
+    ghost use Rattle.code_view.specs.FileCode.{program_of};
+    ghost use Rattle.cfg_model.specs.Program.Instructions.{flow_at};
 
-    /// The code of `image` under `cuts`, each of which is one of a table of that image: at least 1, and
-    /// at most as many as the table has entries.
-    pub fn new(image: &'a Image, cuts: &'a Cuts) -> Code<'a>
-        requires { CutsFit image.now (cut_of cuts.now) }
-        ensures program { ⟦<Code<'a> as Chains>⟧.map result ≡ program_under image.now (cut_of cuts.now) }
+    /// The code of `image`, whose chains end as `index` says, under `cuts`, each of which is one of
+    /// a table of that image: at least 1, and at most as many as the table has entries.
+    pub fn new(image: &'a Image, index: &'a ChainIndex<'a>, cuts: &'a Cuts) -> Code<'a>
+        requires index { index.now ≡ image.now }
+        requires cuts { CutsFit image.now (cut_of cuts.now) }
+        ensures program { ⟦<Code<'a> as Chains>⟧.map result ≡ program_under image.now
+            (cut_of cuts.now) }
         ensures bytes { result.bytes ≡ image.now }
         ensures cuts { result.cuts ≡ cuts.now }
     {
-        Code { image, cuts }
+        Code { image, index, cuts }
     }
 
-    /// The jump table of the jump at the code address `j`, before cuts; `None` exactly where it has none.
+    /// The jump table of the jump at the code address `j`, before cuts; `None` exactly where it has
+    /// none.
     pub fn table(&self, j: u64) -> Option<Table>
         requires { IsTrue (is_code self.now.bytes j) }
         ensures { result ≡ table_at self.now.bytes j }
@@ -61,11 +70,22 @@ impl<'a> Code<'a> {
         find_table(self.image, j)
     }
 
-    /// The flow of the instruction at `a`, which alone has the flow `raw`; `behind` is the address behind
-    /// it.
+    /// The flow of the instruction at `a`, which is decoded.
+    fn decoded_flow(&self, a: u64) -> Flow
+        requires { IsTrue (is_code self.now.bytes a) }
+        ensures { flow_at (program_of self.now) a ≡ Some result }
+    {
+        let placed = insn_at(self.image, a);
+        let behind = a + u64::from(placed.length);
+        self.flow_by(a, behind, flow_of(self.image, a, placed.insn))
+    }
+
+    /// The flow of the instruction at `a`, which alone has the flow `raw`; `behind` is the address
+    /// behind it.
     fn flow_by(&self, a: u64, behind: u64, raw: RawFlow) -> Flow
         requires { IsTrue (is_code self.now.bytes a) }
-        ensures { result ≡ flow_by self.now.bytes behind (cut_of self.now.cuts a) (table_at self.now.bytes a) raw }
+        ensures { result ≡ flow_by self.now.bytes behind (cut_of self.now.cuts a)
+            (table_at self.now.bytes a) raw }
     {
         match raw {
             RawFlow::Straight => straight_flow(in_code(self.image, behind)),
@@ -94,18 +114,40 @@ impl<'a> Chains for Code<'a> {
         self.image.is_code(a)
     }
 
+    // Only what ends its chain is decoded.
     fn flow(&self, a: u64) -> Flow {
-        let placed = insn_at(self.image, a);
-        let behind = a + u64::from(placed.length);
-        self.flow_by(a, behind, flow_of(self.image, a, placed.insn))
+        prove!(self.image.is_code(a));
+        match self.index.next(a) {
+            Some(next) => Flow::Straight { next },
+            None => self.decoded_flow(a),
+        }
     }
 
+    // So is what ends its chain here: its low bits alone do not tell the length of what is no
+    // instruction.
     fn length(&self, a: u64) -> u8 {
-        insn_at(self.image, a).length
+        prove!(self.image.is_code(a));
+        match self.index.next(a) {
+            Some(next) => (next - a) as u8,
+            None => insn_at(self.image, a).length,
+        }
     }
 
     fn target(&self, a: u64, i: u32) -> u64 {
         prove!(self.image.is_code(a));
         target_of(self.image, a, i)
+    }
+
+    fn targets(&self, a: u64) -> Result<Vec<u64>, Memory> {
+        prove!(self.image.is_code(a));
+        match self.table(a) {
+            Some(table) => kept_targets(self.cuts.alloc(), self.image, self.cuts.count(a), table),
+            None => Ok(Vec::new(self.cuts.alloc())),
+        }
+    }
+
+    fn term(&self, a: u64) -> u64 {
+        prove!(self.image.is_code(a));
+        self.index.term(a)
     }
 }

@@ -9,10 +9,11 @@ use std::alloc::Global;
 use std::collections::BTreeMap;
 use std::marker::Model;
 
-/// The number of entries that are kept of a jump table, by the address of its jump. A table without a
-/// cut keeps all its entries.
+/// The number of entries that are kept of a jump table, by the address of its jump. A table without
+/// a cut keeps all its entries.
 #[derive(Drop)]
 pub struct Cuts {
+    alloc: Global,
     counts: BTreeMap<u64, u32>,
 }
 
@@ -35,8 +36,14 @@ impl Cuts {
         ensures { result ≡ map.empty }
     {
         Cuts {
+            alloc,
             counts: BTreeMap::new(alloc),
         }
+    }
+
+    /// The allocator that the cuts were made with.
+    pub(crate) fn alloc(&self) -> Global {
+        self.alloc
     }
 
     /// Whether no table is cut.
@@ -53,8 +60,8 @@ impl Cuts {
         self.counts.get(&j).copied()
     }
 
-    /// Cuts the table of the jump at `j` to `count` entries, at least 1, in place of what its cut was.
-    /// Every other cut stays.
+    /// Cuts the table of the jump at `j` to `count` entries, at least 1, in place of what its cut
+    /// was. Every other cut stays.
     ///
     /// The only error is that memory ran out; then all cuts stay.
     pub fn put(&mut self, j: u64, count: u32) -> Result<(), Memory>

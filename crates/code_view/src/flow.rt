@@ -55,6 +55,7 @@ pub fn table_flow(cut: Option<u32>, table: Option<Table>) -> Flow
             Flow::Table {
                 entries,
                 full: entries == table.bound,
+                is_open: table.is_open,
             }
         }
         None => Flow::Unknown,

@@ -1,13 +1,18 @@
 //! A file's code as a program: the control flow of its instructions under table cuts.
 //!
-//! - `cuts`: how many entries are kept of a jump table. - `code`: the instructions of an image.
+//! - `cuts`: how many entries are kept of a jump table.
+//! - `code`: the instructions of an image.
 #![tactic(auto)]
 
 mod code;
 mod cuts;
 mod flow;
+mod kept;
 mod memory;
 
 pub use code::Code;
 pub use cuts::Cuts;
 pub use memory::Memory;
+
+#[cfg(test)]
+mod tests;

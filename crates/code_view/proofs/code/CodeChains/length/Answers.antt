@@ -1,18 +1,45 @@
-use Rattle.std.proofs.Common.{◌∙◌, ap}
+use Rattle.std.proofs.Common.{◌≡◌, ◌∙◌, ap, sym, Some, arith}
 use Rattle.rv_flow.specs.Placed.{placed_at}
+use Rattle.chain_index.specs.Chain.{next_of}
 use Rattle.code_view.specs.Cuts.{cut_of}
 use Rattle.code_view.specs.FileCode.{FileCode}
 use Rattle.code_view.proofs.Lawful.{code_of, length-program}
+use Rattle.code_view.proofs.ChainEnds.{next-length, next-small}
 use Rattle.code_view.proofs.Views.{lawful-view}
 use Rattle.code_view.proofs.code.CodeChains.length.Goals as goal
+use Rattle.code_view.proofs.code.CodeChains.length.Goals.{In-Some}
 
-pub returns-clause-length : goal.returns-clause-length
-returns-clause-length c =
+-- control goes straight on in the file that is kept
+goes_on : (c : In-Some) → next_of c.args.self.now.bytes c.args.a ≡ Some c.in-Some.next
+goes_on c =
+    let file = c.self.invariant.index ∙ ap (λ (f : FileCode). f.bytes) c.self.view_is in
+    ap (λ bytes. next_of bytes c.args.a) (sym file) ∙ sym c.in-Some.ensures
+
+pub overflow_sub-result : goal.overflow_sub-result
+overflow_sub-result c =
+    let code = c.args.self.now in
+    omega (arith, (next-small code.bytes (cut_of code.cuts) c.args.a c.in-Some.next (code_of code.bytes (cut_of code.cuts) c.args.a c.requires) (goes_on c)).0)
+
+pub overflow_cast-result : goal.overflow_cast-result
+overflow_cast-result c =
+    let code = c.args.self.now in
+    omega (arith, (next-small code.bytes (cut_of code.cuts) c.args.a c.in-Some.next (code_of code.bytes (cut_of code.cuts) c.args.a c.requires) (goes_on c)).1)
+
+pub returns-in-Some-clause-length : goal.returns-in-Some-clause-length
+returns-in-Some-clause-length c =
+    let code = c.args.self.now in
+    next-length code.bytes (cut_of code.cuts) c.args.a c.in-Some.next (code_of code.bytes (cut_of code.cuts) c.args.a c.requires) (goes_on c)
+
+pub returns-in-Some-clause-lawful : goal.returns-in-Some-clause-lawful
+returns-in-Some-clause-lawful c = lawful-view _ _ c.is_code.ensures.image c.self.invariant.cuts _ c.self.view_is
+
+pub returns-in-None-clause-length : goal.returns-in-None-clause-length
+returns-in-None-clause-length c =
     let code = c.args.self.now in
     let cuts = cut_of code.cuts in
     let bytes = ap (λ (f : FileCode). f.bytes) c.self.view_is in
     length-program code.bytes cuts c.args.a (code_of code.bytes cuts c.args.a c.requires) c.insn_at.result
     (c.insn_at.ensures.placed ∙ ap (λ b. placed_at b c.args.a) bytes)
 
-pub returns-clause-lawful : goal.returns-clause-lawful
-returns-clause-lawful c = lawful-view _ _ c.insn_at.ensures.image c.self.invariant _ c.self.view_is
+pub returns-in-None-clause-lawful : goal.returns-in-None-clause-lawful
+returns-in-None-clause-lawful c = lawful-view _ _ c.is_code.ensures.image c.self.invariant.cuts _ c.self.view_is

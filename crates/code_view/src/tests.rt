@@ -1,0 +1,91 @@
+//! Rows 6 to 17: what is looked up, against walks that decode each instruction; and of row 13 the
+//! targets of its table.
+
+ghost use Rattle.std.specs.Prelude.{◌≤◌};
+
+use super::*;
+use cfg_model::{Chains, Flow, term};
+use cfg_vectors::row_file;
+use chain_index::ChainIndex;
+use elf_image::Image;
+use rv_flow::{RawFlow, flow_of, insn_at};
+use std::process::Abort;
+use std::test::Fail;
+
+// Where the code of a row's file begins.
+const CODE: u64 = 0x10000;
+
+// The jump of row 13, and the targets that the table of that row has.
+const JUMP: u64 = 0x1001C;
+
+const TARGETS: [u64; 8] = [
+    0x10020, 0x10020, 0x10020, 0x10020, 0x10020, 0x10020, 0x10020, 0x10024,
+];
+
+// The end of the chain of `a`: decodes one instruction after the other.
+fn walked(image: &Image, a: u64) -> u64 {
+    let mut k = a;
+    for _ in 0..1_000 {
+        if !image.is_code(k) {
+            break;
+        }
+        let placed = insn_at(image, k);
+        let behind = k.saturating_add(u64::from(placed.length));
+        match flow_of(image, k, placed.insn) {
+            RawFlow::Straight if image.is_code(behind) => k = behind,
+            _ => break,
+        }
+    }
+    k
+}
+
+// Compares them for each code address of a row's file.
+fn agree(rt: &(impl Abort + AllocGlobal), row: u32) -> Result<(), Fail>
+    requires from { 6 ≤ row }
+    requires to { row ≤ 17 }
+{
+    let image = Image::parse(rt.alloc(), row_file(rt.alloc(), row, 0)?)?;
+    let index = ChainIndex::new(rt.alloc(), &image)?;
+    let none = Cuts::none(rt.alloc());
+    let code = Code::new(&image, &index, &none);
+    assert!(rt; code.has(CODE));
+    for i in 0..1_000 {
+        let a = CODE + 2 * i;
+        if image.is_code(a) && code.has(a) {
+            let end = walked(&image, a);
+            assert_eq!(rt;
+                index.term(a),
+                end,
+                "the end of the chain of {a} in row {row}"
+            );
+            assert_eq!(rt; term(&code, a), end);
+            assert_eq!(rt; matches!(code.flow(a), Flow::Straight { .. }), end != a);
+            assert_eq!(rt; code.length(a), insn_at(&image, a).length);
+        }
+    }
+    Ok(())
+}
+
+#[test]
+fn chains_end_where_walks_do(rt: HostRuntime) -> Result<(), Fail> {
+    for row in 6..18 {
+        agree(&rt, row)?;
+    }
+    Ok(())
+}
+
+#[test]
+fn targets_of_a_table(rt: HostRuntime) -> Result<(), Fail> {
+    let image = Image::parse(rt.alloc(), row_file(rt.alloc(), 13, 0)?)?;
+    let index = ChainIndex::new(rt.alloc(), &image)?;
+    let none = Cuts::none(rt.alloc());
+    let code = Code::new(&image, &index, &none);
+    assert!(rt; code.has(CODE) && code.has(JUMP));
+    assert!(rt; code.targets(CODE)?.is_empty());
+    let targets = code.targets(JUMP)?;
+    assert_eq!(rt; targets.as_slice(), TARGETS.as_slice());
+    for i in 0..8 {
+        assert_eq!(rt; code.target(JUMP, i), targets[i as usize]);
+    }
+    Ok(())
+}
