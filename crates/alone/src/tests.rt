@@ -50,7 +50,7 @@ fn expect_terminators(rt: &impl Abort, state: &State, terminators: &[(u64, bool)
 /// Row 6: a branch back into its own block.
 #[test]
 fn branch_back(rt: HostRuntime) -> Result<(), Fail> {
-    let code = row_6();
+    let code = row_6(rt.alloc());
     let state = build_alone(rt.alloc(), &code, code.seeds())?;
     expect_starts(&rt, &state, &[0, 4, 12]);
     expect_ends(&rt, &state, &[(0, 0), (8, 4), (12, 12)]);
@@ -61,7 +61,7 @@ fn branch_back(rt: HostRuntime) -> Result<(), Fail> {
 /// Row 8: a second stream of instructions that is found late, and joins the first one.
 #[test]
 fn joining_streams(rt: HostRuntime) -> Result<(), Fail> {
-    let code = row_8();
+    let code = row_8(rt.alloc());
     let state = build_alone(rt.alloc(), &code, code.seeds())?;
     expect_starts(&rt, &state, &[0, 2, 4, 8]);
     expect_ends(&rt, &state, &[(0, 0), (2, 2), (4, 4), (8, 8)]);
@@ -72,7 +72,7 @@ fn joining_streams(rt: HostRuntime) -> Result<(), Fail> {
 /// Row 9: a function that calls itself, and so never returns.
 #[test]
 fn self_call(rt: HostRuntime) -> Result<(), Fail> {
-    let code = row_9();
+    let code = row_9(rt.alloc());
     let state = build_alone(rt.alloc(), &code, code.seeds())?;
     expect_starts(&rt, &state, &[0]);
     expect_ends(&rt, &state, &[(0, 0)]);
@@ -83,7 +83,7 @@ fn self_call(rt: HostRuntime) -> Result<(), Fail> {
 /// Row 10: two functions that call each other.
 #[test]
 fn mutual_calls(rt: HostRuntime) -> Result<(), Fail> {
-    let code = row_10();
+    let code = row_10(rt.alloc());
     let state = build_alone(rt.alloc(), &code, code.seeds())?;
     expect_starts(&rt, &state, &[0, 4, 8, 12, 16]);
     expect_ends(&rt, &state, &[(0, 0), (4, 4), (8, 8), (12, 12), (16, 16)]);
@@ -98,7 +98,7 @@ fn mutual_calls(rt: HostRuntime) -> Result<(), Fail> {
 /// A table jump with two targets, one of which is kept twice.
 #[test]
 fn table_of_three(rt: HostRuntime) -> Result<(), Fail> {
-    let code = table_jump();
+    let code = table_jump(rt.alloc());
     let state = build_alone(rt.alloc(), &code, code.seeds())?;
     expect_starts(&rt, &state, &[0, 2, 4]);
     expect_ends(&rt, &state, &[(0, 0), (2, 2), (4, 4)]);
@@ -109,7 +109,7 @@ fn table_of_three(rt: HostRuntime) -> Result<(), Fail> {
 /// A closed state that is finished again stays as it is, its count of changes too.
 #[test]
 fn finished_again(rt: HostRuntime) -> Result<(), Fail> {
-    let code = row_8();
+    let code = row_8(rt.alloc());
     let mut state = build_alone(rt.alloc(), &code, code.seeds())?;
     let changes = state.changes();
     finish(rt.alloc(), &code, code.seeds(), &mut state)?;

@@ -1,13 +1,16 @@
--- Work that is left in the shards of a map, one after the other.
+-- Work that is left in the shards of a map, or the lines of a chunk, one after the other.
 use Rattle.std.proofs.Common.{◌≡◌, ℕ, ◌+◌, ◌<◌, ◌≤◌, List, length, get_or, subst, sym, ap, ◌∙◌, arith, below_more}
-use Rattle.std.specs.Prelude.{Option, Some, None, is_some, IfSome, IfNone}
+use Rattle.std.specs.Prelude.{Option, Some, None, is_some, IsSome, IfSome, IfNone}
 use Rattle.std.specs.Ordering.{nat_cmp}
 use Rattle.std.specs.FinMap as maps
 use Rattle.std.proofs.lemmas.List.{get_or_read}
 use Rattle.cfg_model.specs.Builder.Shard.{shard_of}
 use Rattle.cfg_model.specs.Builder.Left.{Work}
 use Rattle.core_state.proofs.Shards.{shard_below, read_joined}
+use Rattle.core_state.proofs.LinesJoined.{page_below}
+use Rattle.core_state.proofs.LinesJoined as pages
 use Rattle.core_state.specs.Joined.{AreShards, joined}
+use Rattle.core_state.specs.inner.Grouped.{page_of, AreLines}
 use Rattle.core_state.specs.inner.Remaining.{LeftAmong, LeftIn}
 
 module _ {X : Type 0} (At : ℕ → X → Work → Type 0) (shards : List (maps.FinMap nat_cmp X)) where
@@ -27,29 +30,46 @@ module _ {X : Type 0} (At : ℕ → X → Work → Type 0) (shards : List (maps.
   pub passed_all : (n : ℕ) → length shards ≤ n → ArePassed n → (work : Work) → ¬ LeftIn At shards work
   passed_all n all passed work left = passed left.shard (omega (arith, left.within, all)) work left.left
 
--- the shards of a map, and the map that they are together
-module _ {X : Type 0} (At : ℕ → X → Work → Type 0) (shards : List (maps.FinMap nat_cmp X)) (are : AreShards shards) (m : maps.FinMap nat_cmp X) (seen : joined shards ≡ m) where
-  pub among_joined : (work : Work) → LeftIn At shards work → LeftAmong At m work
-  among_joined work left = record {
+-- parts of a map, each with the keys that belong to it
+module _ {X : Type 0} (At : ℕ → X → Work → Type 0) (parts : List (maps.FinMap nat_cmp X)) (m : maps.FinMap nat_cmp X) (home : ℕ → ℕ) (read : (q : ℕ) → maps.get m q ≡ maps.get (get_or parts (home q) maps.empty) q) where
+  pub from_part : ((i a : ℕ) → IsSome (maps.get (get_or parts i maps.empty) a) → home a ≡ i) → (work : Work) → LeftIn At parts work → LeftAmong At m work
+  from_part own work left = record {
     key = left.left.key;
     entry = left.left.entry;
     has =
-        ap (λ (n : maps.FinMap nat_cmp X). maps.get n left.left.key) (sym seen) ∙ read_joined shards are left.left.key
-        ∙ ap (λ i. maps.get (get_or shards i maps.empty) left.left.key) (are.own left.shard left.left.key (ap is_some left.left.has)) ∙ left.left.has;
+        read left.left.key
+        ∙ ap (λ i. maps.get (get_or parts i maps.empty) left.left.key) (own left.shard left.left.key (ap is_some left.left.has)) ∙ left.left.has;
     left = left.left.left;
   }
 
-  pub in_shards : (work : Work) → LeftAmong At m work → LeftIn At shards work
-  in_shards work left = record {
-    shard = shard_of left.key;
-    within = subst (λ n. shard_of left.key < n) (sym are.count) (shard_below left.key);
-    left = record {
-      key = left.key;
-      entry = left.entry;
-      has = sym (read_joined shards are left.key) ∙ ap (λ (n : maps.FinMap nat_cmp X). maps.get n left.key) seen ∙ left.has;
-      left = left.left;
-    };
+  pub to_part : ((q : ℕ) → home q < length parts) → (work : Work) → LeftAmong At m work → LeftIn At parts work
+  to_part within work left = record {
+    shard = home left.key;
+    within = within left.key;
+    left = record { key = left.key; entry = left.entry; has = sym (read left.key) ∙ left.has; left = left.left };
   }
+
+-- the lines of a chunk
+module _ {X : Type 0} (At : ℕ → X → Work → Type 0) (lines : List (maps.FinMap nat_cmp X)) (are : AreLines lines) (m : maps.FinMap nat_cmp X) (seen : joined lines ≡ m) where
+  read_line : (q : ℕ) → maps.get m q ≡ maps.get (get_or lines (page_of q) maps.empty) q
+  read_line q = ap (λ (n : maps.FinMap nat_cmp X). maps.get n q) (sym seen) ∙ pages.read_joined lines are q
+
+  pub among_lines : (work : Work) → LeftIn At lines work → LeftAmong At m work
+  among_lines = from_part At lines m page_of read_line are.own
+
+  pub in_lines : (work : Work) → LeftAmong At m work → LeftIn At lines work
+  in_lines = to_part At lines m page_of read_line (λ q. subst (λ n. page_of q < n) (sym are.count) (page_below q))
+
+-- the shards of a map, and the map that they are together
+module _ {X : Type 0} (At : ℕ → X → Work → Type 0) (shards : List (maps.FinMap nat_cmp X)) (are : AreShards shards) (m : maps.FinMap nat_cmp X) (seen : joined shards ≡ m) where
+  read_shard : (q : ℕ) → maps.get m q ≡ maps.get (get_or shards (shard_of q) maps.empty) q
+  read_shard q = ap (λ (n : maps.FinMap nat_cmp X). maps.get n q) (sym seen) ∙ read_joined shards are q
+
+  pub among_joined : (work : Work) → LeftIn At shards work → LeftAmong At m work
+  among_joined = from_part At shards m shard_of read_shard are.own
+
+  pub in_shards : (work : Work) → LeftAmong At m work → LeftIn At shards work
+  in_shards = to_part At shards m shard_of read_shard (λ q. subst (λ n. shard_of q < n) (sym are.count) (shard_below q))
 
   pub some_joined : {T : Type 0} (o : Option T) (work_by : T → Work) (items : List (maps.FinMap nat_cmp X)) → items ≡ shards → IfSome o (λ x. LeftIn At items (work_by x)) → IfSome o (λ x. LeftAmong At m (work_by x))
   some_joined None work_by items same left = tt

@@ -1,12 +1,10 @@
--- The changes of the ends, on the entries of a tree map that is seen as the map of ends.
-use Rattle.std.proofs.Common.{◌≡◌, ℕ, List, subst, ap, sym, ◌∙◌}
+-- The changes of the ends, on a map that is seen as the map of ends.
+use Rattle.std.proofs.Common.{◌≡◌, ℕ, subst, ap, sym, ◌∙◌}
 use Rattle.std.specs.Prelude.{Option, Some, None, IsTrue}
 use Rattle.std.specs.Option.{option_map, option_map_or}
 use Rattle.std.specs.Ordering.{nat_cmp}
 use Rattle.std.specs.FinMap as maps
 use Rattle.std.specs.FinSet as sets
-use Rattle.std.specs.BTreeMap.{is_at}
-use Rattle.std.specs.Map.{lookup}
 use Rattle.cfg_model.specs.Program.Instructions.{InstructionMap}
 use Rattle.cfg_model.specs.Builder.State.{EndMap, EndEntry, IsNear, IsMoved, near_at}
 use Rattle.cfg_model.specs.Builder.Event.{Arrives, ArrivesAt, with_settled}
@@ -15,40 +13,40 @@ use Rattle.cfg_model.proofs.Builder.StateReads.{near_is}
 use Rattle.core_state.specs.declared.answer.Arrival.{Arrival}
 use Rattle.core_state.specs.Answer.{arrival_of}
 use Rattle.core_state.specs.Least.{IsLeast}
-use Rattle.core_state.proofs.Seen.{entry, putting, PutsAt}
+use Rattle.core_state.proofs.LinesKept.{held}
 
-module _ (es : List (ℕ × EndEntry)) (m : EndMap) (seen : maps.from_entries es ≡ m) (k : ℕ) where
-  pub near_known : (o : Option EndEntry) → lookup (is_at (nat_cmp k)) es ≡ o → option_map (λ (e : EndEntry). e.near) o ≡ near_at m k
-  near_known o had = sym (ap (option_map (λ (e : EndEntry). e.near)) (entry es m seen k o had))
+module _ (n m : EndMap) (seen : n ≡ m) (k : ℕ) where
+  pub near_known : (o : Option EndEntry) → maps.get n k ≡ o → option_map (λ (e : EndEntry). e.near) o ≡ near_at m k
+  near_known o had = sym (ap (option_map (λ (e : EndEntry). e.near)) (held n m seen k o had))
 
-  pub none_moved : lookup (is_at (nat_cmp k)) es ≡ None → IsLeast (IsMoved m k) None
-  none_moved had x = rw (entry es m seen k None had) (λ is. cc (sym (sets.contains-empty nat_cmp x) ∙ is))
+  pub none_moved : maps.get n k ≡ None → IsLeast (IsMoved m k) None
+  none_moved had x = rw (held n m seen k None had) (λ is. cc (sym (sets.contains-empty nat_cmp x) ∙ is))
 
-  pub least_known : (old : EndEntry) → lookup (is_at (nat_cmp k)) es ≡ Some old → (o : Option ℕ) → IsLeast (λ x. IsTrue (sets.contains old.moved x)) o → IsLeast (IsMoved m k) o
+  pub least_known : (old : EndEntry) → maps.get n k ≡ Some old → (o : Option ℕ) → IsLeast (λ x. IsTrue (sets.contains old.moved x)) o → IsLeast (IsMoved m k) o
   least_known old had o least =
       subst (λ (s : sets.FinSet nat_cmp). IsLeast (λ x. IsTrue (sets.contains s x)) o)
-      (sym (ap (λ (e : Option EndEntry). option_map_or (λ (f : EndEntry). f.moved) e sets.empty) (entry es m seen k (Some old) had))) least
+      (sym (ap (λ (e : Option EndEntry). option_map_or (λ (f : EndEntry). f.moved) e sets.empty) (held n m seen k (Some old) had))) least
 
-  pub arrives_known : (map : InstructionMap) (s : ℕ) (old new : EndEntry) → lookup (is_at (nat_cmp k)) es ≡ Some old → Arrives map s (Some old) new
-      → (fs : List (ℕ × EndEntry)) → PutsAt nat_cmp es fs k new → ArrivesAt map k s m (maps.from_entries fs)
-  arrives_known map s old new had arrives fs puts =
-      (new, subst (λ (o : Option EndEntry). Arrives map s o new) (sym (entry es m seen k (Some old) had)) arrives, putting es m seen k fs new puts)
+  pub arrives_known : (map : InstructionMap) (s : ℕ) (old new : EndEntry) → maps.get n k ≡ Some old → Arrives map s (Some old) new
+      → ArrivesAt map k s m (maps.insert n k new)
+  arrives_known map s old new had arrives =
+      (new, subst (λ (o : Option EndEntry). Arrives map s o new) (sym (held n m seen k (Some old) had)) arrives, ap (λ x. maps.insert x k new) seen)
 
-  pub arrives_first : (map : InstructionMap) (s : ℕ) (new : EndEntry) → lookup (is_at (nat_cmp k)) es ≡ None → new ≡ record { near = s; moved = sets.empty }
-      → (fs : List (ℕ × EndEntry)) → PutsAt nat_cmp es fs k new → ArrivesAt map k s m (maps.from_entries fs)
-  arrives_first map s new had first fs puts =
-      (new, subst (λ (o : Option EndEntry). Arrives map s o new) (sym (entry es m seen k None had)) first, putting es m seen k fs new puts)
+  pub arrives_first : (map : InstructionMap) (s : ℕ) (new : EndEntry) → maps.get n k ≡ None → new ≡ record { near = s; moved = sets.empty }
+      → ArrivesAt map k s m (maps.insert n k new)
+  arrives_first map s new had first =
+      (new, subst (λ (o : Option EndEntry). Arrives map s o new) (sym (held n m seen k None had)) first, ap (λ x. maps.insert x k new) seen)
 
-  near_after : (fs : List (ℕ × EndEntry)) (new : EndEntry) → PutsAt nat_cmp es fs k new → (n : ℕ) → IsNear (maps.from_entries fs) k n → new.near ≡ n
-  near_after fs new puts n near = near_is (maps.from_entries fs) k new (ap (λ e. maps.get e k) (putting es m seen k fs new puts) ∙ get_here m k new) n near
+  near_after : (new : EndEntry) → (j : ℕ) → IsNear (maps.insert n k new) k j → new.near ≡ j
+  near_after new j near = near_is (maps.insert n k new) k new (ap (λ e. maps.get e k) (ap (λ x. maps.insert x k new) seen) ∙ get_here m k new) j near
 
-  pub answers : (s : ℕ) (o : Option EndEntry) (new : EndEntry) → lookup (is_at (nat_cmp k)) es ≡ o → (fs : List (ℕ × EndEntry)) → PutsAt nat_cmp es fs k new
-      → (arrival : Arrival) → arrival ≡ arrival_of s (option_map (λ (e : EndEntry). e.near) o) new.near → (n : ℕ) → IsNear (maps.from_entries fs) k n → arrival ≡ arrival_of s (near_at m k) n
-  answers s o new had fs puts arrival is n near =
-      is ∙ (λ i. arrival_of s (near_known o had i) (near_after fs new puts n near i))
+  pub answers : (s : ℕ) (o : Option EndEntry) (new : EndEntry) → maps.get n k ≡ o
+      → (arrival : Arrival) → arrival ≡ arrival_of s (option_map (λ (e : EndEntry). e.near) o) new.near → (j : ℕ) → IsNear (maps.insert n k new) k j → arrival ≡ arrival_of s (near_at m k) j
+  answers s o new had arrival is j near =
+      is ∙ (λ i. arrival_of s (near_known o had i) (near_after new j near i))
 
-  pub settles : (old new : EndEntry) (x : ℕ) → lookup (is_at (nat_cmp k)) es ≡ Some old → new ≡ record old { moved = sets.remove old.moved x }
-      → (fs : List (ℕ × EndEntry)) → PutsAt nat_cmp es fs k new → maps.from_entries fs ≡ with_settled m k x
-  settles old new x had change fs puts =
-      putting es m seen k fs new puts ∙ ap (λ e. maps.insert m k e) change
-      ∙ sym (ap (λ (o : Option EndEntry). option_map_or (λ (e : EndEntry). maps.insert m k (record e { moved = sets.remove e.moved x })) o m) (entry es m seen k (Some old) had))
+  pub settles : (old new : EndEntry) (x : ℕ) → maps.get n k ≡ Some old → new ≡ record old { moved = sets.remove old.moved x }
+      → maps.insert n k new ≡ with_settled m k x
+  settles old new x had change =
+      ap (λ x. maps.insert x k new) seen ∙ ap (λ e. maps.insert m k e) change
+      ∙ sym (ap (λ (o : Option EndEntry). option_map_or (λ (e : EndEntry). maps.insert m k (record e { moved = sets.remove e.moved x })) o m) (held n m seen k (Some old) had))

@@ -8,8 +8,7 @@ pub mod Alone
 pub mod Worked
 pub mod RowChains
 pub mod KeysJoined
-pub mod KeysSeen
-pub mod KeysPassed
+pub mod LineJoined
 pub mod Walks
 pub mod Shards
 pub mod LocalChanges
@@ -22,3 +21,9 @@ pub mod Among
 pub mod AtEntries
 pub mod AmongShards
 pub mod LeftPieces
+pub mod PairsInRow
+pub mod WaitersKept
+pub mod LinesKept
+pub mod LinesJoined
+pub mod ChunksJoined
+pub mod KeysAfter

@@ -16,7 +16,7 @@ pub shard_below : (k : ℕ) → shard_of k < 64
 shard_below k = omega arith
 
 module _ {X : Type 0} where
-  abbrev or_else : Option X → Option X → Option X
+  abbrev pub or_else : Option X → Option X → Option X
   or_else None y = y
   or_else (Some x) y = Some x
 
@@ -24,15 +24,15 @@ module _ {X : Type 0} where
   branch true x r s t e = refl
   branch false x r s t e = e
 
-  find_append : (q : ℕ) (es fs : List (ℕ × X)) → find nat_cmp q (es ++ fs) ≡ or_else (find nat_cmp q es) (find nat_cmp q fs)
+  pub find_append : (q : ℕ) (es fs : List (ℕ × X)) → find nat_cmp q (es ++ fs) ≡ or_else (find nat_cmp q es) (find nat_cmp q fs)
   find_append q [] fs = refl
   find_append q (e ∷ es) fs = branch (eq_by_cmp nat_cmp q e.0) e.1 _ _ _ (find_append q es fs)
 
-  or_none : (o : Option X) → or_else o None ≡ o
+  pub or_none : (o : Option X) → or_else o None ≡ o
   or_none None = refl
   or_none (Some x) = refl
 
-  none_of : (o : Option X) → ¬ IsSome o → o ≡ None
+  pub none_of : (o : Option X) → ¬ IsSome o → o ≡ None
   none_of None never = refl
   none_of (Some x) never = absurd (never refl)
 

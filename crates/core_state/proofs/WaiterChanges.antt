@@ -13,11 +13,10 @@ use Rattle.std.specs.Map.{lookup}
 use Rattle.cfg_model.specs.declared.state.Waiter.{Waiter}
 use Rattle.cfg_model.specs.Builder.Waiter.{waiter_cmp}
 use Rattle.cfg_model.specs.contracts.state.WaiterOrd.TheImpl as derived
-use Rattle.cfg_model.specs.Builder.State.{TerminatorEntry}
-use Rattle.cfg_model.specs.Builder.Event.{entry_with_waiter, entry_with_told}
 use Rattle.cfg_model.proofs.Builder.WaiterOrder.{waiter_cmp_total, exact_waiters}
 use Rattle.core_state.specs.Least.{IsLeastBy}
 use Rattle.core_state.specs.inner.Untold.{is_untold, AreUntold}
+use Rattle.core_state.specs.inner.Waiting.{WaiterMap, AwaitsTelling, with_told}
 use Rattle.core_state.proofs.DerivedOrder.{derived_order}
 use Rattle.core_state.proofs.Seen.{found, put, take, take_new, PutsAt, TakesAt}
 use Rattle.core_state.proofs.SeenSet.{HasAt, seen_insert, seen_remove}
@@ -81,18 +80,12 @@ pub accepted : {T E P : Type 0} (r : Result T E) → is_err r ≡ false → OnOk
 accepted (Ok x) e p = p
 accepted (Err x) e p = cc
 
--- an entry with a waiter: one that waits already changes nothing
-pub waits_again : (e : TerminatorEntry) (w : Waiter) → IsSome (maps.get e.waiters w) → e ≡ entry_with_waiter w e
-waits_again e w had = rw had
+-- a waiter is told where it waits
+pub told_now : (m : WaiterMap) (w : Waiter) → IsSome (maps.get m w) → maps.insert m w true ≡ with_told m w
+told_now m w had = rw had
 
-pub waits_now : (e : TerminatorEntry) (w : Waiter) → is_some (maps.get e.waiters w) ≡ false → record e { waiters = maps.insert e.waiters w false } ≡ entry_with_waiter w e
-waits_now e w none = rw none
-
-pub told_now : (e : TerminatorEntry) (w : Waiter) → IsSome (maps.get e.waiters w) → record e { waiters = maps.insert e.waiters w true } ≡ entry_with_told w e
-told_now e w had = rw had
-
-pub told_never : (e : TerminatorEntry) (w : Waiter) → maps.get e.waiters w ≡ None → e ≡ entry_with_told w e
-told_never e w none = rw none
+pub told_never : (m : WaiterMap) (w : Waiter) → maps.get m w ≡ None → m ≡ with_told m w
+told_never m w none = rw none
 
 -- the first untold waiter is the least one whose mark is false
 is_false : (o : Option Bool) → is_untold o ≡ true → o ≡ Some false
@@ -100,18 +93,18 @@ is_false None e = cc
 is_false (Some true) e = cc
 is_false (Some false) e = refl
 
-least_as : (P Q : Waiter → Type 0) (o : Option Waiter) → ((w : Waiter) → P w → Q w) → ((w : Waiter) → Q w → P w) → IsLeastBy waiter_cmp P o → IsLeastBy waiter_cmp Q o
+pub least_as : (P Q : Waiter → Type 0) (o : Option Waiter) → ((w : Waiter) → P w → Q w) → ((w : Waiter) → Q w → P w) → IsLeastBy waiter_cmp P o → IsLeastBy waiter_cmp Q o
 least_as P Q None to fro least = λ w q. least w (fro w q)
 least_as P Q (Some x) to fro least = (to x least.0, λ w q. least.1 w (fro w q))
 
-pub next_of : (ks : List Waiter) (es : List (Waiter × Bool)) → AreUntold (sets.from_list ks) (maps.from_entries es) → (e : TerminatorEntry) → maps.from_entries es ≡ e.waiters → IsTrue e.returned
+pub next_of : (ks : List Waiter) (es : List (Waiter × Bool)) → AreUntold (sets.from_list ks) (maps.from_entries es) → (m : WaiterMap) → maps.from_entries es ≡ m
     → (r : Option (Bor Waiter)) (o : Option Waiter) → o ≡ option_copied r → (0 < length ks → IsSome r) → IfSome r (λ k. list_any (is_at (order k.now)) ks ≡ true)
     → IfSome r (λ k. (q : Waiter) → list_any (is_at (order q)) ks ≡ true → is_gt (order k.now q) ≡ false)
-    → IsLeastBy waiter_cmp (λ w. IsTrue e.returned × (maps.get e.waiters w ≡ Some false)) o
-next_of ks es are e seen returned r o copied some has least =
-    least_as (λ w. IsTrue (sets.contains (sets.from_list ks) w)) _ o
-    (λ w is. (returned, sym (ap (λ m. maps.get m w) seen) ∙ is_false _ (sym (are w) ∙ is)))
-    (λ w is. are w ∙ ap is_untold (ap (λ m. maps.get m w) seen ∙ is.1))
+    → IsLeastBy waiter_cmp (AwaitsTelling m) o
+next_of ks es are m seen r o copied some has least =
+    least_as (λ w. IsTrue (sets.contains (sets.from_list ks) w)) (AwaitsTelling m) o
+    (λ w is. sym (ap (λ n. maps.get n w) seen) ∙ is_false _ (sym (are w) ∙ is))
+    (λ w is. are w ∙ ap is_untold (ap (λ n. maps.get n w) seen ∙ is))
     (least_of_first waiter_cmp_total exact_waiters ks r o copied some
     (subst (λ R. IfSome r (λ k. list_any (is_at (R k.now)) ks ≡ true)) derived_order has)
     (subst (λ R. IfSome r (λ k. (q : Waiter) → list_any (is_at (R q)) ks ≡ true → is_gt (R k.now q) ≡ false)) derived_order least))

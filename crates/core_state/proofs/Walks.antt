@@ -24,7 +24,7 @@ least_as P Q None to fro least = λ k q. least k (fro k q)
 least_as P Q (Some x) to fro least = (to x least.0, λ k q. least.1 k (fro k q))
 
 -- the lesser of the least of two kinds is the least of both
-least_either : (P Q : ℕ → Type 0) (x y : Option ℕ) → IsLeast P x → IsLeast Q y → IsLeast (λ k. P k ⊎ Q k) (lesser_of x y)
+pub least_either : (P Q : ℕ → Type 0) (x y : Option ℕ) → IsLeast P x → IsLeast Q y → IsLeast (λ k. P k ⊎ Q k) (lesser_of x y)
 least_either P Q None None p q = λ k e. elim e [ inl h ↦ p k h | inr h ↦ q k h ]
 least_either P Q None (Some y) p q = (inr q.0, λ k e. elim e [ inl h ↦ absurd (p k h) | inr h ↦ q.1 k h ])
 least_either P Q (Some x) None p q = (inl p.0, λ k e. elim e [ inl h ↦ p.1 k h | inr h ↦ absurd (q k h) ])

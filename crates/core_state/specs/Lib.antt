@@ -1,4 +1,5 @@
 pub mod Least
+pub mod Line
 pub mod Answer
 pub mod Reads
 pub mod Joined

@@ -23,12 +23,14 @@ AreKept map seeds maps = ForSome maps (IsKept map seeds)
 
 -- Where the maps are told, they go from one state to another as R says. Whether they are told never
 -- changes.
-abbrev pub WhereTold : (BuilderState → BuilderState → Type 0) → Option BuilderState → Option BuilderState → Type 0
+abbrev pub WhereTold : (BuilderState → BuilderState → Type 0) → Option BuilderState
+    → Option BuilderState → Type 0
 WhereTold R None new = new ≡ None
 WhereTold R (Some old) new = (state : BuilderState) × (new ≡ Some state) × R old state
 
 -- Where the maps are told, they allowed the event and made its step.
-abbrev pub Makes : InstructionMap → List ℕ → Event → Option BuilderState → Option BuilderState → Type 0
+abbrev pub Makes : InstructionMap → List ℕ → Event → Option BuilderState
+    → Option BuilderState → Type 0
 Makes map seeds event = WhereTold (λ old new. May map seeds old event × Steps map old event new)
 
 -- All these facts are known.
@@ -53,9 +55,12 @@ near_after s (Split near first second) = near
 -- Where the maps are told, the arrival is the one that they answer: by the starts that were and are
 -- near at k.
 abbrev pub IsArrival : ℕ → ℕ → Option BuilderState → Option BuilderState → Arrival → Type 0
-IsArrival k s before after arrival = (old new : BuilderState) → before ≡ Some old → after ≡ Some new → (m : ℕ) → IsNear new.ends k m → arrival ≡ arrival_of s (near_at old.ends k) m
+IsArrival k s before after arrival =
+    (old new : BuilderState) → before ≡ Some old → after ≡ Some new → (m : ℕ) → IsNear new.ends k m
+    → arrival ≡ arrival_of s (near_at old.ends k) m
 
 -- A refusal for want of a shard names the one of the key, and comes only where the count rose.
 abbrev pub IsBusyAt : ShardKind → ℕ → ℕ → ℕ → PlaceEnd → Type 0
-IsBusyAt kind key before after (Busy k shard) = (k ≡ kind) × (shard ≡ shard_of key) × (before < after)
+IsBusyAt kind key before after (Busy k shard) =
+    (k ≡ kind) × (shard ≡ shard_of key) × (before < after)
 IsBusyAt kind key before after Memory = Unit {0}

@@ -1,12 +1,12 @@
 -- The program of a test.
-use Rattle.std.specs.Prelude.{ℕ, List, [], ◌∷◌, ◌++◌, true}
+use Rattle.std.specs.Prelude.{ℕ, List, [], ◌∷◌, ◌++◌, true, false}
 use Rattle.cfg_model.specs.declared.flow.Flow.TheVariants.{Table}
 use Rattle.cfg_model.specs.Program.Instructions.{Instruction, InstructionMap}
 use Rattle.cfg_model.proofs.Worked.Rows.{placed, row_8_code}
 
 -- A table jump to the first instruction of row 8.
 abbrev pub table_jump : Instruction
-table_jump = record { bytes = 4; flow = Table 1 true; targets = 0x10000 ∷ [] }
+table_jump = record { bytes = 4; flow = Table 1 true false; targets = 0x10000 ∷ [] }
 
 -- Row 8's code, and the table jump, to which nothing leads.
 abbrev pub row_23_code : List (ℕ × Instruction)

@@ -1,4 +1,8 @@
 -- Words of this crate's own functions, which no public contract cites.
 pub mod Untold
+pub mod Waiting
+pub mod Pairs
+pub mod Lent
+pub mod Grouped
 pub mod Walk
 pub mod Remaining

@@ -7,12 +7,12 @@ ghost use Rattle.cfg_model.specs.Program.Meeting.{IsMeeting};
 
 use cfg_model::{Chains, Flow};
 
-/// A program as a walk along its chains sees it: the addresses of its instructions, and from a straight
-/// instruction the way on. A [`Chains`] value is walked [`Along`].
+/// A program as a walk along its chains sees it: the addresses of its instructions, and from a
+/// straight instruction the way on. A [`Chains`] value is walked [`Along`].
 ///
-/// Unlike a `Chains` value it need not be shared between threads. So a method of a trait that was handed
-/// a `Chains` value of any type can pass it on: a [`Place`](crate::place::Place) does, where a start
-/// arrives.
+/// Unlike a `Chains` value it need not be shared between threads. So a method of a trait that was
+/// handed a `Chains` value of any type can pass it on: a [`Place`](crate::place::Place) does, where
+/// a start arrives.
 pub trait Walk {
     ghost use Rattle.std.specs.Prelude.{◌↔◌, IsTrue, IsSome, IfSome, IfNone};
     ghost use Rattle.cfg_model.specs.Program.Chain.{GoesOnTo, IsTerminator};
@@ -76,7 +76,8 @@ fn climb<W: Walk>(walk: &W, s: u64, k: u64) -> u64
     ensures lawful { IsLawful (W.map walk.now) }
     ensures known { IsSome (W.map walk.now result) }
     ensures on_chain { OnChain (W.map walk.now) s result }
-    ensures ahead { (x : ℕ) → k ≤ x → OnChain (W.map walk.now) s x → OnChain (W.map walk.now) result x }
+    ensures ahead { (x : ℕ) → k ≤ x → OnChain (W.map walk.now) s x
+        → OnChain (W.map walk.now) result x }
     ensures found { OnChain (W.map walk.now) s k → result ≡ k }
 {
     let mut at = s;

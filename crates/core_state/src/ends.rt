@@ -1,6 +1,7 @@
 //! A shard of the ends of blocks.
 
-ghost use Rattle.std.specs.Prelude.{◌≡◌, ℕ, IsTrue, Some, if◌then◌else◌, OnOk, OnErr, IfOk, IfSome, IfNone};
+ghost use Rattle.std.specs.Prelude.{◌≡◌, ℕ, IsTrue, Some, if◌then◌else◌};
+ghost use Rattle.std.specs.Prelude.{OnOk, OnErr, IfOk, IfSome, IfNone};
 ghost use Rattle.std.specs.FinMap as maps;
 ghost use Rattle.std.specs.FinSet as sets;
 ghost use Rattle.std.specs.Ordering.{nat_cmp};
@@ -16,19 +17,21 @@ ghost use Rattle.core_state.specs.inner.Remaining.{LeftAmong, LeftAtEnd};
 
 use crate::along::{Along, Walk, meet_along};
 use crate::answer::{Arrival, Name, WorkKind};
+use crate::line_map::LineMap;
+use crate::look::Look;
 use crate::maps::Maps;
 use crate::memory::Memory;
-use crate::walk::{Keys, least_above};
+use crate::walk::Keys;
 use cfg_model::Chains;
 use std::alloc::Global;
-use std::collections::{BTreeMap, BTreeSet};
+use std::collections::BTreeSet;
 use std::marker::Model;
 
 /// The ends of blocks in one shard, by the address of the last instruction.
 #[derive(Drop)]
 pub struct Ends {
     alloc: Global,
-    ends: BTreeMap<u64, End>,
+    ends: LineMap<End>,
 }
 
 impl Model for Ends {
@@ -40,7 +43,7 @@ impl Model for Ends {
 
     ghost coded = { coded_ends };
 
-    ghost view = { λ e. maps.from_entries e.ends.entries };
+    ghost view = { λ e. e.ends };
 }
 
 impl Ends {
@@ -50,18 +53,19 @@ impl Ends {
     {
         Ends {
             alloc,
-            ends: BTreeMap::new(alloc),
+            ends: LineMap::new(alloc),
         }
     }
 
-    /// The start `s` arrives at the end `k`: the first one there is near; another one splits the end at
-    /// the first address on the chains of both. Takes time linear in the two chains up to `k`.
-    /// [`Memory`] where memory ran out, and then nothing has changed.
+    /// The start `s` arrives at the end `k`: the first one there is near; another one splits the
+    /// end at the first address on the chains of both. Takes time linear in the two chains up to
+    /// `k`. [`Memory`] where memory ran out, and then nothing has changed.
     pub fn arrive<C: Chains>(&mut self, code: &C, k: u64, s: u64) -> Result<Arrival, Memory>
         requires arriving { OnChain (C.map code.now) s k }
         requires near { (p : ℕ) → IsNear self.old k p → OnChain (C.map code.now) p k }
         ensures arrives { OnOk result (ArrivesAt (C.map code.now) k s self.old self.new) }
-        ensures answer { IfOk result (λ arrival. (m : ℕ) → IsNear self.new k m → arrival ≡ arrival_of s (near_at self.old k) m) }
+        ensures answer { IfOk result (λ arrival. (m : ℕ) → IsNear self.new k m
+            → arrival ≡ arrival_of s (near_at self.old k) m) }
         ensures unchanged { OnErr result (self.new ≡ self.old) }
     {
         self.arrive_along(&Along(code), k, s)
@@ -72,14 +76,15 @@ impl Ends {
         requires arriving { OnChain (W.map walk.now) s k }
         requires near { (p : ℕ) → IsNear self.old k p → OnChain (W.map walk.now) p k }
         ensures arrives { OnOk result (ArrivesAt (W.map walk.now) k s self.old self.new) }
-        ensures answer { IfOk result (λ arrival. (m : ℕ) → IsNear self.new k m → arrival ≡ arrival_of s (near_at self.old k) m) }
+        ensures answer { IfOk result (λ arrival. (m : ℕ) → IsNear self.new k m
+            → arrival ≡ arrival_of s (near_at self.old k) m) }
         ensures unchanged { OnErr result (self.new ≡ self.old) }
     {
-        if let Some(end) = self.ends.get_mut(&k) {
-            return end.arrive(walk, k, s);
+        let new = self.ends.add(k, End::first(self.alloc, s))?;
+        if new {
+            return Ok(Arrival::First);
         }
-        self.ends.insert(k, End::first(self.alloc, s))?;
-        Ok(Arrival::First)
+        self.ends.value_mut(k).arrive(walk, k, s)
     }
 
     /// Takes `x` out of the displaced starts of the end `k`.
@@ -87,16 +92,14 @@ impl Ends {
         requires { HasEnd self.old k }
         ensures { self.new ≡ with_settled self.old k x }
     {
-        if let Some(end) = self.ends.get_mut(&k) {
-            end.settle(x);
-        }
+        self.ends.value_mut(k).settle(x);
     }
 
     /// The start of the block that ends at `k`; `None` exactly where no block is known to.
     pub fn near(&self, k: u64) -> Option<u64>
         ensures { result ≡ near_at self.now k }
     {
-        let end = self.ends.get(&k)?;
+        let end = self.ends.get(k)?;
         Some(end.near)
     }
 
@@ -104,21 +107,18 @@ impl Ends {
     pub fn moved(&self, k: u64) -> Option<u64>
         ensures { IsLeast (IsMoved self.now k) result }
     {
-        let end = self.ends.get(&k)?;
+        let end = self.ends.get(k)?;
         end.least_moved()
     }
 
     /// Work that is left at an end. It goes over the shard once.
     pub(crate) fn left(&self, shards: &Maps) -> Option<Name>
-        ensures some { IfSome result (λ name. LeftAmong (LeftAtEnd shards.now.starts) self.now (work_of name)) }
-        ensures none { IfNone result ((work : Work) → ¬ LeftAmong (LeftAtEnd shards.now.starts) self.now work) }
+        ensures some { IfSome result
+            (λ name. LeftAmong (LeftAtEnd shards.now.starts) self.now (work_of name)) }
+        ensures none { IfNone result
+            ((work : Work) → ¬ LeftAmong (LeftAtEnd shards.now.starts) self.now work) }
     {
-        for (k, end) in &self.ends {
-            if let Some(name) = end.left(*k, shards) {
-                return Some(name);
-            }
-        }
-        None
+        self.ends.first_left(&LookAtEnd(shards))
     }
 }
 
@@ -126,7 +126,21 @@ impl Keys for Ends {
     ghost has = { λ s k. maps.contains_key s k };
 
     fn after(&self, a: Option<u64>) -> Option<u64> {
-        least_above(&self.ends, a)
+        self.ends.after(a)
+    }
+}
+
+/// The look at an end, with the starts of these maps.
+#[derive(Clone, Copy)]
+struct LookAtEnd<'a>(&'a Maps);
+
+impl Look<End> for LookAtEnd<'_> {
+    ghost use Rattle.core_state.specs.inner.Remaining.{LeftAtEnd};
+
+    ghost left = { λ look. LeftAtEnd look.0.now.starts };
+
+    fn left_at(&self, k: u64, end: &End) -> Option<Name> {
+        end.left(k, self.0)
     }
 }
 
@@ -165,7 +179,8 @@ impl End {
         requires arriving { OnChain (W.map walk.now) s k }
         requires near { OnChain (W.map walk.now) self.old.near k }
         ensures arrives { OnOk result (Arrives (W.map walk.now) s (Some self.old) self.new) }
-        ensures answer { IfOk result (λ arrival. arrival ≡ arrival_of s (Some self.old.near) self.new.near) }
+        ensures answer { IfOk result
+            (λ arrival. arrival ≡ arrival_of s (Some self.old.near) self.new.near) }
         ensures unchanged { OnErr result (self.new ≡ self.old) }
     {
         if self.near == s {
@@ -177,7 +192,12 @@ impl End {
 
     /// Makes `near` the near start: the one before and `s` are displaced, where they are others.
     fn split(&mut self, near: u64, s: u64) -> Result<Arrival, Memory>
-        ensures split { OnOk result (self.new ≡ record { near = near; moved = with_displaced (with_displaced self.old.moved near self.old.near) near s }) }
+        ensures split { OnOk result
+            (self.new ≡ record {
+              near = near;
+              moved = with_displaced
+                  (with_displaced self.old.moved near self.old.near) near s;
+            }) }
         ensures answer { IfOk result (λ arrival. arrival ≡ split_into near self.old.near s) }
         ensures unchanged { OnErr result (self.new ≡ self.old) }
     {
@@ -201,11 +221,13 @@ impl End {
         self.moved.first().copied()
     }
 
-    /// Work that is left at this end, which is at `k`: to place a displaced start, or to make the near
-    /// one a start.
+    /// Work that is left at this end, which is at `k`: to place a displaced start, or to make the
+    /// near one a start.
     fn left(&self, k: u64, shards: &Maps) -> Option<Name>
-        ensures some { IfSome result (λ name. LeftAtEnd shards.now.starts k self.now (work_of name)) }
-        ensures none { IfNone result ((work : Work) → ¬ LeftAtEnd shards.now.starts k self.now work) }
+        ensures some { IfSome result
+            (λ name. LeftAtEnd shards.now.starts k self.now (work_of name)) }
+        ensures none { IfNone result
+            ((work : Work) → ¬ LeftAtEnd shards.now.starts k self.now work) }
     {
         if self.least_moved().is_some() {
             return Some(Name {
@@ -256,8 +278,10 @@ fn split_answer(near: u64, p: u64, s: u64) -> Arrival
 
 /// Adds `p` and `s`, but not `near`, to the displaced starts: both or neither.
 fn displace_both(moved: &mut BTreeSet<u64>, near: u64, p: u64, s: u64) -> Result<(), Memory>
-    ensures displaced { OnOk result (sets.from_list {R = nat_cmp} moved.new.keys ≡ with_displaced (with_displaced (sets.from_list moved.old.keys) near p) near s) }
-    ensures unchanged { OnErr result (sets.from_list {R = nat_cmp} moved.new.keys ≡ sets.from_list moved.old.keys) }
+    ensures displaced { OnOk result (sets.from_list {R = nat_cmp} moved.new.keys ≡ with_displaced
+        (with_displaced (sets.from_list moved.old.keys) near p) near s) }
+    ensures unchanged { OnErr result
+        (sets.from_list {R = nat_cmp} moved.new.keys ≡ sets.from_list moved.old.keys) }
 {
     let added = displace(moved, near, p)?;
     if displace(moved, near, s).is_err() {
@@ -271,9 +295,13 @@ fn displace_both(moved: &mut BTreeSet<u64>, near: u64, p: u64, s: u64) -> Result
 
 /// Adds `x` to the displaced starts, unless it is `near`. Answers whether it is new there.
 fn displace(moved: &mut BTreeSet<u64>, near: u64, x: u64) -> Result<bool, Memory>
-    ensures displaced { OnOk result (sets.from_list {R = nat_cmp} moved.new.keys ≡ with_displaced (sets.from_list moved.old.keys) near x) }
-    ensures added { IfOk result (λ added. (if added then sets.remove (sets.from_list {R = nat_cmp} moved.new.keys) x else sets.from_list moved.new.keys) ≡ sets.from_list moved.old.keys) }
-    ensures unchanged { OnErr result (sets.from_list {R = nat_cmp} moved.new.keys ≡ sets.from_list moved.old.keys) }
+    ensures displaced { OnOk result (sets.from_list {R = nat_cmp} moved.new.keys ≡ with_displaced
+        (sets.from_list moved.old.keys) near x) }
+    ensures added { IfOk result
+        (λ added. (if added then sets.remove (sets.from_list {R = nat_cmp} moved.new.keys) x
+        else sets.from_list moved.new.keys) ≡ sets.from_list moved.old.keys) }
+    ensures unchanged { OnErr result
+        (sets.from_list {R = nat_cmp} moved.new.keys ≡ sets.from_list moved.old.keys) }
 {
     if x == near {
         return Ok(false);

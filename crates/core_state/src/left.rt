@@ -5,7 +5,8 @@ ghost use Rattle.std.specs.FinMap as maps;
 ghost use Rattle.cfg_model.specs.Builder.State.{IsStart};
 ghost use Rattle.cfg_model.specs.Builder.Left.{Work, IsLeft, HasNothingLeft};
 ghost use Rattle.core_state.specs.Work.{work_of};
-ghost use Rattle.core_state.specs.inner.Remaining.{LeftAmong, LeftIn, LeftAtStart, LeftAtEnd, LeftAtTerminator};
+ghost use Rattle.core_state.specs.inner.Remaining.{LeftAmong, LeftIn, LeftAtStart};
+ghost use Rattle.core_state.specs.inner.Remaining.{LeftAtEnd, LeftAtTerminator};
 
 use crate::answer::{Name, WorkKind};
 use crate::ends::Ends;
@@ -13,8 +14,8 @@ use crate::maps::Maps;
 use crate::starts::Starts;
 use crate::terms::Terms;
 
-/// Work that is left in a state with these maps, where these addresses are to be starts. It goes over
-/// each shard once.
+/// Work that is left in a state with these maps, where these addresses are to be starts. It goes
+/// over each shard once.
 pub(crate) fn left_of(shards: &Maps, seeds: &[u64]) -> Option<Name>
     ensures some { IfSome result (λ name. IsLeft seeds.now shards.now (work_of name)) }
     ensures none { IfNone result (HasNothingLeft seeds.now shards.now) }
@@ -62,8 +63,10 @@ pub(crate) fn left_of_starts(shards: &[Starts]) -> Option<Name>
 
 /// Work that is left at the ends of these shards, where the others are those of the starts.
 pub(crate) fn left_of_ends(ends: &[Ends], shards: &Maps) -> Option<Name>
-    ensures some { IfSome result (λ name. LeftIn (LeftAtEnd shards.now.starts) ends.now (work_of name)) }
-    ensures none { IfNone result ((work : Work) → ¬ LeftIn (LeftAtEnd shards.now.starts) ends.now work) }
+    ensures some { IfSome result
+        (λ name. LeftIn (LeftAtEnd shards.now.starts) ends.now (work_of name)) }
+    ensures none { IfNone result
+        ((work : Work) → ¬ LeftIn (LeftAtEnd shards.now.starts) ends.now work) }
 {
     for shard in ends {
         if let Some(name) = shard.left(shards) {

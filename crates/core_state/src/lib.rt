@@ -1,5 +1,5 @@
-//! The state that builders of a control-flow graph share, as data: the starts, ends and terminators of
-//! blocks that are known so far, and the nine changes of them.
+//! The state that builders of a control-flow graph share, as data: the starts, ends and terminators
+//! of blocks that are known so far, and the nine changes of them.
 //!
 //! - [`shard()`]: the shard that an address belongs to, of 64.
 //! - [`starts`], [`ends`], [`terms`]: one shard of each of the three maps.
@@ -15,11 +15,17 @@ ghost use Rattle.cfg_model.specs.Builder.Shard.{shard_of};
 
 pub mod along;
 pub mod answer;
+mod chunk;
+mod crowd;
 pub mod ends;
 pub mod laws;
 mod left;
+mod line;
+mod line_map;
+mod look;
 mod maps;
 pub mod memory;
+mod pairs;
 pub mod place;
 pub mod starts;
 pub mod state;
@@ -27,6 +33,7 @@ mod state_place;
 pub mod terms;
 #[cfg(test)]
 mod tests;
+mod waiters;
 mod walk;
 
 pub use along::{Along, Walk};
@@ -39,8 +46,8 @@ pub use starts::Starts;
 pub use state::State;
 pub use terms::Terms;
 
-/// The number of the shard that the address `a` belongs to: the lines of 64 bytes go to 64 shards in
-/// turn.
+/// The number of the shard that the address `a` belongs to: the lines of 64 bytes go to 64 shards
+/// in turn.
 pub fn shard(a: u64) -> u32
     ensures { result ≡ shard_of a }
 {

@@ -1,17 +1,21 @@
 //! The three maps of a state, in shards.
 
-ghost use Rattle.std.specs.Prelude.{◌≡◌, ◌↔◌, ℕ, All, length, IsTrue, OnOk, OnErr, IfOk, IfSome, IfNone};
+ghost use Rattle.std.specs.Prelude.{◌≡◌, ◌↔◌, ℕ, All, length, IsTrue};
+ghost use Rattle.std.specs.Prelude.{OnOk, OnErr, IfOk, IfSome, IfNone};
 ghost use Rattle.std.specs.FinMap as maps;
 ghost use Rattle.cfg_model.specs.Program.Chain.{OnChain};
-ghost use Rattle.cfg_model.specs.Builder.State.{empty_state, IsStart, HasEnd, IsNear, IsMoved, near_at, IsEntered, IsReturned, WaitsAt};
+ghost use Rattle.cfg_model.specs.Builder.State.{empty_state, IsStart, HasEnd, IsNear, IsMoved};
+ghost use Rattle.cfg_model.specs.Builder.State.{near_at, IsEntered, IsReturned, WaitsAt};
 ghost use Rattle.cfg_model.specs.Builder.Event.{Event, Steps};
 ghost use Rattle.core_state.specs.Answer.{arrival_of};
 ghost use Rattle.core_state.specs.Joined.{AreShards, joined};
 ghost use Rattle.core_state.specs.Leads.{Leads};
 ghost use Rattle.core_state.specs.Least.{IsLeast, IsAbove};
+ghost use Rattle.core_state.specs.Line.{IsNextInLine};
 ghost use Rattle.core_state.specs.Reads.{done_at, returned_at, IsNextToTell};
 ghost use Rattle.core_state.specs.Work.{work_of};
-ghost use Rattle.core_state.specs.inner.Remaining.{LeftAmong, LeftAtStart, LeftAtEnd, LeftAtTerminator};
+ghost use Rattle.core_state.specs.inner.Remaining.{LeftAmong, LeftAtStart};
+ghost use Rattle.core_state.specs.inner.Remaining.{LeftAtEnd, LeftAtTerminator};
 ghost use Rattle.cfg_model.specs.Builder.Left.{Work};
 
 use crate::along::Walk;
@@ -30,8 +34,8 @@ use std::marker::Model;
 /// How many shards there are of each kind.
 const SHARDS: usize = 64;
 
-/// The maps of a state: the starts, the ends and the terminators that are known, each kind in 64 shards
-/// by address. Each of the nine changes goes to the shard of its key.
+/// The maps of a state: the starts, the ends and the terminators that are known, each kind in 64
+/// shards by address. Each of the nine changes goes to the shard of its key.
 #[derive(Drop)]
 pub(crate) struct Maps {
     starts: Vec<Starts>,
@@ -48,9 +52,14 @@ impl Model for Maps {
 
     ghost coded = { coded_state };
 
-    ghost view = { λ s. record { starts = joined s.starts.items; ends = joined s.ends.items; terminators = joined s.terms.items } };
+    ghost view = { λ s. record {
+      starts = joined s.starts.items;
+      ends = joined s.ends.items;
+      terminators = joined s.terms.items;
+    } };
 
-    ghost invariant = { λ s. AreShards s.starts.items × AreShards s.ends.items × AreShards s.terms.items };
+    ghost invariant = { λ s. AreShards s.starts.items × AreShards s.ends.items
+        × AreShards s.terms.items };
 }
 
 impl Maps {
@@ -69,7 +78,11 @@ impl Maps {
         requires starts { AreShards starts.items }
         requires ends { AreShards ends.items }
         requires terms { AreShards terms.items }
-        ensures { result ≡ record { starts = joined starts.items; ends = joined ends.items; terminators = joined terms.items } }
+        ensures { result ≡ record {
+          starts = joined starts.items;
+          ends = joined ends.items;
+          terminators = joined terms.items;
+        } }
     {
         Maps {
             starts,
@@ -78,8 +91,8 @@ impl Maps {
         }
     }
 
-    /// Makes `s` a wanted start, where it is none. Answers whether it is new; [`Memory`] where memory
-    /// ran out, and then nothing has changed.
+    /// Makes `s` a wanted start, where it is none. Answers whether it is new; [`Memory`] where
+    /// memory ran out, and then nothing has changed.
     pub(crate) fn want(&mut self, s: u64) -> Result<bool, Memory>
         ensures wanted { OnOk result (Leads self.old (Event.Want s) self.new) }
         ensures answer { IfOk result (λ new. IsTrue new ↔ ¬ IsStart self.old.starts s) }
@@ -105,8 +118,10 @@ impl Maps {
     ) -> Result<Arrival, Memory>
         requires arriving { OnChain (W.map walk.now) s k }
         requires near { (p : ℕ) → IsNear self.old.ends k p → OnChain (W.map walk.now) p k }
-        ensures arrives { OnOk result (Steps (W.map walk.now) self.old (Event.Arrive k s) self.new) }
-        ensures answer { IfOk result (λ arrival. (m : ℕ) → IsNear self.new.ends k m → arrival ≡ arrival_of s (near_at self.old.ends k) m) }
+        ensures arrives { OnOk result
+            (Steps (W.map walk.now) self.old (Event.Arrive k s) self.new) }
+        ensures answer { IfOk result (λ arrival. (m : ℕ) → IsNear self.new.ends k m
+            → arrival ≡ arrival_of s (near_at self.old.ends k) m) }
         ensures unchanged { OnErr result (self.new ≡ self.old) }
     {
         self.ends[shard(k) as usize].arrive_along(walk, k, s)
@@ -120,8 +135,8 @@ impl Maps {
         self.ends[shard(k) as usize].settle(k, x);
     }
 
-    /// Enters `k` as a terminator, where it is none. Answers whether it is new; [`Memory`] where memory
-    /// ran out, and then nothing has changed.
+    /// Enters `k` as a terminator, where it is none. Answers whether it is new; [`Memory`] where
+    /// memory ran out, and then nothing has changed.
     pub(crate) fn term(&mut self, k: u64) -> Result<bool, Memory>
         ensures entered { OnOk result (Leads self.old (Event.Terminator k) self.new) }
         ensures answer { IfOk result (λ new. IsTrue new ↔ ¬ IsEntered self.old.terminators k) }
@@ -130,8 +145,8 @@ impl Maps {
         self.terms[shard(k) as usize].term(k)
     }
 
-    /// Makes `w` wait at the terminator `k`, untold, where it does not wait there yet. Answers whether
-    /// it is new there; [`Memory`] where memory ran out, and then nothing has changed.
+    /// Makes `w` wait at the terminator `k`, untold, where it does not wait there yet. Answers
+    /// whether it is new there; [`Memory`] where memory ran out, and then nothing has changed.
     pub(crate) fn wait(&mut self, k: u64, w: Waiter) -> Result<bool, Memory>
         requires { IsEntered self.old.terminators k }
         ensures waits { OnOk result (Leads self.old (Event.Wait k w) self.new) }
@@ -172,6 +187,14 @@ impl Maps {
         self.starts[shard(s) as usize].start(s)
     }
 
+    /// The least start above `a` in the line of 64 bytes that `a` lies in; `None` exactly where
+    /// there is none.
+    pub(crate) fn start_behind(&self, a: u64) -> Option<u64>
+        ensures { IsNextInLine self.now.starts a result }
+    {
+        self.starts[shard(a) as usize].start_behind(a)
+    }
+
     /// The start of the block that ends at `k`; `None` exactly where no block is known to.
     pub(crate) fn near(&self, k: u64) -> Option<u64>
         ensures { result ≡ near_at self.now.ends k }
@@ -186,7 +209,8 @@ impl Maps {
         self.ends[shard(k) as usize].moved(k)
     }
 
-    /// Whether the ways on of the terminator `k` are dealt with; `None` exactly where `k` is not entered.
+    /// Whether the ways on of the terminator `k` are dealt with; `None` exactly where `k` is not
+    /// entered.
     pub(crate) fn done(&self, k: u64) -> Option<bool>
         ensures { result ≡ done_at self.now.terminators k }
     {
@@ -201,32 +225,32 @@ impl Maps {
     }
 
     /// The first waiter that is to be told that `k` returns: the one with the least terminator, and
-    /// `Follow` before `Release`. `None` exactly where `k` is not known to return or no waiter is left
-    /// to be told.
+    /// `Follow` before `Release`. `None` exactly where `k` is not known to return or no waiter is
+    /// left to be told.
     pub(crate) fn untold(&self, k: u64) -> Option<Waiter>
         ensures { IsNextToTell self.now.terminators k result }
     {
         self.terms[shard(k) as usize].untold(k)
     }
 
-    /// The least start above `a`, or the least of all where there is no `a`; `None` exactly where there
-    /// is none. It takes little time where the next start is near `a`.
+    /// The least start above `a`, or the least of all where there is no `a`; `None` exactly where
+    /// there is none. It takes little time where the next start is near `a`.
     pub(crate) fn start_after(&self, a: Option<u64>) -> Option<u64>
         ensures { IsLeast (λ s. IsStart self.now.starts s × IsAbove a s) result }
     {
         key_after(self.starts.as_slice(), a)
     }
 
-    /// The least end above `a`, or the least of all where there is no `a`; `None` exactly where there is
-    /// none. It takes little time where the next end is near `a`.
+    /// The least end above `a`, or the least of all where there is no `a`; `None` exactly where
+    /// there is none. It takes little time where the next end is near `a`.
     pub(crate) fn end_after(&self, a: Option<u64>) -> Option<u64>
         ensures { IsLeast (λ k. HasEnd self.now.ends k × IsAbove a k) result }
     {
         key_after(self.ends.as_slice(), a)
     }
 
-    /// The least terminator above `a`, or the least of all where there is no `a`; `None` exactly where
-    /// there is none. It takes little time where the next terminator is near `a`.
+    /// The least terminator above `a`, or the least of all where there is no `a`; `None` exactly
+    /// where there is none. It takes little time where the next terminator is near `a`.
     pub(crate) fn term_after(&self, a: Option<u64>) -> Option<u64>
         ensures { IsLeast (λ k. IsEntered self.now.terminators k × IsAbove a k) result }
     {
@@ -235,24 +259,30 @@ impl Maps {
 
     /// Work that is left at a start.
     pub(crate) fn left_of_starts(&self) -> Option<Name>
-        ensures some { IfSome result (λ name. LeftAmong LeftAtStart self.now.starts (work_of name)) }
-        ensures none { IfNone result ((work : Work) → ¬ LeftAmong LeftAtStart self.now.starts work) }
+        ensures some { IfSome result
+            (λ name. LeftAmong LeftAtStart self.now.starts (work_of name)) }
+        ensures none { IfNone result
+            ((work : Work) → ¬ LeftAmong LeftAtStart self.now.starts work) }
     {
         left_of_starts(self.starts.as_slice())
     }
 
     /// Work that is left at an end.
     pub(crate) fn left_of_ends(&self) -> Option<Name>
-        ensures some { IfSome result (λ name. LeftAmong (LeftAtEnd self.now.starts) self.now.ends (work_of name)) }
-        ensures none { IfNone result ((work : Work) → ¬ LeftAmong (LeftAtEnd self.now.starts) self.now.ends work) }
+        ensures some { IfSome result
+            (λ name. LeftAmong (LeftAtEnd self.now.starts) self.now.ends (work_of name)) }
+        ensures none { IfNone result
+            ((work : Work) → ¬ LeftAmong (LeftAtEnd self.now.starts) self.now.ends work) }
     {
         left_of_ends(self.ends.as_slice(), self)
     }
 
     /// Work that is left at a terminator.
     pub(crate) fn left_of_terms(&self) -> Option<Name>
-        ensures some { IfSome result (λ name. LeftAmong LeftAtTerminator self.now.terminators (work_of name)) }
-        ensures none { IfNone result ((work : Work) → ¬ LeftAmong LeftAtTerminator self.now.terminators work) }
+        ensures some { IfSome result
+            (λ name. LeftAmong LeftAtTerminator self.now.terminators (work_of name)) }
+        ensures none { IfNone result
+            ((work : Work) → ¬ LeftAmong LeftAtTerminator self.now.terminators work) }
     {
         left_of_terms(self.terms.as_slice())
     }

@@ -4,8 +4,8 @@ use crate::answer::{Arrival, Name, PlaceEnd, ShardKind};
 use cfg_model::{Chains, Waiter};
 use std::marker::Brand;
 
-/// What a builder works for: the program, and the addresses where it may start. It has no function, and
-/// contracts alone see it.
+/// What a builder works for: the program, and the addresses where it may start. It has no function,
+/// and contracts alone see it.
 pub trait Job {
     ghost use Rattle.std.specs.Prelude.{ℕ, List};
     ghost use Rattle.cfg_model.specs.Program.Instructions.{InstructionMap};
@@ -28,19 +28,23 @@ impl Job for Brand {
 
 /// Where the nine changes are made, and what has to be read for them is read.
 ///
-/// A place knows facts, and what it knows it keeps. It tells the maps that it stands for, or does not;
-/// where it does, it knows exactly what holds of them. A call that is refused changes no map.
+/// A place knows facts, and what it knows it keeps. It tells the maps that it stands for, or does
+/// not; where it does, it knows exactly what holds of them. A call that is refused changes no map.
 pub trait Place<J: Job> {
-    ghost use Rattle.std.specs.Prelude.{◌≡◌, ◌↔◌, ℕ, ◌≤◌, Option, Some, None, IsTrue, OnOk, OnErr, IfOk, IfErr, IfSome, OnSome, IfNone};
+    ghost use Rattle.std.specs.Prelude.{◌≡◌, ◌↔◌, ℕ, ◌<◌, ◌≤◌, Option, Some, None, IsTrue};
+    ghost use Rattle.std.specs.Prelude.{OnOk, OnErr, IfOk, IfErr, IfSome, OnSome, IfNone};
     ghost use Rattle.std.specs.Option.{ForSome};
     ghost use Rattle.cfg_model.specs.Program.Instructions.{IsLawful};
-    ghost use Rattle.cfg_model.specs.Builder.State.{BuilderState, IsStart, IsMoved, IsEntered, IsReturned, WaitsAt, near_at};
+    ghost use Rattle.cfg_model.specs.Builder.State.{BuilderState, IsStart, IsMoved};
+    ghost use Rattle.cfg_model.specs.Builder.State.{IsEntered, IsReturned, WaitsAt, near_at};
     ghost use Rattle.cfg_model.specs.Builder.Event.{Event};
     ghost use Rattle.cfg_model.specs.Builder.Fact.{Fact, Holds, IsSoundFact};
     ghost use Rattle.cfg_model.specs.Builder.Reason.{Reason};
     ghost use Rattle.core_state.specs.Least.{IsLeast};
+    ghost use Rattle.core_state.specs.Line.{IsNextInLine};
     ghost use Rattle.core_state.specs.Reads.{IsNextToTell};
-    ghost use Rattle.core_state.specs.Place.{AreKept, Makes, Brings, Remembers, near_after, IsArrival, IsBusyAt};
+    ghost use Rattle.core_state.specs.Place.{AreKept, Makes, Brings, Remembers};
+    ghost use Rattle.core_state.specs.Place.{near_after, IsArrival, IsBusyAt};
 
     /// How often a shard was in other hands. It never falls.
     ghost busies: { Self → ℕ };
@@ -56,13 +60,16 @@ pub trait Place<J: Job> {
         requires lawful { IsLawful J.map }
         requires kept { AreKept J.map J.seeds (maps self.old) }
         requires reason { Reason J.map J.seeds (knows self.old) (Event.Want s) }
-        ensures step { OnOk result (Makes J.map J.seeds (Event.Want s) (maps self.old) (maps self.new)) }
+        ensures step { OnOk result
+            (Makes J.map J.seeds (Event.Want s) (maps self.old) (maps self.new)) }
         ensures kept { AreKept J.map J.seeds (maps self.new) }
         ensures brings { OnOk result (Brings (Event.Want s) (knows self.new)) }
         ensures remembers { Remembers (knows self.old) (knows self.new) }
-        ensures answer { IfOk result (λ new. ForSome (maps self.old) (λ state. IsTrue new ↔ ¬ IsStart state.starts s)) }
+        ensures answer { IfOk result
+            (λ new. ForSome (maps self.old) (λ state. IsTrue new ↔ ¬ IsStart state.starts s)) }
         ensures refused { OnErr result (maps self.new ≡ maps self.old) }
-        ensures busy { IfErr result (IsBusyAt ShardKind.Starts s (busies self.old) (busies self.new)) }
+        ensures busy { IfErr result
+            (IsBusyAt ShardKind.Starts s (busies self.old) (busies self.new)) }
         ensures counted { busies self.old ≤ busies self.new };
 
     /// Makes the start `s` a parsed one.
@@ -70,29 +77,34 @@ pub trait Place<J: Job> {
         requires lawful { IsLawful J.map }
         requires kept { AreKept J.map J.seeds (maps self.old) }
         requires reason { Reason J.map J.seeds (knows self.old) (Event.Parsed s) }
-        ensures step { OnOk result (Makes J.map J.seeds (Event.Parsed s) (maps self.old) (maps self.new)) }
+        ensures step { OnOk result
+            (Makes J.map J.seeds (Event.Parsed s) (maps self.old) (maps self.new)) }
         ensures kept { AreKept J.map J.seeds (maps self.new) }
         ensures brings { OnOk result (Brings (Event.Parsed s) (knows self.new)) }
         ensures remembers { Remembers (knows self.old) (knows self.new) }
         ensures refused { OnErr result (maps self.new ≡ maps self.old) }
-        ensures busy { IfErr result (IsBusyAt ShardKind.Starts s (busies self.old) (busies self.new)) }
+        ensures busy { IfErr result
+            (IsBusyAt ShardKind.Starts s (busies self.old) (busies self.new)) }
         ensures counted { busies self.old ≤ busies self.new };
 
-    /// The start `s` arrives at the end `k`: the first one there is near; another one splits the end at
-    /// the first address on the chains of both.
+    /// The start `s` arrives at the end `k`: the first one there is near; another one splits the
+    /// end at the first address on the chains of both.
     fn arrive<C: Chains>(&mut self, code: &C, k: u64, s: u64) -> Result<Arrival, PlaceEnd>
         requires code { C.map code.now ≡ J.map }
         requires lawful { IsLawful J.map }
         requires kept { AreKept J.map J.seeds (maps self.old) }
         requires reason { Reason J.map J.seeds (knows self.old) (Event.Arrive k s) }
-        ensures step { OnOk result (Makes J.map J.seeds (Event.Arrive k s) (maps self.old) (maps self.new)) }
+        ensures step { OnOk result
+            (Makes J.map J.seeds (Event.Arrive k s) (maps self.old) (maps self.new)) }
         ensures kept { AreKept J.map J.seeds (maps self.new) }
         ensures brings { OnOk result (Brings (Event.Arrive k s) (knows self.new)) }
-        ensures near { IfOk result (λ arrival. knows self.new (Fact.Anchored (near_after s arrival) k)) }
+        ensures near { IfOk result
+            (λ arrival. knows self.new (Fact.Anchored (near_after s arrival) k)) }
         ensures remembers { Remembers (knows self.old) (knows self.new) }
         ensures answer { IfOk result (IsArrival k s (maps self.old) (maps self.new)) }
         ensures refused { OnErr result (maps self.new ≡ maps self.old) }
-        ensures busy { IfErr result (IsBusyAt ShardKind.Ends k (busies self.old) (busies self.new)) }
+        ensures busy { IfErr result
+            (IsBusyAt ShardKind.Ends k (busies self.old) (busies self.new)) }
         ensures counted { busies self.old ≤ busies self.new };
 
     /// Takes `x` out of the displaced starts of the end `k`.
@@ -100,11 +112,13 @@ pub trait Place<J: Job> {
         requires lawful { IsLawful J.map }
         requires kept { AreKept J.map J.seeds (maps self.old) }
         requires reason { Reason J.map J.seeds (knows self.old) (Event.Settle k x) }
-        ensures step { OnOk result (Makes J.map J.seeds (Event.Settle k x) (maps self.old) (maps self.new)) }
+        ensures step { OnOk result
+            (Makes J.map J.seeds (Event.Settle k x) (maps self.old) (maps self.new)) }
         ensures kept { AreKept J.map J.seeds (maps self.new) }
         ensures remembers { Remembers (knows self.old) (knows self.new) }
         ensures refused { OnErr result (maps self.new ≡ maps self.old) }
-        ensures busy { IfErr result (IsBusyAt ShardKind.Ends k (busies self.old) (busies self.new)) }
+        ensures busy { IfErr result
+            (IsBusyAt ShardKind.Ends k (busies self.old) (busies self.new)) }
         ensures counted { busies self.old ≤ busies self.new };
 
     /// Enters `k` as a terminator, where it is none. Answers whether it is new.
@@ -112,28 +126,34 @@ pub trait Place<J: Job> {
         requires lawful { IsLawful J.map }
         requires kept { AreKept J.map J.seeds (maps self.old) }
         requires reason { Reason J.map J.seeds (knows self.old) (Event.Terminator k) }
-        ensures step { OnOk result (Makes J.map J.seeds (Event.Terminator k) (maps self.old) (maps self.new)) }
+        ensures step { OnOk result
+            (Makes J.map J.seeds (Event.Terminator k) (maps self.old) (maps self.new)) }
         ensures kept { AreKept J.map J.seeds (maps self.new) }
         ensures brings { OnOk result (Brings (Event.Terminator k) (knows self.new)) }
         ensures remembers { Remembers (knows self.old) (knows self.new) }
-        ensures answer { IfOk result (λ new. ForSome (maps self.old) (λ state. IsTrue new ↔ ¬ IsEntered state.terminators k)) }
+        ensures answer { IfOk result (λ new. ForSome (maps self.old)
+            (λ state. IsTrue new ↔ ¬ IsEntered state.terminators k)) }
         ensures refused { OnErr result (maps self.new ≡ maps self.old) }
-        ensures busy { IfErr result (IsBusyAt ShardKind.Terms k (busies self.old) (busies self.new)) }
+        ensures busy { IfErr result
+            (IsBusyAt ShardKind.Terms k (busies self.old) (busies self.new)) }
         ensures counted { busies self.old ≤ busies self.new };
 
-    /// Makes `w` wait at the terminator `k`, untold, where it does not wait there yet. Answers whether
-    /// it is new there.
+    /// Makes `w` wait at the terminator `k`, untold, where it does not wait there yet. Answers
+    /// whether it is new there.
     fn wait(&mut self, k: u64, w: Waiter) -> Result<bool, PlaceEnd>
         requires lawful { IsLawful J.map }
         requires kept { AreKept J.map J.seeds (maps self.old) }
         requires reason { Reason J.map J.seeds (knows self.old) (Event.Wait k w) }
-        ensures step { OnOk result (Makes J.map J.seeds (Event.Wait k w) (maps self.old) (maps self.new)) }
+        ensures step { OnOk result
+            (Makes J.map J.seeds (Event.Wait k w) (maps self.old) (maps self.new)) }
         ensures kept { AreKept J.map J.seeds (maps self.new) }
         ensures brings { OnOk result (Brings (Event.Wait k w) (knows self.new)) }
         ensures remembers { Remembers (knows self.old) (knows self.new) }
-        ensures answer { IfOk result (λ new. ForSome (maps self.old) (λ state. IsTrue new ↔ ¬ WaitsAt state.terminators k w)) }
+        ensures answer { IfOk result (λ new. ForSome (maps self.old)
+            (λ state. IsTrue new ↔ ¬ WaitsAt state.terminators k w)) }
         ensures refused { OnErr result (maps self.new ≡ maps self.old) }
-        ensures busy { IfErr result (IsBusyAt ShardKind.Terms k (busies self.old) (busies self.new)) }
+        ensures busy { IfErr result
+            (IsBusyAt ShardKind.Terms k (busies self.old) (busies self.new)) }
         ensures counted { busies self.old ≤ busies self.new };
 
     /// Notes that the terminator `k` returns. Answers whether that is new.
@@ -141,13 +161,16 @@ pub trait Place<J: Job> {
         requires lawful { IsLawful J.map }
         requires kept { AreKept J.map J.seeds (maps self.old) }
         requires reason { Reason J.map J.seeds (knows self.old) (Event.Returned k) }
-        ensures step { OnOk result (Makes J.map J.seeds (Event.Returned k) (maps self.old) (maps self.new)) }
+        ensures step { OnOk result
+            (Makes J.map J.seeds (Event.Returned k) (maps self.old) (maps self.new)) }
         ensures kept { AreKept J.map J.seeds (maps self.new) }
         ensures brings { OnOk result (Brings (Event.Returned k) (knows self.new)) }
         ensures remembers { Remembers (knows self.old) (knows self.new) }
-        ensures answer { IfOk result (λ new. ForSome (maps self.old) (λ state. IsTrue new ↔ ¬ IsReturned state.terminators k)) }
+        ensures answer { IfOk result (λ new. ForSome (maps self.old)
+            (λ state. IsTrue new ↔ ¬ IsReturned state.terminators k)) }
         ensures refused { OnErr result (maps self.new ≡ maps self.old) }
-        ensures busy { IfErr result (IsBusyAt ShardKind.Terms k (busies self.old) (busies self.new)) }
+        ensures busy { IfErr result
+            (IsBusyAt ShardKind.Terms k (busies self.old) (busies self.new)) }
         ensures counted { busies self.old ≤ busies self.new };
 
     /// Notes that `w` was told that the terminator `k`, at which it waits, returns.
@@ -155,12 +178,14 @@ pub trait Place<J: Job> {
         requires lawful { IsLawful J.map }
         requires kept { AreKept J.map J.seeds (maps self.old) }
         requires reason { Reason J.map J.seeds (knows self.old) (Event.Told k w) }
-        ensures step { OnOk result (Makes J.map J.seeds (Event.Told k w) (maps self.old) (maps self.new)) }
+        ensures step { OnOk result
+            (Makes J.map J.seeds (Event.Told k w) (maps self.old) (maps self.new)) }
         ensures kept { AreKept J.map J.seeds (maps self.new) }
         ensures brings { OnOk result (Brings (Event.Told k w) (knows self.new)) }
         ensures remembers { Remembers (knows self.old) (knows self.new) }
         ensures refused { OnErr result (maps self.new ≡ maps self.old) }
-        ensures busy { IfErr result (IsBusyAt ShardKind.Terms k (busies self.old) (busies self.new)) }
+        ensures busy { IfErr result
+            (IsBusyAt ShardKind.Terms k (busies self.old) (busies self.new)) }
         ensures counted { busies self.old ≤ busies self.new };
 
     /// Notes that the ways on of the terminator `k` are dealt with.
@@ -168,50 +193,91 @@ pub trait Place<J: Job> {
         requires lawful { IsLawful J.map }
         requires kept { AreKept J.map J.seeds (maps self.old) }
         requires reason { Reason J.map J.seeds (knows self.old) (Event.EdgesDone k) }
-        ensures step { OnOk result (Makes J.map J.seeds (Event.EdgesDone k) (maps self.old) (maps self.new)) }
+        ensures step { OnOk result
+            (Makes J.map J.seeds (Event.EdgesDone k) (maps self.old) (maps self.new)) }
         ensures kept { AreKept J.map J.seeds (maps self.new) }
         ensures brings { OnOk result (Brings (Event.EdgesDone k) (knows self.new)) }
         ensures remembers { Remembers (knows self.old) (knows self.new) }
         ensures refused { OnErr result (maps self.new ≡ maps self.old) }
-        ensures busy { IfErr result (IsBusyAt ShardKind.Terms k (busies self.old) (busies self.new)) }
+        ensures busy { IfErr result
+            (IsBusyAt ShardKind.Terms k (busies self.old) (busies self.new)) }
+        ensures counted { busies self.old ≤ busies self.new };
+
+    /// Whether `s` is known to be a start. A place that cannot tell answers that it is not.
+    fn has_start(&mut self, s: u64) -> Result<bool, PlaceEnd>
+        requires kept { AreKept J.map J.seeds (maps self.old) }
+        ensures same { maps self.new ≡ maps self.old }
+        ensures start { IfOk result (λ is. IsTrue is → knows self.new (Fact.Start s)) }
+        ensures remembers { Remembers (knows self.old) (knows self.new) }
+        ensures busy { IfErr result
+            (IsBusyAt ShardKind.Starts s (busies self.old) (busies self.new)) }
+        ensures counted { busies self.old ≤ busies self.new }
+    {
+        let _asked = s;
+        Ok(false)
+    }
+
+    /// The least start above `a` in the line of 64 bytes that `a` lies in; `None` where none is
+    /// known there.
+    fn start_behind(&mut self, a: u64) -> Result<Option<u64>, PlaceEnd>
+        requires kept { AreKept J.map J.seeds (maps self.old) }
+        ensures same { maps self.new ≡ maps self.old }
+        ensures answer { IfOk result
+            (λ next. ForSome (maps self.old) (λ state. IsNextInLine state.starts a next)) }
+        ensures behind { IfOk result (λ next. IfSome next (λ t. a < t)) }
+        ensures start { IfOk result (λ next. IfSome next (λ t. knows self.new (Fact.Start t))) }
+        ensures remembers { Remembers (knows self.old) (knows self.new) }
+        ensures busy { IfErr result
+            (IsBusyAt ShardKind.Starts a (busies self.old) (busies self.new)) }
         ensures counted { busies self.old ≤ busies self.new };
 
     /// The start of the block that ends at `k`; `None` where no block is known to.
     fn near(&mut self, k: u64) -> Result<Option<u64>, PlaceEnd>
         requires kept { AreKept J.map J.seeds (maps self.old) }
         ensures same { maps self.new ≡ maps self.old }
-        ensures answer { IfOk result (λ near. ForSome (maps self.old) (λ state. near ≡ near_at state.ends k)) }
+        ensures answer { IfOk result
+            (λ near. ForSome (maps self.old) (λ state. near ≡ near_at state.ends k)) }
         ensures end { IfOk result (λ near. OnSome near (knows self.new (Fact.End k))) }
-        ensures anchored { IfOk result (λ near. IfSome near (λ p. knows self.new (Fact.Anchored p k))) }
+        ensures anchored { IfOk result
+            (λ near. IfSome near (λ p. knows self.new (Fact.Anchored p k))) }
         ensures remembers { Remembers (knows self.old) (knows self.new) }
-        ensures busy { IfErr result (IsBusyAt ShardKind.Ends k (busies self.old) (busies self.new)) }
+        ensures busy { IfErr result
+            (IsBusyAt ShardKind.Ends k (busies self.old) (busies self.new)) }
         ensures counted { busies self.old ≤ busies self.new };
 
     /// The least displaced start of the end `k`; `None` where there is none.
     fn moved(&mut self, k: u64) -> Result<Option<u64>, PlaceEnd>
         requires kept { AreKept J.map J.seeds (maps self.old) }
         ensures same { maps self.new ≡ maps self.old }
-        ensures answer { IfOk result (λ moved. ForSome (maps self.old) (λ state. IsLeast (IsMoved state.ends k) moved)) }
+        ensures answer { IfOk result
+            (λ moved. ForSome (maps self.old) (λ state. IsLeast (IsMoved state.ends k) moved)) }
         ensures end { IfOk result (λ moved. OnSome moved (knows self.new (Fact.End k))) }
-        ensures anchored { IfOk result (λ moved. IfSome moved (λ x. knows self.new (Fact.Anchored x k))) }
+        ensures anchored { IfOk result
+            (λ moved. IfSome moved (λ x. knows self.new (Fact.Anchored x k))) }
         ensures remembers { Remembers (knows self.old) (knows self.new) }
-        ensures busy { IfErr result (IsBusyAt ShardKind.Ends k (busies self.old) (busies self.new)) }
+        ensures busy { IfErr result
+            (IsBusyAt ShardKind.Ends k (busies self.old) (busies self.new)) }
         ensures counted { busies self.old ≤ busies self.new };
 
     /// The first waiter that is to be told that `k` returns: the one with the least terminator, and
-    /// `Follow` before `Release`. `None` where `k` is not known to return or no waiter is left to be
-    /// told.
+    /// `Follow` before `Release`. `None` where `k` is not known to return or no waiter is left to
+    /// be told.
     fn untold(&mut self, k: u64) -> Result<Option<Waiter>, PlaceEnd>
         requires kept { AreKept J.map J.seeds (maps self.old) }
         ensures same { maps self.new ≡ maps self.old }
-        ensures answer { IfOk result (λ next. ForSome (maps self.old) (λ state. IsNextToTell state.terminators k next)) }
+        ensures answer { IfOk result
+            (λ next. ForSome (maps self.old) (λ state. IsNextToTell state.terminators k next)) }
         ensures waits { IfOk result (λ next. IfSome next (λ w. knows self.new (Fact.Waits k w))) }
         ensures returned { IfOk result (λ next. OnSome next (knows self.new (Fact.Returned k))) }
         ensures entered { IfOk result (λ next. OnSome next (knows self.new (Fact.Terminator k))) }
-        ensures waiter { IfOk result (λ next. IfSome next (λ w. knows self.new (Fact.Terminator w.terminator))) }
-        ensures all_told { IfOk result (λ next. IfNone next (knows self.old (Fact.Returned k) → (w : Waiter) → knows self.old (Fact.Waits k w) → knows self.new (Fact.Told k w))) }
+        ensures waiter { IfOk result
+            (λ next. IfSome next (λ w. knows self.new (Fact.Terminator w.terminator))) }
+        ensures all_told { IfOk result
+            (λ next. IfNone next (knows self.old (Fact.Returned k) → (w : Waiter)
+            → knows self.old (Fact.Waits k w) → knows self.new (Fact.Told k w))) }
         ensures remembers { Remembers (knows self.old) (knows self.new) }
-        ensures busy { IfErr result (IsBusyAt ShardKind.Terms k (busies self.old) (busies self.new)) }
+        ensures busy { IfErr result
+            (IsBusyAt ShardKind.Terms k (busies self.old) (busies self.new)) }
         ensures counted { busies self.old ≤ busies self.new };
 
     /// Passes on new work. It cannot be refused.
@@ -221,8 +287,10 @@ pub trait Place<J: Job> {
         ensures counted { busies self.old ≤ busies self.new };
 
     /// What is known is true of the program.
-    ghost sound: { (place : Self) → AreKept J.map J.seeds (maps place) → (fact : Fact) → knows place fact → IsSoundFact J.map J.seeds fact };
+    ghost sound: { (place : Self) → AreKept J.map J.seeds (maps place) → (fact : Fact)
+        → knows place fact → IsSoundFact J.map J.seeds fact };
 
     /// Where the maps are told, what is known is what holds of them.
-    ghost exact: { (place : Self) (state : BuilderState) → maps place ≡ Some state → (fact : Fact) → knows place fact ↔ Holds J.map state fact };
+    ghost exact: { (place : Self) (state : BuilderState) → maps place ≡ Some state → (fact : Fact)
+        → knows place fact ↔ Holds J.map state fact };
 }

@@ -5,25 +5,26 @@ ghost use Rattle.std.specs.FinMap as maps;
 ghost use Rattle.cfg_model.specs.Builder.State.{IsStart};
 ghost use Rattle.cfg_model.specs.Builder.Event.{with_start, with_parsed};
 ghost use Rattle.cfg_model.specs.Builder.Left.{Work};
+ghost use Rattle.core_state.specs.Line.{IsNextInLine};
 ghost use Rattle.core_state.specs.Work.{work_of};
 ghost use Rattle.core_state.specs.inner.Remaining.{LeftAmong, LeftAtStart};
 
 use crate::answer::{Name, WorkKind};
+use crate::line_map::LineMap;
+use crate::look::Look;
 use crate::memory::Memory;
-use crate::walk::{Keys, least_above};
+use crate::walk::Keys;
 use cfg_model::Mark;
 use std::alloc::Global;
-use std::collections::BTreeMap;
 use std::marker::Model;
 
 /// The starts of blocks in one shard, each with how far it has come.
 #[derive(Drop)]
 pub struct Starts {
-    marks: BTreeMap<u64, Mark>,
+    marks: LineMap<Mark>,
 }
 
 impl Model for Starts {
-    ghost use Rattle.std.specs.FinMap as maps;
     ghost use Rattle.cfg_model.specs.Builder.State.{StartMap};
     ghost use Rattle.cfg_model.specs.Builder.Codes.{coded_starts};
 
@@ -31,7 +32,7 @@ impl Model for Starts {
 
     ghost coded = { coded_starts };
 
-    ghost view = { λ s. maps.from_entries s.marks.entries };
+    ghost view = { λ s. s.marks };
 }
 
 impl Starts {
@@ -40,22 +41,18 @@ impl Starts {
         ensures { result ≡ maps.empty }
     {
         Starts {
-            marks: BTreeMap::new(alloc),
+            marks: LineMap::new(alloc),
         }
     }
 
-    /// Makes `s` a wanted start, where it is none. Answers whether it is new; [`Memory`] where memory
-    /// ran out, and then nothing has changed.
+    /// Makes `s` a wanted start, where it is none. Answers whether it is new; [`Memory`] where
+    /// memory ran out, and then nothing has changed.
     pub fn want(&mut self, s: u64) -> Result<bool, Memory>
         ensures wanted { OnOk result (self.new ≡ with_start self.old s) }
         ensures answer { IfOk result (λ new. IsTrue new ↔ ¬ IsStart self.old s) }
         ensures unchanged { OnErr result (self.new ≡ self.old) }
     {
-        if self.marks.contains_key(&s) {
-            return Ok(false);
-        }
-        self.marks.insert(s, Mark::Wanted)?;
-        Ok(true)
+        self.marks.add(s, Mark::Wanted)
     }
 
     /// Makes the start `s` a parsed one.
@@ -63,16 +60,27 @@ impl Starts {
         requires { IsStart self.old s }
         ensures { self.new ≡ with_parsed self.old s }
     {
-        if let Some(mark) = self.marks.get_mut(&s) {
-            *mark = Mark::Parsed;
-        }
+        *self.marks.value_mut(s) = Mark::Parsed;
     }
 
     /// How far the start `s` has come; `None` exactly where `s` is no start.
     pub fn start(&self, s: u64) -> Option<Mark>
         ensures { result ≡ maps.get self.now s }
     {
-        self.marks.get(&s).copied()
+        self.marks.get(s).copied()
+    }
+
+    /// The least start above `a` in the line of 64 bytes that `a` lies in; `None` exactly where
+    /// there is none.
+    pub fn start_behind(&self, a: u64) -> Option<u64>
+        ensures { IsNextInLine self.now a result }
+    {
+        let next = self.marks.after_in_page(a)?;
+        if next / 64 == a / 64 {
+            Some(next)
+        } else {
+            None
+        }
     }
 
     /// Work that is left at a start: to parse it. It goes over the shard once.
@@ -80,15 +88,7 @@ impl Starts {
         ensures some { IfSome result (λ name. LeftAmong LeftAtStart self.now (work_of name)) }
         ensures none { IfNone result ((work : Work) → ¬ LeftAmong LeftAtStart self.now work) }
     {
-        for (s, mark) in &self.marks {
-            if let Mark::Wanted = mark {
-                return Some(Name {
-                    kind: WorkKind::Parse,
-                    key: *s,
-                });
-            }
-        }
-        None
+        self.marks.first_left(&LookAtStart)
     }
 }
 
@@ -96,6 +96,26 @@ impl Keys for Starts {
     ghost has = { λ s k. maps.contains_key s k };
 
     fn after(&self, a: Option<u64>) -> Option<u64> {
-        least_above(&self.marks, a)
+        self.marks.after(a)
+    }
+}
+
+/// The look at a start: it is to be parsed, where it is wanted.
+#[derive(Clone, Copy)]
+struct LookAtStart;
+
+impl Look<Mark> for LookAtStart {
+    ghost use Rattle.core_state.specs.inner.Remaining.{LeftAtStart};
+
+    ghost left = { λ _. LeftAtStart };
+
+    fn left_at(&self, k: u64, mark: &Mark) -> Option<Name> {
+        match *mark {
+            Mark::Wanted => Some(Name {
+                kind: WorkKind::Parse,
+                key: k,
+            }),
+            Mark::Parsed => None,
+        }
     }
 }

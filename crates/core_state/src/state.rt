@@ -3,13 +3,15 @@
 ghost use Rattle.std.specs.Prelude.{◌≡◌, ◌↔◌, ℕ, IsTrue, OnOk, OnErr, IfOk, IfSome, IfNone};
 ghost use Rattle.std.specs.FinMap as maps;
 ghost use Rattle.cfg_model.specs.Program.Chain.{OnChain};
-ghost use Rattle.cfg_model.specs.Builder.State.{empty_state, IsStart, HasEnd, IsNear, IsMoved, near_at, IsEntered, IsReturned, WaitsAt};
+ghost use Rattle.cfg_model.specs.Builder.State.{empty_state, IsStart, HasEnd, IsNear, IsMoved};
+ghost use Rattle.cfg_model.specs.Builder.State.{near_at, IsEntered, IsReturned, WaitsAt};
 ghost use Rattle.cfg_model.specs.Builder.Event.{Event, Steps};
 ghost use Rattle.core_state.specs.Answer.{arrival_of};
 ghost use Rattle.core_state.specs.Counted.{one_more};
 ghost use Rattle.core_state.specs.Joined.{AreShards, joined};
 ghost use Rattle.core_state.specs.Leads.{Leads};
 ghost use Rattle.core_state.specs.Least.{IsLeast, IsAbove};
+ghost use Rattle.core_state.specs.Line.{IsNextInLine};
 ghost use Rattle.core_state.specs.Reads.{done_at, returned_at, IsNextToTell};
 ghost use Rattle.core_state.specs.Work.{work_of};
 ghost use Rattle.cfg_model.specs.Builder.Left.{IsLeft, HasNothingLeft};
@@ -29,8 +31,8 @@ use std::marker::Model;
 /// The state of a builder: the starts, the ends and the terminators that are known, each kind in 64
 /// shards by address, and how many changes were made.
 ///
-/// Each of the nine changes goes to the shard of its key, and counts, whether it adds something or not.
-/// One that is refused for want of memory does not count.
+/// Each of the nine changes goes to the shard of its key, and counts, whether it adds something or
+/// not. One that is refused for want of memory does not count.
 #[derive(Drop)]
 pub struct State {
     maps: Maps,
@@ -63,7 +65,12 @@ impl State {
         requires starts { AreShards starts.items }
         requires ends { AreShards ends.items }
         requires terms { AreShards terms.items }
-        ensures maps { result.maps ≡ record { starts = joined starts.items; ends = joined ends.items; terminators = joined terms.items } }
+        ensures maps { result.maps ≡ record {
+          starts = joined starts.items;
+          ends = joined
+              ends.items;
+          terminators = joined terms.items;
+        } }
         ensures changes { result.changes ≡ 0 }
     {
         State {
@@ -79,8 +86,8 @@ impl State {
         self.changes
     }
 
-    /// Makes `s` a wanted start, where it is none. Answers whether it is new; [`Memory`] where memory
-    /// ran out, and then nothing has changed.
+    /// Makes `s` a wanted start, where it is none. Answers whether it is new; [`Memory`] where
+    /// memory ran out, and then nothing has changed.
     pub fn want(&mut self, s: u64) -> Result<bool, Memory>
         ensures wanted { OnOk result (Leads self.old.maps (Event.Want s) self.new.maps) }
         ensures answer { IfOk result (λ new. IsTrue new ↔ ¬ IsStart self.old.maps.starts s) }
@@ -102,14 +109,16 @@ impl State {
         self.changes = self.changes.saturating_add(1);
     }
 
-    /// The start `s` arrives at the end `k`: the first one there is near; another one splits the end at
-    /// the first address on the chains of both. Takes time linear in the two chains up to `k`.
-    /// [`Memory`] where memory ran out, and then nothing has changed.
+    /// The start `s` arrives at the end `k`: the first one there is near; another one splits the
+    /// end at the first address on the chains of both. Takes time linear in the two chains up to
+    /// `k`. [`Memory`] where memory ran out, and then nothing has changed.
     pub fn arrive<C: Chains>(&mut self, code: &C, k: u64, s: u64) -> Result<Arrival, Memory>
         requires arriving { OnChain (C.map code.now) s k }
         requires near { (p : ℕ) → IsNear self.old.maps.ends k p → OnChain (C.map code.now) p k }
-        ensures arrives { OnOk result (Steps (C.map code.now) self.old.maps (Event.Arrive k s) self.new.maps) }
-        ensures answer { IfOk result (λ arrival. (m : ℕ) → IsNear self.new.maps.ends k m → arrival ≡ arrival_of s (near_at self.old.maps.ends k) m) }
+        ensures arrives { OnOk result
+            (Steps (C.map code.now) self.old.maps (Event.Arrive k s) self.new.maps) }
+        ensures answer { IfOk result (λ arrival. (m : ℕ) → IsNear self.new.maps.ends k m
+            → arrival ≡ arrival_of s (near_at self.old.maps.ends k) m) }
         ensures counted { OnOk result (self.new.changes ≡ one_more self.old.changes) }
         ensures unchanged { OnErr result (self.new ≡ self.old) }
     {
@@ -120,8 +129,10 @@ impl State {
     pub fn arrive_along<W: Walk>(&mut self, walk: &W, k: u64, s: u64) -> Result<Arrival, Memory>
         requires arriving { OnChain (W.map walk.now) s k }
         requires near { (p : ℕ) → IsNear self.old.maps.ends k p → OnChain (W.map walk.now) p k }
-        ensures arrives { OnOk result (Steps (W.map walk.now) self.old.maps (Event.Arrive k s) self.new.maps) }
-        ensures answer { IfOk result (λ arrival. (m : ℕ) → IsNear self.new.maps.ends k m → arrival ≡ arrival_of s (near_at self.old.maps.ends k) m) }
+        ensures arrives { OnOk result
+            (Steps (W.map walk.now) self.old.maps (Event.Arrive k s) self.new.maps) }
+        ensures answer { IfOk result (λ arrival. (m : ℕ) → IsNear self.new.maps.ends k m
+            → arrival ≡ arrival_of s (near_at self.old.maps.ends k) m) }
         ensures counted { OnOk result (self.new.changes ≡ one_more self.old.changes) }
         ensures unchanged { OnErr result (self.new ≡ self.old) }
     {
@@ -140,8 +151,8 @@ impl State {
         self.changes = self.changes.saturating_add(1);
     }
 
-    /// Enters `k` as a terminator, where it is none. Answers whether it is new; [`Memory`] where memory
-    /// ran out, and then nothing has changed.
+    /// Enters `k` as a terminator, where it is none. Answers whether it is new; [`Memory`] where
+    /// memory ran out, and then nothing has changed.
     pub fn term(&mut self, k: u64) -> Result<bool, Memory>
         ensures entered { OnOk result (Leads self.old.maps (Event.Terminator k) self.new.maps) }
         ensures answer { IfOk result (λ new. IsTrue new ↔ ¬ IsEntered self.old.maps.terminators k) }
@@ -153,8 +164,8 @@ impl State {
         Ok(new)
     }
 
-    /// Makes `w` wait at the terminator `k`, untold, where it does not wait there yet. Answers whether
-    /// it is new there; [`Memory`] where memory ran out, and then nothing has changed.
+    /// Makes `w` wait at the terminator `k`, untold, where it does not wait there yet. Answers
+    /// whether it is new there; [`Memory`] where memory ran out, and then nothing has changed.
     pub fn wait(&mut self, k: u64, w: Waiter) -> Result<bool, Memory>
         requires { IsEntered self.old.maps.terminators k }
         ensures waits { OnOk result (Leads self.old.maps (Event.Wait k w) self.new.maps) }
@@ -179,8 +190,8 @@ impl State {
         new
     }
 
-    /// Notes that `w` was told that the terminator `k` returns. Where `w` does not wait there, no map
-    /// changes.
+    /// Notes that `w` was told that the terminator `k` returns. Where `w` does not wait there, no
+    /// map changes.
     pub fn told(&mut self, k: u64, w: Waiter)
         ensures told { Leads self.old.maps (Event.Told k w) self.new.maps }
         ensures counted { self.new.changes ≡ one_more self.old.changes }
@@ -206,6 +217,14 @@ impl State {
         self.maps.start(s)
     }
 
+    /// The least start above `a` in the line of 64 bytes that `a` lies in; `None` exactly where
+    /// there is none. It reads one shard.
+    pub fn start_behind(&self, a: u64) -> Option<u64>
+        ensures { IsNextInLine self.now.maps.starts a result }
+    {
+        self.maps.start_behind(a)
+    }
+
     /// The start of the block that ends at `k`; `None` exactly where no block is known to.
     pub fn near(&self, k: u64) -> Option<u64>
         ensures { result ≡ near_at self.now.maps.ends k }
@@ -220,7 +239,8 @@ impl State {
         self.maps.moved(k)
     }
 
-    /// Whether the ways on of the terminator `k` are dealt with; `None` exactly where `k` is not entered.
+    /// Whether the ways on of the terminator `k` are dealt with; `None` exactly where `k` is not
+    /// entered.
     pub fn done(&self, k: u64) -> Option<bool>
         ensures { result ≡ done_at self.now.maps.terminators k }
     {
@@ -235,41 +255,41 @@ impl State {
     }
 
     /// The first waiter that is to be told that `k` returns: the one with the least terminator, and
-    /// `Follow` before `Release`. `None` exactly where `k` is not known to return or no waiter is left
-    /// to be told.
+    /// `Follow` before `Release`. `None` exactly where `k` is not known to return or no waiter is
+    /// left to be told.
     pub fn untold(&self, k: u64) -> Option<Waiter>
         ensures { IsNextToTell self.now.maps.terminators k result }
     {
         self.maps.untold(k)
     }
 
-    /// The least start above `a`, or the least of all where there is no `a`; `None` exactly where there
-    /// is none. It takes little time where the next start is near `a`.
+    /// The least start above `a`, or the least of all where there is no `a`; `None` exactly where
+    /// there is none. It takes little time where the next start is near `a`.
     pub fn start_after(&self, a: Option<u64>) -> Option<u64>
         ensures { IsLeast (λ s. IsStart self.now.maps.starts s × IsAbove a s) result }
     {
         self.maps.start_after(a)
     }
 
-    /// The least end above `a`, or the least of all where there is no `a`; `None` exactly where there is
-    /// none. It takes little time where the next end is near `a`.
+    /// The least end above `a`, or the least of all where there is no `a`; `None` exactly where
+    /// there is none. It takes little time where the next end is near `a`.
     pub fn end_after(&self, a: Option<u64>) -> Option<u64>
         ensures { IsLeast (λ k. HasEnd self.now.maps.ends k × IsAbove a k) result }
     {
         self.maps.end_after(a)
     }
 
-    /// The least terminator above `a`, or the least of all where there is no `a`; `None` exactly where
-    /// there is none. It takes little time where the next terminator is near `a`.
+    /// The least terminator above `a`, or the least of all where there is no `a`; `None` exactly
+    /// where there is none. It takes little time where the next terminator is near `a`.
     pub fn term_after(&self, a: Option<u64>) -> Option<u64>
         ensures { IsLeast (λ k. IsEntered self.now.maps.terminators k × IsAbove a k) result }
     {
         self.maps.term_after(a)
     }
 
-    /// Some work that is left where these addresses are to be starts; `None` exactly where nothing is.
-    /// It takes time linear in the state, so ask it where no work is known otherwise. Nothing is read of
-    /// the program.
+    /// Some work that is left where these addresses are to be starts; `None` exactly where nothing
+    /// is. It takes time linear in the state, so ask it where no work is known otherwise. Nothing
+    /// is read of the program.
     pub fn left<C: Chains>(&self, _code: &C, seeds: &[u64]) -> Option<Name>
         ensures some { IfSome result (λ name. IsLeft seeds.now self.now.maps (work_of name)) }
         ensures none { IfNone result (HasNothingLeft seeds.now self.now.maps) }

@@ -60,6 +60,14 @@ impl<J: Job> Place<J> for State {
         Ok(())
     }
 
+    fn has_start(&mut self, s: u64) -> Result<bool, PlaceEnd> {
+        Ok(self.start(s).is_some())
+    }
+
+    fn start_behind(&mut self, a: u64) -> Result<Option<u64>, PlaceEnd> {
+        Ok(State::start_behind(self, a))
+    }
+
     fn near(&mut self, k: u64) -> Result<Option<u64>, PlaceEnd> {
         Ok(State::near(self, k))
     }
@@ -74,7 +82,12 @@ impl<J: Job> Place<J> for State {
 
     fn found(&mut self, _name: Name) {}
 
-    ghost sound = { λ state kept fact. sound_facts_hold J.map J.seeds state.maps fact (kept_is_sound J.map J.seeds state.maps (kept state.maps refl)) };
+    ghost sound = { λ state kept fact. sound_facts_hold J.map J.seeds state.maps fact
+        (kept_is_sound J.map J.seeds state.maps (kept state.maps refl)) };
 
-    ghost exact = { λ place state told fact. (subst (λ (s : BuilderState). Holds J.map s fact) (same_Some place.maps state told), subst (λ (s : BuilderState). Holds J.map s fact) (sym (same_Some place.maps state told))) };
+    ghost exact = { λ place state told fact. (
+      subst (λ (s : BuilderState). Holds J.map s fact) (same_Some place.maps state told),
+      subst
+          (λ (s : BuilderState). Holds J.map s fact) (sym (same_Some place.maps state told)),
+    ) };
 }

@@ -1,29 +1,34 @@
 //! A shard of the terminators.
 
-ghost use Rattle.std.specs.Prelude.{◌≡◌, ◌↔◌, false, not, IsTrue, IsSome, Some, OnOk, OnErr, IfOk, IfSome, IfNone};
+ghost use Rattle.std.specs.Prelude.{◌≡◌, ◌↔◌, false, not, IsTrue, IsSome};
+ghost use Rattle.std.specs.Prelude.{Some, OnOk, OnErr, IfOk, IfSome, IfNone};
 ghost use Rattle.std.specs.FinMap as maps;
 ghost use Rattle.cfg_model.specs.Builder.Waiter.{waiter_cmp};
 ghost use Rattle.cfg_model.specs.Builder.State.{IsEntered, IsReturned, WaitsAt};
 ghost use Rattle.cfg_model.specs.Builder.Left.{Work};
 ghost use Rattle.core_state.specs.Work.{work_of};
 ghost use Rattle.core_state.specs.inner.Remaining.{LeftAmong, LeftAtTerminator};
-ghost use Rattle.cfg_model.specs.Builder.Event.{new_entry, with_terminator, with_changed, entry_with_waiter, entry_with_told, entry_with_return, entry_with_done};
+ghost use Rattle.cfg_model.specs.Builder.Event.{new_entry, with_terminator, with_changed};
+ghost use Rattle.cfg_model.specs.Builder.Event.{entry_with_waiter, entry_with_told};
+ghost use Rattle.cfg_model.specs.Builder.Event.{entry_with_return, entry_with_done};
 ghost use Rattle.core_state.specs.Least.{IsLeastBy};
 ghost use Rattle.core_state.specs.Reads.{done_at, returned_at, IsNextToTell};
 
 use crate::answer::{Name, WorkKind};
+use crate::line_map::LineMap;
+use crate::look::Look;
 use crate::memory::Memory;
-use crate::walk::{Keys, least_above};
+use crate::waiters::Waiters;
+use crate::walk::Keys;
 use cfg_model::Waiter;
 use std::alloc::Global;
-use std::collections::{BTreeMap, BTreeSet};
 use std::marker::Model;
 
 /// The terminators in one shard, by their address.
 #[derive(Drop)]
 pub struct Terms {
     alloc: Global,
-    terms: BTreeMap<u64, Terminator>,
+    terms: LineMap<Terminator>,
 }
 
 impl Model for Terms {
@@ -35,7 +40,7 @@ impl Model for Terms {
 
     ghost coded = { coded_terminators };
 
-    ghost view = { λ t. maps.from_entries t.terms.entries };
+    ghost view = { λ t. t.terms };
 }
 
 impl Terms {
@@ -45,36 +50,29 @@ impl Terms {
     {
         Terms {
             alloc,
-            terms: BTreeMap::new(alloc),
+            terms: LineMap::new(alloc),
         }
     }
 
-    /// Enters `k` as a terminator, where it is none. Answers whether it is new; [`Memory`] where memory
-    /// ran out, and then nothing has changed.
+    /// Enters `k` as a terminator, where it is none. Answers whether it is new; [`Memory`] where
+    /// memory ran out, and then nothing has changed.
     pub fn term(&mut self, k: u64) -> Result<bool, Memory>
         ensures entered { OnOk result (self.new ≡ with_terminator self.old k) }
         ensures answer { IfOk result (λ new. IsTrue new ↔ ¬ IsEntered self.old k) }
         ensures unchanged { OnErr result (self.new ≡ self.old) }
     {
-        if self.terms.contains_key(&k) {
-            return Ok(false);
-        }
-        self.terms.insert(k, Terminator::new(self.alloc))?;
-        Ok(true)
+        self.terms.add(k, Terminator::new(self.alloc))
     }
 
-    /// Makes `w` wait at the terminator `k`, untold, where it does not wait there yet. Answers whether
-    /// it is new there; [`Memory`] where memory ran out, and then nothing has changed.
+    /// Makes `w` wait at the terminator `k`, untold, where it does not wait there yet. Answers
+    /// whether it is new there; [`Memory`] where memory ran out, and then nothing has changed.
     pub fn wait(&mut self, k: u64, w: Waiter) -> Result<bool, Memory>
         requires { IsEntered self.old k }
         ensures waits { OnOk result (self.new ≡ with_changed self.old k (entry_with_waiter w)) }
         ensures answer { IfOk result (λ new. IsTrue new ↔ ¬ WaitsAt self.old k w) }
         ensures unchanged { OnErr result (self.new ≡ self.old) }
     {
-        let Some(term) = self.terms.get_mut(&k) else {
-            return Ok(false);
-        };
-        term.wait(w)
+        self.terms.value_mut(k).wait(w)
     }
 
     /// Notes that the terminator `k` returns. Answers whether that is new.
@@ -83,20 +81,18 @@ impl Terms {
         ensures returned { self.new ≡ with_changed self.old k entry_with_return }
         ensures answer { IsTrue result ↔ ¬ IsReturned self.old k }
     {
-        let Some(term) = self.terms.get_mut(&k) else {
-            return false;
-        };
-        term.set_returned()
+        self.terms.value_mut(k).set_returned()
     }
 
-    /// Notes that `w` was told that the terminator `k` returns. Where `w` does not wait there, nothing
-    /// changes.
+    /// Notes that `w` was told that the terminator `k` returns. Where `w` does not wait there,
+    /// nothing changes.
     pub fn told(&mut self, k: u64, w: Waiter)
         ensures { self.new ≡ with_changed self.old k (entry_with_told w) }
     {
-        if let Some(term) = self.terms.get_mut(&k) {
-            term.tell(w);
+        if self.terms.get(k).is_none() {
+            return;
         }
+        self.terms.value_mut(k).tell(w);
     }
 
     /// Notes that the ways on of the terminator `k` are dealt with.
@@ -104,16 +100,15 @@ impl Terms {
         requires { IsEntered self.old k }
         ensures { self.new ≡ with_changed self.old k entry_with_done }
     {
-        if let Some(term) = self.terms.get_mut(&k) {
-            term.set_done();
-        }
+        self.terms.value_mut(k).set_done();
     }
 
-    /// Whether the ways on of the terminator `k` are dealt with; `None` exactly where `k` is not entered.
+    /// Whether the ways on of the terminator `k` are dealt with; `None` exactly where `k` is not
+    /// entered.
     pub fn done(&self, k: u64) -> Option<bool>
         ensures { result ≡ done_at self.now k }
     {
-        let term = self.terms.get(&k)?;
+        let term = self.terms.get(k)?;
         Some(term.done)
     }
 
@@ -121,17 +116,17 @@ impl Terms {
     pub fn has_returned(&self, k: u64) -> Option<bool>
         ensures { result ≡ returned_at self.now k }
     {
-        let term = self.terms.get(&k)?;
+        let term = self.terms.get(k)?;
         Some(term.returned)
     }
 
     /// The first waiter that is to be told that `k` returns: the one with the least terminator, and
-    /// `Follow` before `Release`. `None` exactly where `k` is not known to return or no waiter is left
-    /// to be told.
+    /// `Follow` before `Release`. `None` exactly where `k` is not known to return or no waiter is
+    /// left to be told.
     pub fn untold(&self, k: u64) -> Option<Waiter>
         ensures { IsNextToTell self.now k result }
     {
-        let term = self.terms.get(&k)?;
+        let term = self.terms.get(k)?;
         term.next_to_tell()
     }
 
@@ -140,12 +135,7 @@ impl Terms {
         ensures some { IfSome result (λ name. LeftAmong LeftAtTerminator self.now (work_of name)) }
         ensures none { IfNone result ((work : Work) → ¬ LeftAmong LeftAtTerminator self.now work) }
     {
-        for (k, term) in &self.terms {
-            if let Some(name) = term.left(*k) {
-                return Some(name);
-            }
-        }
-        None
+        self.terms.first_left(&LookAtTerminator)
     }
 }
 
@@ -153,34 +143,41 @@ impl Keys for Terms {
     ghost has = { λ s k. maps.contains_key s k };
 
     fn after(&self, a: Option<u64>) -> Option<u64> {
-        least_above(&self.terms, a)
+        self.terms.after(a)
     }
 }
 
-/// What is known of a terminator. The untold waiters are kept beside all waiters, so that the next one
-/// to tell is found at once.
+/// The look at a terminator.
+#[derive(Clone, Copy)]
+struct LookAtTerminator;
+
+impl Look<Terminator> for LookAtTerminator {
+    ghost use Rattle.core_state.specs.inner.Remaining.{LeftAtTerminator};
+
+    ghost left = { λ _. LeftAtTerminator };
+
+    fn left_at(&self, k: u64, term: &Terminator) -> Option<Name> {
+        term.left(k)
+    }
+}
+
+/// What is known of a terminator.
 #[derive(Drop)]
 struct Terminator {
     done: bool,
     returned: bool,
-    waiters: BTreeMap<Waiter, bool>,
-    untold: BTreeSet<Waiter>,
+    waiters: Waiters,
 }
 
 impl Model for Terminator {
-    ghost use Rattle.std.specs.FinMap as maps;
-    ghost use Rattle.std.specs.FinSet as sets;
     ghost use Rattle.cfg_model.specs.Builder.State.{TerminatorEntry};
     ghost use Rattle.cfg_model.specs.Builder.Codes.{coded_terminator_entry};
-    ghost use Rattle.core_state.specs.inner.Untold.{AreUntold};
 
     ghost Value = { TerminatorEntry };
 
     ghost coded = { coded_terminator_entry };
 
-    ghost view = { λ t. record { done = t.done; returned = t.returned; waiters = maps.from_entries t.waiters.entries } };
-
-    ghost invariant = { λ t. AreUntold (sets.from_list t.untold.keys) (maps.from_entries t.waiters.entries) };
+    ghost view = { λ t. record { done = t.done; returned = t.returned; waiters = t.waiters } };
 }
 
 impl Terminator {
@@ -191,27 +188,17 @@ impl Terminator {
         Terminator {
             done: false,
             returned: false,
-            waiters: BTreeMap::new(alloc),
-            untold: BTreeSet::new(alloc),
+            waiters: Waiters::new(alloc),
         }
     }
 
-    /// Makes `w` wait, untold, where it does not wait yet: it joins both the waiters and the untold
-    /// ones, or neither. Answers whether it is new.
+    /// Makes `w` wait, untold, where it does not wait yet. Answers whether it is new.
     fn wait(&mut self, w: Waiter) -> Result<bool, Memory>
         ensures waits { OnOk result (self.new ≡ entry_with_waiter w self.old) }
         ensures answer { IfOk result (λ new. IsTrue new ↔ ¬ IsSome (maps.get self.old.waiters w)) }
         ensures unchanged { OnErr result (self.new ≡ self.old) }
     {
-        if self.waiters.contains_key(&w) {
-            return Ok(false);
-        }
-        self.waiters.insert(w, false)?;
-        if self.untold.insert(w).is_err() {
-            self.waiters.remove(&w);
-            return Err(Memory);
-        }
-        Ok(true)
+        self.waiters.wait(w)
     }
 
     /// Notes that it returns. Answers whether that is new.
@@ -228,10 +215,7 @@ impl Terminator {
     fn tell(&mut self, w: Waiter)
         ensures { self.new ≡ entry_with_told w self.old }
     {
-        if let Some(told) = self.waiters.get_mut(&w) {
-            *told = true;
-            self.untold.remove(&w);
-        }
+        self.waiters.tell(w);
     }
 
     /// Notes that its ways on are dealt with.
@@ -243,17 +227,18 @@ impl Terminator {
 
     /// The first untold waiter, where it is known to return.
     fn next_to_tell(&self) -> Option<Waiter>
-        ensures { IsLeastBy waiter_cmp (λ w. IsTrue self.now.returned × (maps.get self.now.waiters w ≡ Some false)) result }
+        ensures { IsLeastBy waiter_cmp
+            (λ w. IsTrue self.now.returned × (maps.get self.now.waiters w ≡ Some false)) result }
     {
         if self.returned {
-            self.untold.first().copied()
+            self.waiters.next_untold()
         } else {
             None
         }
     }
 
-    /// Work that is left at this terminator, which is at `k`: to deal with its ways on, or to tell a
-    /// waiter.
+    /// Work that is left at this terminator, which is at `k`: to deal with its ways on, or to tell
+    /// a waiter.
     fn left(&self, k: u64) -> Option<Name>
         ensures some { IfSome result (λ name. LeftAtTerminator k self.now (work_of name)) }
         ensures none { IfNone result ((work : Work) → ¬ LeftAtTerminator k self.now work) }

@@ -10,14 +10,18 @@ use crate::ends::Ends;
 use crate::starts::Starts;
 use crate::state::State;
 use crate::terms::Terms;
-use cfg_model::{Chains, Flow, Mark, WaitKind, Waiter};
+use cfg_model::{Chains, Flow, Mark, Memory, WaitKind, Waiter};
+use std::alloc::Global;
 use std::marker::Send;
 use std::process::Abort;
 use std::test::Fail;
 
-/// The program of row 8: an instruction, another one inside it, a branch behind both that goes to the
-/// inner one, and a return; and a table jump to the first one, which nothing leads to.
-struct Program;
+/// The program of row 8: an instruction, another one inside it, a branch behind both that goes to
+/// the inner one, and a return; and a table jump to the first one, which nothing leads to.
+#[derive(Drop)]
+struct Program {
+    alloc: Global,
+}
 
 /// The length and the flow of its instruction at `a`.
 fn instruction(a: u64) -> Option<(u8, Flow)>
@@ -32,6 +36,7 @@ fn instruction(a: u64) -> Option<(u8, Flow)>
     let table = Flow::Table {
         entries: 1,
         full: true,
+        is_open: false,
     };
     match a {
         0x10000 => Some((4, behind)),
@@ -69,6 +74,14 @@ impl Chains for Program {
     fn target(&self, _a: u64, _i: u32) -> u64 {
         0x10000
     }
+
+    fn targets(&self, a: u64) -> Result<Vec<u64>, Memory> {
+        if a == 0x20000 {
+            Ok(Vec::from_slice(self.alloc, &[0x10000])?)
+        } else {
+            Ok(Vec::new(self.alloc))
+        }
+    }
 }
 
 /// Wants two starts, one of them twice.
@@ -82,19 +95,19 @@ fn want_starts(rt: &impl Abort, state: &mut State) -> Result<(), Fail> {
 }
 
 /// The first start arrives at the end, twice.
-fn arrive_first(rt: &impl Abort, state: &mut State) -> Result<(), Fail> {
+fn arrive_first(rt: &impl Abort, code: &Program, state: &mut State) -> Result<(), Fail> {
     let before = state.near(0x10004);
     assert!(rt; before.is_none());
-    assert_eq!(rt; state.arrive(&Program, 0x10004, 0x10000)?, Arrival::First);
+    assert_eq!(rt; state.arrive(code, 0x10004, 0x10000)?, Arrival::First);
     if state.near(0x10004) != Some(0x10000) {
         return Err(Fail::from("another start is near"));
     }
-    assert_eq!(rt; state.arrive(&Program, 0x10004, 0x10000)?, Arrival::Same);
+    assert_eq!(rt; state.arrive(code, 0x10004, 0x10000)?, Arrival::Same);
     Ok(())
 }
 
 /// The second start splits the end.
-fn arrive_second(rt: &impl Abort, state: &mut State) -> Result<(), Fail> {
+fn arrive_second(rt: &impl Abort, code: &Program, state: &mut State) -> Result<(), Fail> {
     if state.near(0x10004) != Some(0x10000) {
         return Err(Fail::from("another start is near"));
     }
@@ -103,16 +116,16 @@ fn arrive_second(rt: &impl Abort, state: &mut State) -> Result<(), Fail> {
         first: 0x10000,
         second: Some(0x10002),
     };
-    assert_eq!(rt; state.arrive(&Program, 0x10004, 0x10002)?, split);
+    assert_eq!(rt; state.arrive(code, 0x10004, 0x10002)?, split);
     Ok(())
 }
 
 /// The first start moves to an earlier end.
-fn move_first(rt: &impl Abort, state: &mut State) -> Result<(), Fail> {
+fn move_first(rt: &impl Abort, code: &Program, state: &mut State) -> Result<(), Fail> {
     assert_eq!(rt; state.want(0x10004)?, true);
     let before = state.near(0x10000);
     assert!(rt; before.is_none());
-    assert_eq!(rt; state.arrive(&Program, 0x10000, 0x10000)?, Arrival::First);
+    assert_eq!(rt; state.arrive(code, 0x10000, 0x10000)?, Arrival::First);
     assert_eq!(rt; state.moved(0x10004), Some(0x10000));
     let near = state.near(0x10004);
     assert!(rt; near == Some(0x10004));
@@ -175,14 +188,14 @@ fn finish_first(rt: &impl Abort, state: &mut State) -> Result<(), Fail> {
 }
 
 /// Work that is left: of an empty state the seeds, and of this one what was not dealt with.
-fn find_left(rt: &impl Abort, empty: &State, state: &State) {
+fn find_left(rt: &impl Abort, code: &Program, empty: &State, state: &State) {
     let seed = Name {
         kind: WorkKind::Want,
         key: 0x10000,
     };
-    assert_eq!(rt; empty.left(&Program, &[]), None);
-    assert_eq!(rt; empty.left(&Program, &[0x10000]), Some(seed));
-    assert!(rt; state.left(&Program, &[0x10000]).is_some());
+    assert_eq!(rt; empty.left(code, &[]), None);
+    assert_eq!(rt; empty.left(code, &[0x10000]), Some(seed));
+    assert!(rt; state.left(code, &[0x10000]).is_some());
 }
 
 /// Each change counts, whether it adds something or not.
@@ -211,6 +224,12 @@ fn walk_keys(rt: &impl Abort, state: &mut State) -> Result<(), Fail> {
         Some(0x7fff_ffff_ffff_ffff)
     );
     assert_eq!(rt; state.start_after(Some(0x7fff_ffff_ffff_ffff)), None);
+    assert_eq!(rt; state.start_behind(0x10000), Some(0x10002));
+    assert_eq!(rt;
+        state.start_behind(0x7fff_ffff_ffff_fffe),
+        Some(0x7fff_ffff_ffff_ffff)
+    );
+    assert_eq!(rt; state.start_behind(0x7fff_ffff_ffff_ffbf), None);
     assert_eq!(rt; state.end_after(Some(0x10000)), Some(0x10004));
     assert_eq!(rt; state.end_after(Some(0x10004)), None);
     assert_eq!(rt; state.term_after(None), Some(0x10004));
@@ -220,17 +239,18 @@ fn walk_keys(rt: &impl Abort, state: &mut State) -> Result<(), Fail> {
 
 #[test]
 fn row_23(rt: HostRuntime) -> Result<(), Fail> {
+    let code = Program { alloc: rt.alloc() };
     let mut state = State::new(rt.alloc())?;
     want_starts(&rt, &mut state)?;
-    arrive_first(&rt, &mut state)?;
-    arrive_second(&rt, &mut state)?;
-    move_first(&rt, &mut state)?;
+    arrive_first(&rt, &code, &mut state)?;
+    arrive_second(&rt, &code, &mut state)?;
+    move_first(&rt, &code, &mut state)?;
     wait_for_return(&rt, &mut state)?;
     tell_of_return(&rt, &mut state)?;
     finish_first(&rt, &mut state)?;
     walk_keys(&rt, &mut state)?;
     let empty = State::new(rt.alloc())?;
-    find_left(&rt, &empty, &state);
+    find_left(&rt, &code, &empty, &state);
     count_changes(&rt, &empty, &state);
     Ok(())
 }

@@ -40,9 +40,9 @@ pub(crate) fn least_above<V>(map: &BTreeMap<u64, V>, a: Option<u64>) -> Option<u
 
 /// The least key above `a`, or the least of all where there is no `a`, of 64 shards.
 ///
-/// Lines of 64 bytes belong to the shards in turn, so the shards are asked in the order of the lines
-/// from that of `a` on. A shard whose next key lies in the very line that it is asked for has the
-/// least one of all.
+/// Lines of 64 bytes belong to the shards in turn, so the shards are asked in the order of the
+/// lines from that of `a` on. A shard whose next key lies in the very line that it is asked for has
+/// the least one of all.
 pub(crate) fn key_after<S: Keys>(shards: &[S], a: Option<u64>) -> Option<u64>
     requires count { length shards.now ≡ 64 }
     requires own { HaveOwn S.has shards.now }
@@ -82,7 +82,7 @@ fn lies_in(key: Option<u64>, line: u64) -> bool
 }
 
 /// The lesser of two keys, either of which may be none.
-fn lesser(x: Option<u64>, y: Option<u64>) -> Option<u64>
+pub(crate) fn lesser(x: Option<u64>, y: Option<u64>) -> Option<u64>
     ensures { result ≡ lesser_of x y }
 {
     match (x, y) {

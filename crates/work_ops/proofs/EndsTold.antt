@@ -6,6 +6,7 @@ use Rattle.std.specs.FinMap as maps
 use mathlib.Core.Logic.{inl, inr}
 use Rattle.std.proofs.lemmas.Bool.{eq-eqb, ne_eqb}
 use Rattle.cfg_model.specs.Program.Instructions.{InstructionMap}
+use Rattle.cfg_model.specs.Program.Chain.{OnChain}
 use Rattle.cfg_model.specs.Builder.State.{BuilderState, EndMap, EndEntry, IsNear, IsMoved}
 use Rattle.cfg_model.specs.Builder.Event.{Event, Steps, Arrives, ArrivesAt, with_settled}
 use Rattle.cfg_model.proofs.Builder.MapFacts.{get_here}
@@ -15,7 +16,7 @@ use Rattle.core_state.specs.declared.answer.Arrival.TheVariants.{Same, Split}
 use Rattle.core_state.specs.Answer.{arrival_of, split_into}
 use Rattle.core_state.specs.Place.{Makes, WhereTold, near_after, IsArrival}
 use Rattle.core_state.specs.Least.{IsLeast}
-use Rattle.work_ops.specs.Going.{SameEnds, MovesStart, MovesFirst}
+use Rattle.work_ops.specs.Going.{SameEnds, NearIsStart, ArrivesOnce, MovesStart, MovesFirst}
 
 same_told : (a b : BuilderState) → Some a ≡ Some b → a ≡ b
 same_told a b e = cc
@@ -117,6 +118,14 @@ module _ (map : InstructionMap) (seeds : List ℕ) (k s : ℕ) where
   pub settled_there : (a b c : Option BuilderState) → Makes map seeds (Event.Settle k s) a b → c ≡ b → WhereTold (EndsGo (λ old new. new ≡ with_settled old k s)) a c
   settled_there None b c none same = same ∙ none
   settled_there (Some a) b c (new, told, (may, step)) same = (new, same ∙ told, ap (λ (x : BuilderState). x.ends) step)
+
+-- s arrived at one end of its chain, where the near one is a start
+pub arrived_once : (map : InstructionMap) (s at : ℕ) → OnChain map s at → (a b c : Option BuilderState) → WhereTold (EndsGo (ArrivesAt map at s)) a b → SameEnds b c → ForSome c (NearIsStart at) → WhereTold (ArrivesOnce map s) a c
+arrived_once map s at reaches a b c one same near = by a (ends_gone (ArrivesAt map at s) a b c one same)
+  where
+    by : (o : Option BuilderState) → WhereTold (EndsGo (ArrivesAt map at s)) o c → WhereTold (ArrivesOnce map s) o c
+    by None none = none
+    by (Some old) (new, told, arrives) = (new, told, record { at = at; reaches = reaches; arrives = arrives; near = near new told })
 
 -- a displaced start that arrived before its end and left it
 pub moved_before : (map : InstructionMap) (k x at : ℕ) → at < k → (a b c : Option BuilderState) → WhereTold (EndsGo (ArrivesAt map at x)) a b → WhereTold (EndsGo (λ old new. new ≡ with_settled old k x)) b c → WhereTold (MovesStart map k x) a c

@@ -6,3 +6,4 @@ pub mod Sums
 pub mod Measuring
 pub mod LeftReasons
 pub mod Addresses
+pub mod Stops

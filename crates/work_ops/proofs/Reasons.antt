@@ -164,8 +164,8 @@ module _ (map : InstructionMap) (k : ℕ) where
   pub fall_is_way : (taken fall : Option ℕ) → flow_at map k ≡ Some (Branch taken fall) → (x : ℕ) → fall ≡ Some x → IsSuccessor map k x
   fall_is_way taken fall is x e = successor_from_flow map k (Branch taken fall) is x (Contains-append_right (option_to_list taken) (option_to_list fall) x (in_option fall x e))
 
-  pub table_is_way : (entries : ℕ) (full : Bool) → flow_at map k ≡ Some (Table entries full) → (to : ℕ) → Contains (targets_at map k) to → IsSuccessor map k to
-  table_is_way entries full is to c = successor_from_flow map k (Table entries full) is to c
+  pub table_is_way : (entries : ℕ) (full is_open : Bool) → flow_at map k ≡ Some (Table entries full is_open) → (to : ℕ) → Contains (targets_at map k) to → IsSuccessor map k to
+  table_is_way entries full is_open is to c = successor_from_flow map k (Table entries full is_open) is to c
 
   module _ (Known : Fact → Type 0) where
     pub branch_followed : (taken fall : Option ℕ) → flow_at map k ≡ Some (Branch taken fall) → ForSome taken (IsFollowed map Known k) → ForSome fall (IsFollowed map Known k) → AreFollowed map Known k
@@ -178,28 +178,28 @@ module _ (map : InstructionMap) (k : ℕ) where
     pub past_followed : (fall : Option ℕ) → flow_at map k ≡ Some (IndirectCall fall) → ForSome fall (IsFollowed map Known k) → AreFollowed map Known k
     past_followed fall is one to way = one to (from_option fall to (successor_to_flow map k (IndirectCall fall) is to way))
 
-    pub table_followed : (entries : ℕ) (full : Bool) → flow_at map k ≡ Some (Table entries full) → ((to : ℕ) → Contains (targets_at map k) to → IsFollowed map Known k to) → AreFollowed map Known k
-    table_followed entries full is all to way = all to (successor_to_flow map k (Table entries full) is to way)
+    pub table_followed : (entries : ℕ) (full is_open : Bool) → flow_at map k ≡ Some (Table entries full is_open) → ((to : ℕ) → Contains (targets_at map k) to → IsFollowed map Known k to) → AreFollowed map Known k
+    table_followed entries full is_open is all to way = all to (successor_to_flow map k (Table entries full is_open) is to way)
 
     -- the other flows that end a chain have no ways on
     pub none_followed :
         (flow : Flow) → flow_at map k ≡ Some flow → IsTerminator map k →
         ((taken fall : Option ℕ) → flow ≡ Branch taken fall → ⊥) → ((target : ℕ) → flow ≡ Jump target → ⊥) →
-        ((fall : Option ℕ) → flow ≡ IndirectCall fall → ⊥) → ((entries : ℕ) (full : Bool) → flow ≡ Table entries full → ⊥) →
+        ((fall : Option ℕ) → flow ≡ IndirectCall fall → ⊥) → ((entries : ℕ) (full is_open : Bool) → flow ≡ Table entries full is_open → ⊥) →
         AreFollowed map Known k
     none_followed flow is ends branch jump past table to way = absurd (none flow (subst EndsChain is ends) branch jump past table (successor_to_flow map k flow is to way))
       where
         none :
             (flow : Flow) → EndsChain (Some flow) →
             ((taken fall : Option ℕ) → flow ≡ Branch taken fall → ⊥) → ((target : ℕ) → flow ≡ Jump target → ⊥) →
-            ((fall : Option ℕ) → flow ≡ IndirectCall fall → ⊥) → ((entries : ℕ) (full : Bool) → flow ≡ Table entries full → ⊥) →
+            ((fall : Option ℕ) → flow ≡ IndirectCall fall → ⊥) → ((entries : ℕ) (full is_open : Bool) → flow ≡ Table entries full is_open → ⊥) →
             Contains (successors_by (targets_at map k) flow) to → ⊥
         none (Straight next) ends branch jump past table c = ends
         none (Branch taken fall) ends branch jump past table c = branch taken fall refl
         none (Jump target) ends branch jump past table c = jump target refl
         none (Call target fall) ends branch jump past table c = none_in to c
         none (IndirectCall fall) ends branch jump past table c = past fall refl
-        none (Table entries full) ends branch jump past table c = table entries full refl
+        none (Table entries full is_open) ends branch jump past table c = table entries full is_open refl
         none Return ends branch jump past table c = none_in to c
         none Unknown ends branch jump past table c = none_in to c
         none Stop ends branch jump past table c = none_in to c

@@ -4,7 +4,7 @@ use Rattle.std.specs.Option.{ForSome}
 use Rattle.cfg_model.specs.declared.state.Waiter.{Waiter}
 use Rattle.cfg_model.specs.Program.Instructions.{InstructionMap}
 use Rattle.cfg_model.specs.Builder.State.{BuilderState, EndMap, IsStart, IsNear, IsMoved, IsTold}
-use Rattle.cfg_model.specs.Program.Chain.{IsTerminatorOf}
+use Rattle.cfg_model.specs.Program.Chain.{OnChain}
 use Rattle.cfg_model.specs.Builder.Event.{Event, ArrivesAt, with_settled}
 use Rattle.cfg_model.specs.Builder.Fact.{Fact}
 use Rattle.cfg_model.specs.Builder.Run.{IsRun}
@@ -24,8 +24,10 @@ RoseIfBusy before after (Busy kind shard) = before < after
 RoseIfBusy before after Memory = Unit {0}
 
 -- What holds of a place that was worked on, whatever came of the work: its maps changed by allowed
--- events alone and are kept, it knows what it knew, and its count of shards in other hands did not fall.
-pub record Went {X : Type 0} (map : InstructionMap) (seeds : List ℕ) (maps : X → Option BuilderState) (knows : X → Fact → Type 0) (busies : X → ℕ) (old new : X) : Type 0 where
+-- events alone and are kept, it knows what it knew, and its count of shards in other hands did not
+-- fall.
+pub record Went {X : Type 0} (map : InstructionMap) (seeds : List ℕ) (maps : X
+    → Option BuilderState) (knows : X → Fact → Type 0) (busies : X → ℕ) (old new : X) : Type 0 where
   pub run : Runs map seeds (maps old) (maps new)
   pub kept : AreKept map seeds (maps new)
   pub remembers : Remembers (knows old) (knows new)
@@ -35,21 +37,30 @@ pub record Went {X : Type 0} (map : InstructionMap) (seeds : List ℕ) (maps : X
 abbrev pub NearIsStart : ℕ → BuilderState → Type 0
 NearIsStart k state = (near : ℕ) → IsNear state.ends k near → IsStart state.starts near
 
--- The address that is near at the terminator of the chain of s is a start.
-abbrev pub EndsInStart : InstructionMap → ℕ → BuilderState → Type 0
-EndsInStart map s state = (k : ℕ) → IsTerminatorOf map s k → NearIsStart k state
+-- s arrived at one end, on its own chain, and the address that is near there now is a start. No
+-- other end is another one than before.
+pub record ArrivesOnce (map : InstructionMap) (s : ℕ) (old new : BuilderState) : Type 0 where
+  pub at : ℕ
+  pub reaches : OnChain map s at
+  pub arrives : ArrivesAt map at s old.ends new.ends
+  pub near : NearIsStart at new
 
 -- Where the maps are told, the ends are as they were.
 abbrev pub SameEnds : Option BuilderState → Option BuilderState → Type 0
 SameEnds = WhereTold (λ old new. new.ends ≡ old.ends)
 
--- The least displaced start of k is displaced there no longer; where there was none, nothing changed.
+-- The least displaced start of k is displaced there no longer; where there was none, nothing
+-- changed.
 abbrev pub PlacesFirst : ℕ → BuilderState → BuilderState → Type 0
-PlacesFirst k old new = (first : Option ℕ) × IsLeast (IsMoved old.ends k) first × MatchOption first (new ≡ old) (λ x. ¬ IsMoved new.ends k x)
+PlacesFirst k old new =
+    (first : Option ℕ) × IsLeast (IsMoved old.ends k) first × MatchOption first (new ≡ old)
+    (λ x. ¬ IsMoved new.ends k x)
 
 -- The next waiter of k that was to be told was told; where there was none, nothing changed.
 abbrev pub TellsNext : ℕ → BuilderState → BuilderState → Type 0
-TellsNext k old new = (next : Option Waiter) × IsNextToTell old.terminators k next × MatchOption next (new ≡ old) (λ w. IsTold new.terminators k w)
+TellsNext k old new =
+    (next : Option Waiter) × IsNextToTell old.terminators k next × MatchOption next (new ≡ old)
+    (λ w. IsTold new.terminators k w)
 
 -- Where the maps are told, x is not displaced at k.
 abbrev pub IsMovedNoMore : ℕ → ℕ → Option BuilderState → Type 0

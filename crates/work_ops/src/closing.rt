@@ -9,24 +9,25 @@ ghost use Rattle.core_state.specs.Place.{Remembers};
 ghost use Rattle.work_ops.specs.inner.Working.{Continues};
 
 use crate::desk::Desk;
-use crate::work::{want_all, work_on};
+use crate::work::{work_on, work_seeds};
 use cfg_model::Chains;
 use core_state::{Job, Memory, PlaceEnd, State};
 use std::alloc::Global;
 use std::marker::Brand;
 use std::mem;
 
-/// Works on the state of the program `code` whose seeds are `seeds` until nothing is left: the state is
-/// closed then. Where nothing was left, nothing changes. [`Memory`] where memory ran out: the changes made
-/// until then stand.
+/// Works on the state of the program `code` whose seeds are `seeds` until nothing is left: the
+/// state is closed then. Where nothing was left, nothing changes. [`Memory`] where memory ran out:
+/// the changes made until then stand.
 ///
-/// It ends, since each piece of work lowers a number that the state alone gives. That number counts first
-/// what is unknown of the addresses, of which there are finitely many: two for each that is no start, one
-/// for each start that is wanted, one for each terminator that is not dealt with, and one for each pair of
-/// a terminator and a waiter that was not told there. No change raises this count. To want a new start, to
-/// parse one, to deal with a terminator and to tell a waiter each lower it. To place a displaced start may
-/// leave it. So the number counts then the displaced starts, each for three times as much as one at the
-/// address before: one leaves its end, and at most two are displaced at an earlier end.
+/// It ends, since each piece of work lowers a number that the state alone gives. That number counts
+/// first what is unknown of the addresses, of which there are finitely many: two for each that is
+/// no start, one for each start that is wanted, one for each terminator that is not dealt with, and
+/// one for each pair of a terminator and a waiter that was not told there. No change raises this
+/// count. To want a new start, to parse one, to deal with a terminator and to tell a waiter each
+/// lower it. To place a displaced start may leave it. So the number counts then the displaced
+/// starts, each for three times as much as one at the address before: one leaves its end, and at
+/// most two are displaced at an earlier end.
 pub fn finish<C: Chains>(
     alloc: Global,
     code: &C,
@@ -37,7 +38,8 @@ pub fn finish<C: Chains>(
     requires kept { IsKept (C.map code.now) seeds.now state.old.maps }
     ensures closed { OnOk result (IsClosed (C.map code.now) seeds.now state.new.maps) }
     ensures kept { IsKept (C.map code.now) seeds.now state.new.maps }
-    ensures remembers { Remembers (Holds (C.map code.now) state.old.maps) (Holds (C.map code.now) state.new.maps) }
+    ensures remembers { Remembers (Holds (C.map code.now) state.old.maps)
+        (Holds (C.map code.now) state.new.maps) }
     ensures unchanged { HasNothingLeft seeds.now state.old.maps → state.new ≡ state.old }
 {
     if state.left(code, seeds).is_none() {
@@ -56,7 +58,7 @@ pub fn finish<C: Chains>(
     }
 }
 
-/// Makes all seeds starts, and works until nothing is left.
+/// Takes the seeds one by one, and works until nothing is left.
 fn work_off<J: Job, C: Chains>(desk: &mut Desk, code: &C, seeds: &[u64]) -> Result<(), PlaceEnd>
     requires code { C.map code.now ≡ J.map }
     requires job { seeds.now ≡ J.seeds }
@@ -65,7 +67,7 @@ fn work_off<J: Job, C: Chains>(desk: &mut Desk, code: &C, seeds: &[u64]) -> Resu
     ensures works { Continues J.map J.seeds desk.old.state.maps desk.new.state.maps }
     ensures none { OnOk result (HasNothingLeft J.seeds desk.new.state.maps) }
 {
-    want_all::<J, C>(desk, code, seeds)?;
+    work_seeds::<J, C>(desk, code, seeds)?;
     while work_on::<J, C>(desk, code, seeds)? {}
     Ok(())
 }

@@ -1,11 +1,11 @@
 //! What the code of a job tells of it.
 
-ghost use Rattle.std.specs.Prelude.{◌≡◌, ◌<◌, IsSome, Some, length, slice_get};
+ghost use Rattle.std.specs.Prelude.{◌≡◌, IfOk, IfErr, IsSome, Some};
 ghost use Rattle.cfg_model.specs.Program.Instructions.{IsLawful, flow_at, targets_at};
 ghost use Rattle.cfg_model.specs.Program.Chain.{IsTerminatorOf};
 
 use cfg_model::{Chains, Flow, term};
-use core_state::Job;
+use core_state::{Job, PlaceEnd};
 
 /// The code tells that its map is lawful, by whatever it answers.
 pub(crate) fn ask<J: Job, C: Chains>(code: &C, a: u64)
@@ -33,11 +33,16 @@ pub(crate) fn flow_of<J: Job, C: Chains>(code: &C, k: u64) -> Flow
     code.flow(k)
 }
 
-/// Kept target number `i` of the table jump at `k`.
-pub(crate) fn target_of<J: Job, C: Chains>(code: &C, k: u64, i: u32) -> u64
+/// The kept targets of the table jump at `k`, in the order of the table. The only refusal is want
+/// of memory.
+pub(crate) fn targets_of<J: Job, C: Chains>(code: &C, k: u64) -> Result<Vec<u64>, PlaceEnd>
     requires code { C.map code.now ≡ J.map }
-    requires within { i < length (targets_at J.map k) }
-    ensures { slice_get (targets_at J.map k) i ≡ Some result }
+    requires stands { IsSome (J.map k) }
+    ensures targets { IfOk result (λ v. v.items ≡ targets_at J.map k) }
+    ensures memory { IfErr result (λ end. end ≡ PlaceEnd.Memory) }
 {
-    code.target(k, i)
+    match code.targets(k) {
+        Ok(targets) => Ok(targets),
+        Err(_) => Err(PlaceEnd::Memory),
+    }
 }

@@ -3,8 +3,8 @@
 use cfg_model::{Chains, Waiter};
 use core_state::{Arrival, Job, Name, Place, PlaceEnd, State};
 
-/// A whole state, and names of work that was found. The list may lack work that is left, and may name
-/// work that was done.
+/// A whole state, and names of work that was found. The list may lack work that is left, and may
+/// name work that was done.
 #[derive(Drop)]
 pub(crate) struct Desk {
     /// The state.
@@ -64,6 +64,14 @@ impl<J: Job> Place<J> for Desk {
         <State as Place<J>>::edges_done(&mut self.state, k)
     }
 
+    fn has_start(&mut self, s: u64) -> Result<bool, PlaceEnd> {
+        <State as Place<J>>::has_start(&mut self.state, s)
+    }
+
+    fn start_behind(&mut self, a: u64) -> Result<Option<u64>, PlaceEnd> {
+        <State as Place<J>>::start_behind(&mut self.state, a)
+    }
+
     fn near(&mut self, k: u64) -> Result<Option<u64>, PlaceEnd> {
         <State as Place<J>>::near(&mut self.state, k)
     }
@@ -81,7 +89,12 @@ impl<J: Job> Place<J> for Desk {
         let _ = self.names.push(name);
     }
 
-    ghost sound = { λ desk kept fact. sound_facts_hold J.map J.seeds desk.state.maps fact (kept_is_sound J.map J.seeds desk.state.maps (kept desk.state.maps refl)) };
+    ghost sound = { λ desk kept fact. sound_facts_hold J.map J.seeds desk.state.maps fact
+        (kept_is_sound J.map J.seeds desk.state.maps (kept desk.state.maps refl)) };
 
-    ghost exact = { λ desk state told fact. (subst (λ (s : BuilderState). Holds J.map s fact) (same_Some desk.state.maps state told), subst (λ (s : BuilderState). Holds J.map s fact) (sym (same_Some desk.state.maps state told))) };
+    ghost exact = { λ desk state told fact. (
+      subst (λ (s : BuilderState). Holds J.map s fact) (same_Some desk.state.maps state told),
+      subst (λ (s : BuilderState). Holds J.map s fact)
+          (sym (same_Some desk.state.maps state told)),
+    ) };
 }

@@ -1,23 +1,24 @@
 //! Following the edges of a terminator.
 
-ghost use Rattle.std.specs.Prelude.{◌≡◌, ℕ, ◌≤◌, ◌↔◌, OnOk, IfErr, IsTrue, Some, Contains, length};
+ghost use Rattle.std.specs.Prelude.{◌≡◌, ℕ, ◌≤◌, ◌↔◌, OnOk, IfErr, IsTrue, IsSome, Some, Contains};
 ghost use Rattle.std.specs.Option.{ForSome};
 ghost use Rattle.cfg_model.specs.Program.Instructions.{IsLawful, flow_at, targets_at};
-ghost use Rattle.cfg_model.specs.Program.Successors.{IsSuccessor, IsCall, LeavesFunction, ReturnsByItself};
+ghost use Rattle.cfg_model.specs.Program.Successors.{IsSuccessor, IsCall};
+ghost use Rattle.cfg_model.specs.Program.Successors.{LeavesFunction, ReturnsByItself};
 ghost use Rattle.cfg_model.specs.Program.Reach.{AreSeeds};
 ghost use Rattle.cfg_model.specs.Builder.Fact.{Fact};
 ghost use Rattle.core_state.specs.Place.{AreKept, Remembers};
 ghost use Rattle.work_ops.specs.Going.{Runs, RoseIfBusy, Went};
 ghost use Rattle.work_ops.specs.Done.{IsFollowed, AreFollowed, IsCalled};
 
-use crate::code::{ask, end_of, flow_of, target_of};
+use crate::code::{ask, end_of, flow_of, targets_of};
 use crate::parts::{enter, note_return, place_wait, start};
 use cfg_model::{Chains, Flow, WaitKind, Waiter};
 use core_state::{Job, Place, PlaceEnd};
 
-/// Follows the edges of the terminator `k`: its targets are made starts, it waits where its return hangs
-/// on another terminator's and a call where its target's return frees its fall, it is noted to return
-/// where it does so by itself, and then to be done.
+/// Follows the edges of the terminator `k`: its targets are made starts, it waits where its return
+/// hangs on another terminator's and a call where its target's return frees its fall, it is noted
+/// to return where it does so by itself, and then to be done.
 pub fn edges_op<J: Job, P: Place<J>, C: Chains>(
     place: &mut P,
     code: &C,
@@ -63,7 +64,7 @@ fn follow_all<J: Job, P: Place<J>, C: Chains>(
         Flow::Branch { taken, fall } => follow_both::<J, P, C>(place, code, k, taken, fall),
         Flow::Jump { target } => follow::<J, P, C>(place, code, k, target),
         Flow::IndirectCall { fall } => follow_some::<J, P, C>(place, code, k, fall),
-        Flow::Table { entries, .. } => follow_table::<J, P, C>(place, code, k, entries),
+        Flow::Table { .. } => follow_table::<J, P, C>(place, code, k),
         _ => Ok(()),
     }
 }
@@ -120,27 +121,28 @@ fn follow_table<J: Job, P: Place<J>, C: Chains>(
     place: &mut P,
     code: &C,
     k: u64,
-    entries: u32,
 ) -> Result<(), PlaceEnd>
     requires code { C.map code.now ≡ J.map }
     requires seeds { AreSeeds J.map J.seeds }
     requires lawful { IsLawful J.map }
     requires kept { AreKept J.map J.seeds (P.maps place.old) }
     requires entered { P.knows place.old (Fact.Terminator k) }
-    requires count { entries ≡ length (targets_at J.map k) }
+    requires stands { IsSome (J.map k) }
     requires ways { (to : ℕ) → Contains (targets_at J.map k) to → IsSuccessor J.map k to }
     ensures went { Went J.map J.seeds P.maps P.knows P.busies place.old place.new }
     ensures busy { IfErr result (RoseIfBusy (P.busies place.old) (P.busies place.new)) }
-    ensures followed { OnOk result ((to : ℕ) → Contains (targets_at J.map k) to → IsFollowed J.map (P.knows place.new) k to) }
+    ensures followed { OnOk result ((to : ℕ) → Contains (targets_at J.map k) to
+        → IsFollowed J.map (P.knows place.new) k to) }
 {
-    for i in 0..entries {
-        let to = target_of::<J, C>(code, k, i);
-        follow::<J, P, C>(place, code, k, to)?;
+    let targets = targets_of::<J, C>(code, k)?;
+    for to in &targets {
+        follow::<J, P, C>(place, code, k, *to)?;
     }
     Ok(())
 }
 
-/// Follows the way from `k` to this address: it becomes a start, and `k` waits at the end of its chain.
+/// Follows the way from `k` to this address: it becomes a start, and `k` waits at the end of its
+/// chain.
 fn follow<J: Job, P: Place<J>, C: Chains>(
     place: &mut P,
     code: &C,
@@ -193,8 +195,8 @@ fn call_all<J: Job, P: Place<J>, C: Chains>(
     }
 }
 
-/// Makes the target of the call at `k` a start, and where the call has a fall, lets it wait at the end
-/// of the target's chain to be released.
+/// Makes the target of the call at `k` a start, and where the call has a fall, lets it wait at the
+/// end of the target's chain to be released.
 fn call<J: Job, P: Place<J>, C: Chains>(
     place: &mut P,
     code: &C,
@@ -267,8 +269,8 @@ fn return_alone<J: Job, P: Place<J>>(place: &mut P, k: u64, flow: Flow) -> Resul
     }
 }
 
-/// Whether a flow leaves the function: a return, a jump to where nothing is known, or a branch that is
-/// cut off.
+/// Whether a flow leaves the function: a return, a jump to where nothing is known, or a branch that
+/// is cut off.
 fn leaves(flow: Flow) -> bool
     ensures { IsTrue result ↔ LeavesFunction (Some flow) }
 {

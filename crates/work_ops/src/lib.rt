@@ -1,7 +1,7 @@
 //! The operations of a builder, each a few changes with their reasons, over any place.
 //!
-//! An operation makes allowed changes alone, and passes on the work that they make. Each may be refused
-//! in the middle: what was done until then stands, and the operation may be made again.
+//! An operation makes allowed changes alone, and passes on the work that they make. Each may be
+//! refused in the middle: what was done until then stands, and the operation may be made again.
 //!
 //! - [`want_op`]: makes an address the start of a block.
 //! - [`parse_op`]: follows a start's chain to its end.
@@ -19,6 +19,7 @@ mod moves;
 mod parse;
 mod parts;
 mod tell;
+mod walk;
 mod want;
 mod work;
 

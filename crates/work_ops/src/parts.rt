@@ -100,7 +100,8 @@ pub(crate) fn arrive_at<J: Job, P: Place<J>, C: Chains>(
     ensures busy { IfErr result (RoseIfBusy (P.busies place.old) (P.busies place.new)) }
     ensures anchored { OnOk result (P.knows place.new (Fact.Anchored s k)) }
     ensures near { OnOk result (ForSome (P.maps place.new) (NearIsStart k)) }
-    ensures arrived { OnOk result (WhereTold (λ old new. ArrivesAt J.map k s old.ends new.ends) (P.maps place.old) (P.maps place.new)) }
+    ensures arrived { OnOk result (WhereTold (λ old new. ArrivesAt J.map k s old.ends new.ends)
+        (P.maps place.old) (P.maps place.new)) }
 {
     match place.arrive(code, k, s)? {
         Arrival::Split { near, .. } => {

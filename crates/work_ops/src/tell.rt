@@ -117,8 +117,8 @@ fn release<J: Job, P: Place<J>, C: Chains>(
     }
 }
 
-/// Goes past the call at `call` to its fall, which the return of `k` frees: the fall is a start, and the
-/// call follows the end of its chain.
+/// Goes past the call at `call` to its fall, which the return of `k` frees: the fall is a start,
+/// and the call follows the end of its chain.
 fn go_past<J: Job, P: Place<J>, C: Chains>(
     place: &mut P,
     code: &C,

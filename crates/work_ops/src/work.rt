@@ -14,9 +14,9 @@ use crate::{edges_op, move_op, parse_op, tell_op, want_op};
 use cfg_model::{Chains, Mark};
 use core_state::{Job, Name, PlaceEnd, WorkKind};
 
-/// Makes all seeds starts, the highest first: so the list names the lowest last, and it is parsed first.
-/// A run with many starts is then cut from its front, and each start is displaced once at most.
-pub(crate) fn want_all<J: Job, C: Chains>(
+/// Makes one seed after the other a start, the highest first, and does what that makes to do before
+/// it takes the next one. So a seed on the run of another finds that one in front of it.
+pub(crate) fn work_seeds<J: Job, C: Chains>(
     desk: &mut Desk,
     code: &C,
     seeds: &[u64],
@@ -29,12 +29,26 @@ pub(crate) fn want_all<J: Job, C: Chains>(
 {
     for seed in seeds.iter().rev() {
         want_op::<J, Desk, C>(desk, code, *seed)?;
+        work_listed::<J, C>(desk, code)?;
     }
     Ok(())
 }
 
-/// Does some work: from the list, or else what is left in the state. Answers whether there was any; less
-/// is to do then.
+/// Does all work that is listed, and all that this makes.
+fn work_listed<J: Job, C: Chains>(desk: &mut Desk, code: &C) -> Result<(), PlaceEnd>
+    requires code { C.map code.now ≡ J.map }
+    requires seeds { AreSeeds J.map J.seeds }
+    requires kept { IsKept J.map J.seeds desk.old.state.maps }
+    ensures { Continues J.map J.seeds desk.old.state.maps desk.new.state.maps }
+{
+    while let Some(name) = desk.names.pop() {
+        do_listed::<J, C>(desk, code, name)?;
+    }
+    Ok(())
+}
+
+/// Does some work: from the list, or else what is left in the state. Answers whether there was any;
+/// less is to do then.
 pub(crate) fn work_on<J: Job, C: Chains>(
     desk: &mut Desk,
     code: &C,
@@ -45,8 +59,10 @@ pub(crate) fn work_on<J: Job, C: Chains>(
     requires seeds { AreSeeds J.map J.seeds }
     requires kept { IsKept J.map J.seeds desk.old.state.maps }
     ensures works { Continues J.map J.seeds desk.old.state.maps desk.new.state.maps }
-    ensures some { IfOk result (λ some. IsTrue some → to_do desk.new.state.maps (vec_len desk.new.names) < to_do desk.old.state.maps (vec_len desk.old.names)) }
-    ensures none { IfOk result (λ some. ¬ IsTrue some → HasNothingLeft J.seeds desk.new.state.maps) }
+    ensures some { IfOk result (λ some. IsTrue some → to_do desk.new.state.maps
+        (vec_len desk.new.names) < to_do desk.old.state.maps (vec_len desk.old.names)) }
+    ensures none { IfOk result
+        (λ some. ¬ IsTrue some → HasNothingLeft J.seeds desk.new.state.maps) }
 {
     if let Some(name) = desk.names.pop() {
         do_listed::<J, C>(desk, code, name)?;
@@ -83,8 +99,10 @@ fn do_listed<J: Job, C: Chains>(desk: &mut Desk, code: &C, name: Name) -> Result
     requires seeds { AreSeeds J.map J.seeds }
     requires kept { IsKept J.map J.seeds desk.old.state.maps }
     ensures works { Continues J.map J.seeds desk.old.state.maps desk.new.state.maps }
-    ensures less { OnOk result (Lowers desk.old.state.maps desk.new.state.maps ⊎ (desk.new ≡ desk.old)) }
-    ensures left { OnOk result (IsLeft J.seeds desk.old.state.maps (work_of name) → name.kind ≢ kinds.Want → Lowers desk.old.state.maps desk.new.state.maps) }
+    ensures less { OnOk result (Lowers desk.old.state.maps desk.new.state.maps
+        ⊎ (desk.new ≡ desk.old)) }
+    ensures left { OnOk result (IsLeft J.seeds desk.old.state.maps (work_of name)
+        → name.kind ≢ kinds.Want → Lowers desk.old.state.maps desk.new.state.maps) }
 {
     match name.kind {
         WorkKind::Want => Ok(()),
@@ -101,8 +119,10 @@ fn parse<J: Job, C: Chains>(desk: &mut Desk, code: &C, s: u64) -> Result<(), Pla
     requires seeds { AreSeeds J.map J.seeds }
     requires kept { IsKept J.map J.seeds desk.old.state.maps }
     ensures works { Continues J.map J.seeds desk.old.state.maps desk.new.state.maps }
-    ensures less { OnOk result (Lowers desk.old.state.maps desk.new.state.maps ⊎ (desk.new ≡ desk.old)) }
-    ensures left { OnOk result (IsLeft J.seeds desk.old.state.maps (Work.Parse s) → Lowers desk.old.state.maps desk.new.state.maps) }
+    ensures less { OnOk result (Lowers desk.old.state.maps desk.new.state.maps
+        ⊎ (desk.new ≡ desk.old)) }
+    ensures left { OnOk result (IsLeft J.seeds desk.old.state.maps (Work.Parse s)
+        → Lowers desk.old.state.maps desk.new.state.maps) }
 {
     match desk.state.start(s) {
         Some(Mark::Wanted) => parse_op::<J, Desk, C>(desk, code, s),
@@ -117,8 +137,10 @@ fn place_next<J: Job, C: Chains>(desk: &mut Desk, code: &C, k: u64) -> Result<()
     requires seeds { AreSeeds J.map J.seeds }
     requires kept { IsKept J.map J.seeds desk.old.state.maps }
     ensures works { Continues J.map J.seeds desk.old.state.maps desk.new.state.maps }
-    ensures less { OnOk result (Lowers desk.old.state.maps desk.new.state.maps ⊎ (desk.new ≡ desk.old)) }
-    ensures left { OnOk result (IsLeft J.seeds desk.old.state.maps (Work.Move k) → Lowers desk.old.state.maps desk.new.state.maps) }
+    ensures less { OnOk result (Lowers desk.old.state.maps desk.new.state.maps
+        ⊎ (desk.new ≡ desk.old)) }
+    ensures left { OnOk result (IsLeft J.seeds desk.old.state.maps (Work.Move k)
+        → Lowers desk.old.state.maps desk.new.state.maps) }
 {
     ask::<J, C>(code, k);
     match desk.state.moved(k) {
@@ -133,8 +155,10 @@ fn follow_edges<J: Job, C: Chains>(desk: &mut Desk, code: &C, k: u64) -> Result<
     requires seeds { AreSeeds J.map J.seeds }
     requires kept { IsKept J.map J.seeds desk.old.state.maps }
     ensures works { Continues J.map J.seeds desk.old.state.maps desk.new.state.maps }
-    ensures less { OnOk result (Lowers desk.old.state.maps desk.new.state.maps ⊎ (desk.new ≡ desk.old)) }
-    ensures left { OnOk result (IsLeft J.seeds desk.old.state.maps (Work.Edges k) → Lowers desk.old.state.maps desk.new.state.maps) }
+    ensures less { OnOk result (Lowers desk.old.state.maps desk.new.state.maps
+        ⊎ (desk.new ≡ desk.old)) }
+    ensures left { OnOk result (IsLeft J.seeds desk.old.state.maps (Work.Edges k)
+        → Lowers desk.old.state.maps desk.new.state.maps) }
 {
     match desk.state.done(k) {
         Some(false) => edges_op::<J, Desk, C>(desk, code, k),
@@ -148,8 +172,10 @@ fn tell_next<J: Job, C: Chains>(desk: &mut Desk, code: &C, k: u64) -> Result<(),
     requires seeds { AreSeeds J.map J.seeds }
     requires kept { IsKept J.map J.seeds desk.old.state.maps }
     ensures works { Continues J.map J.seeds desk.old.state.maps desk.new.state.maps }
-    ensures less { OnOk result (Lowers desk.old.state.maps desk.new.state.maps ⊎ (desk.new ≡ desk.old)) }
-    ensures left { OnOk result (IsLeft J.seeds desk.old.state.maps (Work.Tell k) → Lowers desk.old.state.maps desk.new.state.maps) }
+    ensures less { OnOk result (Lowers desk.old.state.maps desk.new.state.maps
+        ⊎ (desk.new ≡ desk.old)) }
+    ensures left { OnOk result (IsLeft J.seeds desk.old.state.maps (Work.Tell k)
+        → Lowers desk.old.state.maps desk.new.state.maps) }
 {
     ask::<J, C>(code, k);
     match desk.state.untold(k) {

@@ -13,9 +13,11 @@ use Rattle.cfg_model.specs.Builder.Left.{Work}
 pub data LeftAtStart (s : ℕ) (mark : Mark) : Work → Type 0 where
   unparsed : mark ≡ marks.Wanted → LeftAtStart s mark (Work.Parse s)
 
--- At an end: to place a displaced start, and to want the near one, where it is not among the starts.
+-- At an end: to place a displaced start, and to want the near one, where it is not among the
+-- starts.
 pub data LeftAtEnd (starts : StartMap) (k : ℕ) (entry : EndEntry) : Work → Type 0 where
-  displaced : (x : ℕ) → IsTrue (sets.contains entry.moved x) → LeftAtEnd starts k entry (Work.Move k)
+  displaced : (x : ℕ) → IsTrue (sets.contains entry.moved x)
+      → LeftAtEnd starts k entry (Work.Move k)
   unstarted : ¬ IsStart starts entry.near → LeftAtEnd starts k entry (Work.Want entry.near)
 
 -- At a terminator: to deal with its ways on, and to tell a waiter that it returns.

@@ -1,5 +1,6 @@
 -- What a walk over the keys of many shards reads of them.
-use Rattle.std.specs.Prelude.{◌≡◌, ℕ, ◌==◌, ◌/◌, Bool, false, List, min, slice_get, IsTrue, Option, Some, None}
+use Rattle.std.specs.Prelude.{◌≡◌, ℕ, ◌==◌, ◌/◌, Bool, false, List, min}
+use Rattle.std.specs.Prelude.{slice_get, IsTrue, Option, Some, None}
 use Rattle.cfg_model.specs.Builder.Shard.{shard_of}
 
 -- k is a key of its own shard.
@@ -8,7 +9,8 @@ IsKey {S} has shards k = (s : S) × (slice_get shards (shard_of k) ≡ Some s) �
 
 -- Each shard has only keys that belong to it.
 abbrev pub HaveOwn : {S : Type 0} → (S → ℕ → Bool) → List S → Type 0
-HaveOwn {S} has shards = (i : ℕ) (s : S) → slice_get shards i ≡ Some s → (k : ℕ) → IsTrue (has s k) → shard_of k ≡ i
+HaveOwn {S} has shards =
+    (i : ℕ) (s : S) → slice_get shards i ≡ Some s → (k : ℕ) → IsTrue (has s k) → shard_of k ≡ i
 
 -- The lesser of two numbers, either of which may be none.
 abbrev pub lesser_of : Option ℕ → Option ℕ → Option ℕ

@@ -16,6 +16,7 @@ pub record Continues (map : InstructionMap) (seeds : List ℕ) (old new : Builde
 abbrev pub Lowers : BuilderState → BuilderState → Type 0
 Lowers old new = work_left new < work_left old
 
--- What there is to do: the work that is left counts first, and then the number of names that are listed.
+-- What there is to do: the work that is left counts first, and then the number of names that are
+-- listed.
 unfoldable pub to_do : BuilderState → ℕ → ℕ
 to_do state names = work_left state * 2 ^ 64 + names

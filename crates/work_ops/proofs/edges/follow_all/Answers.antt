@@ -22,7 +22,7 @@ returns-in-IndirectCall-clause-followed g c =
 
 pub returns-in-Table-clause-followed : goal.returns-in-Table-clause-followed
 returns-in-Table-clause-followed g c =
-    on_ok_weaker c.follow_table.result (table_followed g.J.Job.map c.args.k (g.P.Place.knows c.follow_table.new.place) c.in-Table.entries c.in-Table.full (c.requires.flow ∙ ap Some c.in-Table.is)) c.follow_table.ensures.followed
+    on_ok_weaker c.follow_table.result (table_followed g.J.Job.map c.args.k (g.P.Place.knows c.follow_table.new.place) c.in-Table.entries c.in-Table.full c.in-Table.is_open (c.requires.flow ∙ ap Some c.in-Table.is)) c.follow_table.ensures.followed
 
 pub returns-in_default : goal.returns-in_default
 returns-in_default g c =

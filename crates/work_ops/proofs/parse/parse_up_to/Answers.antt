@@ -1,5 +1,8 @@
+use Rattle.std.proofs.Common.{sym, subst}
 use Rattle.cfg_model.specs.Builder.Event.{Event}
-use Rattle.work_ops.proofs.GoingOn.{changes, reads, goes_on}
+use Rattle.cfg_model.specs.Builder.Fact.{Fact}
+use Rattle.cfg_model.proofs.Program.ChainEnds.{one_end}
+use Rattle.work_ops.proofs.GoingOn.{always, changes, reads, goes_on}
 use Rattle.work_ops.proofs.EndsTold.{ends_call, ends_then, ends_same, term_leaves, parsed_leaves}
 use Rattle.work_ops.proofs.parse.parse_up_to.Goals as goal
 
@@ -24,3 +27,9 @@ returns-clause-ends g c =
     (ends_call g.J.Job.map g.J.Job.seeds c.term.result (Event.Terminator c.args.k) (term_leaves g.J.Job.map c.args.k) _ _ c.term.ensures.step c.term.ensures.refused)
     (ends_then _ _ _ (ends_same _ _ c.found.ensures.same)
     (ends_call g.J.Job.map g.J.Job.seeds c.parsed.result (Event.Parsed c.args.s) (parsed_leaves g.J.Job.map c.args.s) _ _ c.parsed.ensures.step c.parsed.ensures.refused))
+
+pub returns-clause-entered : goal.returns-clause-entered
+returns-clause-entered g c =
+    always c.parsed.result _
+    (λ e ends. subst (λ (at : _). g.P.Place.knows c.parsed.new.self (Fact.Terminator at)) (one_end g.J.Job.map c.args.s c.args.k e c.requires.ends ends)
+    (c.parsed.ensures.remembers _ (c.found.ensures.remembers _ c.in_ok-term.ensures.brings.0)))

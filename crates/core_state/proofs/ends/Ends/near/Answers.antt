@@ -7,9 +7,9 @@ use Rattle.core_state.proofs.ends.Ends.near.Goals as goal
 
 pub returns-in_err-end : goal.returns-in_err-end
 returns-in_err-end c =
-    c.from_residual.ensures ∙ near_known _ _ c.self.view_is c.args.k None (sym c.get.ensures.value ∙ ap option_copied c.in_err-end.was)
+    c.from_residual.ensures ∙ near_known _ _ c.self.view_is c.args.k None (sym c.get.ensures ∙ ap option_copied c.in_err-end.was)
 
 pub returns : goal.returns
 returns c =
     ap (λ (e : EndEntry). Some e.near) c.end.view_is
-    ∙ near_known _ _ c.self.view_is c.args.k (Some c.in_ok-end.end.now) (sym c.get.ensures.value ∙ ap option_copied c.in_ok-end.was)
+    ∙ near_known _ _ c.self.view_is c.args.k (Some c.in_ok-end.end.now) (sym c.get.ensures ∙ ap option_copied c.in_ok-end.was)

@@ -1,17 +1,11 @@
-use Rattle.std.proofs.Common.{sym, ap, ◌∙◌}
-use Rattle.std.specs.Option.{option_copied_mut}
-use Rattle.core_state.proofs.Seen.{none_is_not, known}
+use Rattle.std.proofs.Common.{ap, ◌∙◌}
+use Rattle.std.specs.Prelude.{is_some}
+use Rattle.std.specs.FinMap as maps
 use Rattle.core_state.proofs.EndChanges.{settles}
-use Rattle.core_state.proofs.ends.Ends.settle.Goals.{in-Some, in_default}
 use Rattle.core_state.proofs.ends.Ends.settle.Goals as goal
 
+pub value_mut-requires : goal.value_mut-requires
+value_mut-requires c = ap (λ m. is_some (maps.get m c.args.k)) c.self.view_is ∙ c.requires
+
 pub returns : goal.returns
-returns c =
-    let has = known _ _ c.self.view_is c.args.k c.requires in
-    elim c.match-get_mut.branch [
-      | in-Some w ↦
-          rw w.self-inside-is
-          (settles _ _ c.self.view_is c.args.k _ _ c.args.x (sym c.get_mut.ensures.value ∙ ap option_copied_mut w.in-Some.is) w.settle.ensures _
-          ((c.get_mut.follows.holds w.settle.new.self).3 has).0)
-      | in_default w ↦ absurd (none_is_not _ (sym c.get_mut.ensures.value ∙ ap option_copied_mut w.in_default.is) has)
-    ]
+returns c = settles _ _ c.self.view_is c.args.k _ _ c.args.x c.value_mut.ensures.value c.settle.ensures

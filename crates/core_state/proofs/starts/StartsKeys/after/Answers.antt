@@ -1,5 +1,7 @@
-use Rattle.core_state.proofs.KeysSeen.{keys_seen}
+use Rattle.std.proofs.Common.{subst}
+use Rattle.core_state.specs.Least.{IsLeast}
+use Rattle.core_state.specs.inner.Grouped.{IsKeyAbove}
 use Rattle.core_state.proofs.starts.StartsKeys.after.Goals as goal
 
 pub returns : goal.returns
-returns c = keys_seen _ _ c.self.view_is c.args.a _ c.least_above.ensures
+returns c = subst (λ m. IsLeast (IsKeyAbove m c.args.a) c.after.result) c.self.view_is c.after.ensures

@@ -8,9 +8,9 @@ use Rattle.core_state.proofs.terms.Terms.done.Goals as goal
 pub returns-in_err-term : goal.returns-in_err-term
 returns-in_err-term c =
     c.from_residual.ensures
-    ∙ read _ _ c.self.view_is c.args.k (λ (e : TerminatorEntry). e.done) None (sym c.get.ensures.value ∙ ap option_copied c.in_err-term.was)
+    ∙ read _ _ c.self.view_is c.args.k (λ (e : TerminatorEntry). e.done) None (sym c.get.ensures ∙ ap option_copied c.in_err-term.was)
 
 pub returns : goal.returns
 returns c =
     ap (λ (e : TerminatorEntry). Some e.done) c.term.view_is
-    ∙ read _ _ c.self.view_is c.args.k (λ (e : TerminatorEntry). e.done) (Some c.in_ok-term.term.now) (sym c.get.ensures.value ∙ ap option_copied c.in_ok-term.was)
+    ∙ read _ _ c.self.view_is c.args.k (λ (e : TerminatorEntry). e.done) (Some c.in_ok-term.term.now) (sym c.get.ensures ∙ ap option_copied c.in_ok-term.was)

@@ -1,20 +1,14 @@
-use Rattle.std.proofs.Common.{refl, sym, ◌∙◌}
-use Rattle.core_state.proofs.TermChanges.{is_entered, not_entered, enter_again, enter_new}
+use Rattle.std.proofs.Common.{◌∙◌}
+use Rattle.std.proofs.lemmas.Result.{IfOk-weaker, on_ok_weaker, on_err_weaker}
+use Rattle.core_state.specs.inner.Grouped.{with_new}
+use Rattle.core_state.proofs.LinesKept.{is_new}
 use Rattle.core_state.proofs.terms.Terms.term.Goals as goal
 
-pub returns-then-contains_key-clause-entered : goal.returns-then-contains_key-clause-entered
-returns-then-contains_key-clause-entered c =
-    enter_again _ _ c.self.view_is c.args.k (sym c.contains_key.ensures ∙ c.if-contains_key.true)
-
-pub returns-then-contains_key-clause-answer : goal.returns-then-contains_key-clause-answer
-returns-then-contains_key-clause-answer c =
-    let entered = is_entered _ _ c.self.view_is c.args.k (sym c.contains_key.ensures ∙ c.if-contains_key.true) in
-    (λ is. cc, λ none. absurd (none entered))
-
 pub returns-clause-entered : goal.returns-clause-entered
-returns-clause-entered c =
-    enter_new _ _ c.self.view_is c.args.k (sym c.contains_key.ensures ∙ c.if-contains_key.false) _ _ c.new.ensures c.in_ok-insert.ensures.updates.0
+returns-clause-entered c = on_ok_weaker c.add.result (λ is. is ∙ (λ i. with_new (c.self.view_is i) c.args.k (c.new.ensures i))) c.add.ensures.added
 
 pub returns-clause-answer : goal.returns-clause-answer
-returns-clause-answer c =
-    (λ _. not_entered _ _ c.self.view_is c.args.k (sym c.contains_key.ensures ∙ c.if-contains_key.false), λ _. refl)
+returns-clause-answer c = IfOk-weaker c.add.result _ _ (λ new is. is_new _ _ c.self.view_is c.args.k new is) c.add.ensures.answer
+
+pub returns-clause-unchanged : goal.returns-clause-unchanged
+returns-clause-unchanged c = on_err_weaker c.add.result (λ same. same ∙ c.self.view_is) c.add.ensures.unchanged

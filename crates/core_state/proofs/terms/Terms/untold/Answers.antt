@@ -6,8 +6,8 @@ use Rattle.core_state.proofs.terms.Terms.untold.Goals as goal
 pub returns-in_err-term : goal.returns-in_err-term
 returns-in_err-term c =
     rw c.from_residual.ensures
-    (none_to_tell _ _ c.self.view_is c.args.k (sym c.get.ensures.value ∙ ap option_copied c.in_err-term.was))
+    (none_to_tell _ _ c.self.view_is c.args.k (sym c.get.ensures ∙ ap option_copied c.in_err-term.was))
 
 pub returns : goal.returns
 returns c =
-    next_known _ _ c.self.view_is c.args.k c.in_ok-term.term.now (sym c.get.ensures.value ∙ ap option_copied c.in_ok-term.was) _ c.next_to_tell.ensures
+    next_known _ _ c.self.view_is c.args.k c.in_ok-term.term.now (sym c.get.ensures ∙ ap option_copied c.in_ok-term.was) _ c.next_to_tell.ensures

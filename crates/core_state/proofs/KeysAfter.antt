@@ -1,0 +1,293 @@
+-- The next key of a map by lines: in a line, in a chunk, and in the whole.
+use Rattle.std.proofs.Common.{◌≡◌, ◌≢◌, ℕ, ◌+◌, ◌-◌, ◌^◌, ◌<◌, ◌≤◌, Bool, cond, true, false, refl, List, [], ◌∷◌, ◌++◌, length, get_or, take, subst, sym, ap, ◌∙◌, arith}
+use Rattle.std.specs.Prelude.{Option, Some, None, IsSome, is_some, ◌⊎◌}
+use Rattle.std.specs.Option.{option_map}
+use mathlib.Core.Logic.{inl, inr}
+use Rattle.std.specs.Ordering.{nat_cmp, eq_by_cmp}
+use Rattle.std.specs.Cmp.{nat_cmp_total, unsigned_tied}
+use Rattle.std.proofs.lemmas.Bool.{eq-eqb}
+use Rattle.std.proofs.lemmas.Option.{same_Some}
+use Rattle.std.specs.List.Sorted.{IsStrictlySortedBy}
+use Rattle.std.specs.FinMap as maps
+use Rattle.std.specs.FinMap.{find}
+use Rattle.std.specs.BTreeMap.{is_at}
+use Rattle.std.specs.Map.{lookup, keys_of}
+use Rattle.std.proofs.lemmas.List.{take_more, take_all, get_or_default}
+use Rattle.cfg_model.proofs.Builder.MapFacts.{same_or_other}
+use Rattle.core_state.specs.Joined.{joined}
+use Rattle.core_state.specs.Least.{IsLeast, IsAbove}
+use Rattle.core_state.specs.inner.Walk.{lesser_of}
+use Rattle.core_state.specs.inner.Grouped.{chunk_of, page_of, chunk_entries, AreChunks, AreLines, AreTogether, IsKeyAbove, IsInChunk, IsNextInChunk, IsNextInPage}
+use Rattle.core_state.proofs.SeenSet.{is_equal}
+use Rattle.core_state.proofs.Shards.{or_else, find_append}
+use Rattle.core_state.proofs.LinesJoined.{read_joined}
+use Rattle.core_state.proofs.ChunksJoined.{at_chunk, read_chunks, in_its_chunk}
+use Rattle.core_state.proofs.Walks.{least_as, least_either}
+
+tied_same : (k : ℕ) → eq_by_cmp nat_cmp k k ≡ true
+tied_same k = unsigned_tied k k ∙ eq-eqb k k refl
+
+-- the keys of a row's front, with one more
+module _ {X : Type 0} (es : List (ℕ × X)) (n : ℕ) (e : ℕ × X) (below : n < length es) (is : e ≡ get_or es n e) (a : Option ℕ) where
+  abbrev Among : List (ℕ × X) → ℕ → Type 0
+  Among fs k = IsSome (find nat_cmp k fs) × IsAbove a k
+
+  one_more : (k : ℕ) → find nat_cmp k (take (n + 1) es) ≡ or_else (find nat_cmp k (take n es)) (cond (eq_by_cmp nat_cmp k e.0) (Some e.1) None)
+  one_more k = ap (find nat_cmp k) (take_more es n e below ∙ ap (λ f. take n es ++ f ∷ []) (sym is)) ∙ find_append k (take n es) (e ∷ [])
+
+  some_in : (o : Option X) (b : Bool) → IsSome o → IsSome (or_else o (cond b (Some e.1) None))
+  some_in None b has = cc has
+  some_in (Some x) b has = refl
+
+  was_in : (o : Option X) (k : ℕ) (b : Bool) → eq_by_cmp nat_cmp k e.0 ≡ b → IsSome (or_else o (cond b (Some e.1) None)) → IsSome o ⊎ (k ≡ e.0)
+  was_in (Some x) k b same has = inl refl
+  was_in None k true same has = inr (maps.nat_cmp-IsAntisymmetric k e.0 (is_equal (nat_cmp k e.0) same))
+  was_in None k false same has = cc has
+
+  stays : (k : ℕ) → Among (take n es) k → Among (take (n + 1) es) k
+  stays k h = (ap is_some (one_more k) ∙ some_in (find nat_cmp k (take n es)) (eq_by_cmp nat_cmp k e.0) h.0, h.1)
+
+  splits : (k : ℕ) → Among (take (n + 1) es) k → Among (take n es) k ⊎ ((k ≡ e.0) × IsAbove a k)
+  splits k h = split (was_in (find nat_cmp k (take n es)) k (eq_by_cmp nat_cmp k e.0) refl (sym (ap is_some (one_more k)) ∙ h.0))
+    where
+      split : IsSome (find nat_cmp k (take n es)) ⊎ (k ≡ e.0) → Among (take n es) k ⊎ ((k ≡ e.0) × IsAbove a k)
+      split (inl has) = inl (has, h.1)
+      split (inr same) = inr (same, h.1)
+
+  itself : IsSome (find nat_cmp e.0 (take (n + 1) es))
+  itself = ap is_some (one_more e.0) ∙ last (find nat_cmp e.0 (take n es))
+    where
+      last : (o : Option X) → IsSome (or_else o (cond (eq_by_cmp nat_cmp e.0 e.0) (Some e.1) None))
+      last None = ap (λ b. is_some (cond b (Some e.1) None)) (tied_same e.0)
+      last (Some x) = refl
+
+  pub with_above : IsAbove a e.0 → (least : Option ℕ) → IsLeast (Among (take n es)) least → IsLeast (Among (take (n + 1) es)) (lesser_of least (Some e.0))
+  with_above above least is_least =
+      least_as (λ k. Among (take n es) k ⊎ (k ≡ e.0)) (Among (take (n + 1) es)) (lesser_of least (Some e.0))
+      (λ k h. elim h [ inl was ↦ stays k was | inr same ↦ subst (Among (take (n + 1) es)) (sym same) (itself, above) ])
+      (λ k h. elim (splits k h) [ inl was ↦ inl was | inr new ↦ inr new.0 ])
+      (least_either (Among (take n es)) (λ k. k ≡ e.0) least (Some e.0) is_least (refl, λ y same. omega arith))
+
+  pub with_below : ¬ IsAbove a e.0 → (least : Option ℕ) → IsLeast (Among (take n es)) least → IsLeast (Among (take (n + 1) es)) least
+  with_below not_above least is_least =
+      least_as (Among (take n es)) (Among (take (n + 1) es)) least stays
+      (λ k h. elim (splits k h) [ inl was ↦ was | inr new ↦ absurd (not_above (subst (IsAbove a) new.0 new.1)) ]) is_least
+
+pub none_among : {X : Type 0} (es : List (ℕ × X)) (a : Option ℕ) → IsLeast (λ k. IsSome (find nat_cmp k (take 0 es)) × IsAbove a k) None
+none_among es a k h = cc h.0
+
+pub all_among : {X : Type 0} (es : List (ℕ × X)) (n : ℕ) (a least : Option ℕ) → length es ≤ n → IsLeast (λ k. IsSome (find nat_cmp k (take n es)) × IsAbove a k) least
+    → IsLeast (λ k. IsSome (find nat_cmp k es) × IsAbove a k) least
+all_among es n a least all is_least = subst (λ (fs : List (ℕ × _)). IsLeast (λ k. IsSome (find nat_cmp k fs) × IsAbove a k) least) (take_all n es all) is_least
+
+-- a line's pairs, seen as its map
+pub after_line : {X : Type 0} (es : List (ℕ × X)) (m : maps.FinMap nat_cmp X) → maps.from_entries es ≡ m → (a o : Option ℕ) → IsLeast (λ k. IsSome (find nat_cmp k es) × IsAbove a k) o
+    → IsLeast (IsKeyAbove m a) o
+after_line es m seen a o least =
+    let same : (k : ℕ) → is_some (find nat_cmp k es) ≡ maps.contains_key m k = λ k. ap is_some (sym (maps.get-from_entries nat_cmp_total es k) ∙ ap (λ n. maps.get n k) seen) in
+    least_as _ (IsKeyAbove m a) o (λ k h. (sym (same k) ∙ h.0, h.1)) (λ k h. (same k ∙ h.0, h.1)) least
+
+page_small : (x : ℕ) → page_of x < 64
+page_small x = omega arith
+
+ahead : (x y : ℕ) → chunk_of x ≡ chunk_of y → page_of x < page_of y → x ≤ y
+ahead x y same less = omega arith
+
+-- a walk along the lines of a chunk
+module _ {X : Type 0} (ms : List (maps.FinMap nat_cmp X)) (are : AreLines ms) (m : maps.FinMap nat_cmp X) (seen : joined ms ≡ m) (a : Option ℕ) where
+  abbrev pub AreAhead : ℕ → Type 0
+  AreAhead j = (x : ℕ) → IsKeyAbove m a x → j ≤ page_of x
+
+  in_line : (x : ℕ) → maps.get m x ≡ maps.get (get_or ms (page_of x) maps.empty) x
+  in_line x = sym (ap (λ n. maps.get n x) seen) ∙ read_joined ms are x
+
+  module _ (j : ℕ) (line : maps.FinMap nat_cmp X) (below : j < 64) (here : line ≡ get_or ms j line) where
+    line_is : line ≡ get_or ms j maps.empty
+    line_is = let count = are.count in here ∙ get_or_default ms j line maps.empty (within (length ms) count)
+      where
+        within : (n : ℕ) → n ≡ 64 → j < n
+        within n count = omega arith
+
+    to_line : (x : ℕ) → page_of x ≡ j → IsSome (maps.get m x) → IsSome (maps.get line x)
+    to_line x page has =
+        ap (λ n. is_some (maps.get n x)) line_is ∙ sym (ap (λ i. is_some (maps.get (get_or ms i maps.empty) x)) page) ∙ sym (ap is_some (in_line x)) ∙ has
+
+    page_is : (x : ℕ) → IsSome (maps.get line x) → page_of x ≡ j
+    page_is x has = are.own j x (ap (λ n. is_some (maps.get n x)) (sym line_is) ∙ has)
+
+    from_line : (x : ℕ) → IsSome (maps.get line x) → IsSome (maps.get m x)
+    from_line x has =
+        ap is_some (in_line x) ∙ ap (λ i. is_some (maps.get (get_or ms i maps.empty) x)) (page_is x has) ∙ ap (λ n. is_some (maps.get n x)) (sym line_is) ∙ has
+
+    pub found_in_line : AreTogether m → AreAhead j → (k : ℕ) → IsLeast (IsKeyAbove line a) (Some k) → IsLeast (IsKeyAbove m a) (Some k)
+    found_in_line together ahead_of k least = ((from_line k least.0.0, least.0.1), λ y h. by y h (same_or_other (page_of y) j))
+      where
+        by : (y : ℕ) → IsKeyAbove m a y → (page_of y ≡ j) ⊎ (page_of y ≢ j) → k ≤ y
+        by y h (inl page) = least.1 y (to_line y page h.0, h.1)
+        by y h (inr other) = ahead k y (together k y (from_line k least.0.0) h.0) (less (page_of k) (page_of y) j (page_is k least.0.0) (ahead_of y h) other)
+          where
+            less : (p q j : ℕ) → p ≡ j → j ≤ q → q ≢ j → p < q
+            less p q j same from other = omega arith
+
+    pub next_in_line : (b : ℕ) → j ≡ page_of b → (o : Option ℕ) → IsLeast (IsKeyAbove line (Some b)) o → IsLeast (λ k. IsKeyAbove m (Some b) k × (page_of k ≡ page_of b)) o
+    next_in_line b place o least =
+        least_as (IsKeyAbove line (Some b)) (λ k. IsKeyAbove m (Some b) k × (page_of k ≡ page_of b)) o
+        (λ k h. ((from_line k h.0, h.1), page_is k h.0 ∙ place)) (λ k h. (to_line k (h.1 ∙ sym place) h.0.0, h.0.1)) least
+
+    pub past_line : AreAhead j → IsLeast (IsKeyAbove line a) None → AreAhead (j + 1)
+    past_line ahead_of none x h = next (page_of x) j (ahead_of x h) (λ page. none x (to_line x page h.0, h.1))
+      where
+        next : (q j : ℕ) → j ≤ q → q ≢ j → j + 1 ≤ q
+        next q j from other = omega arith
+
+  pub past_all : (j : ℕ) → 64 ≤ j → AreAhead j → IsLeast (IsKeyAbove m a) None
+  past_all j all ahead_of x h = let from = ahead_of x h in let small = page_small x in outside (page_of x) j all from small
+    where
+      outside : (q j : ℕ) → 64 ≤ j → j ≤ q → q < 64 → ⊥
+      outside q j all from small = omega arith
+
+chunk_rises : (a x : ℕ) → a < x → chunk_of a ≤ chunk_of x
+chunk_rises a x above = omega arith
+
+chunk_before : (x y : ℕ) → chunk_of x < chunk_of y → x < y
+chunk_before x y less = omega arith
+
+pub page_rises : (a x : ℕ) → chunk_of x ≡ chunk_of a → a < x → page_of a ≤ page_of x
+page_rises a x same above = omega arith
+
+-- a walk along the chunks: where it is, all keys that are asked for lie at or behind that chunk
+abbrev pub Reaches : Option ℕ → ℕ → Type 0
+Reaches None c = ⊥
+Reaches (Some n) c = n ≤ c
+
+pub record IsAt {X : Type 0} (m : maps.FinMap nat_cmp X) (a next : Option ℕ) : Type 0 where
+  pub reach : (x : ℕ) → IsKeyAbove m a x → Reaches next (chunk_of x)
+  pub beyond : (n : ℕ) → next ≡ Some n → IsAbove (option_map chunk_of a) n
+
+-- the least key, where the walk found one
+module _ {X : Type 0} (m : maps.FinMap nat_cmp X) where
+  pub found_here : (a : Option ℕ) (o : Option ℕ) → IsLeast (IsNextInChunk m a) o → IsSome o → IsLeast (IsKeyAbove m a) o
+  found_here a None least has = cc has
+  found_here None (Some k) least has = absurd least.0
+  found_here (Some a) (Some k) least has = ((least.0.0, least.0.2), λ y h. by y h (same_or_other (chunk_of y) (chunk_of a)))
+    where
+      by : (y : ℕ) → IsKeyAbove m (Some a) y → (chunk_of y ≡ chunk_of a) ⊎ (chunk_of y ≢ chunk_of a) → k ≤ y
+      by y h (inl same) = least.1 y (h.0, same, h.1)
+      by y h (inr other) =
+          let rises = chunk_rises a y h.1 in let before = chunk_before k y (less (chunk_of k) (chunk_of y) (chunk_of a) least.0.1 rises other) in omega (arith, before)
+        where
+          less : (p q c : ℕ) → p ≡ c → c ≤ q → q ≢ c → p < q
+          less p q c same from other = omega arith
+
+  beyond_a : (a : Option ℕ) (n k : ℕ) → IsAbove (option_map chunk_of a) n → chunk_of k ≡ n → IsAbove a k
+  beyond_a None n k above same = tt
+  beyond_a (Some a) n k above same = chunk_before a k (subst (λ c. chunk_of a < c) (sym same) above)
+
+  pub found_first : (a : Option ℕ) (n : ℕ) → IsAt m a (Some n) → (o : Option ℕ) → IsLeast (IsInChunk m n) o → IsSome o → IsLeast (IsKeyAbove m a) o
+  found_first a n at None least has = cc has
+  found_first a n at (Some k) least has = ((least.0.0, beyond_a a n k (at.beyond n refl) least.0.1), λ y h. by y h (same_or_other (chunk_of y) n))
+    where
+      by : (y : ℕ) → IsKeyAbove m a y → (chunk_of y ≡ n) ⊎ (chunk_of y ≢ n) → k ≤ y
+      by y h (inl same) = least.1 y (h.0, same)
+      by y h (inr other) =
+          let from = at.reach y h in let before = chunk_before k y (less (chunk_of k) (chunk_of y) n least.0.1 from other) in omega (arith, before)
+        where
+          less : (p q c : ℕ) → p ≡ c → c ≤ q → q ≢ c → p < q
+          less p q c same from other = omega arith
+
+-- the chunks of a map, and the map
+module _ {X : Type 0} (es : List (ℕ × maps.FinMap nat_cmp X)) (m : maps.FinMap nat_cmp X) (seen : maps.from_entries (chunk_entries es) ≡ m) (ordered : IsStrictlySortedBy nat_cmp (keys_of es)) (own : AreChunks es) where
+  pub chunk_known : (x : ℕ) → IsSome (maps.get m x) → IsSome (lookup (is_at (nat_cmp (chunk_of x))) es)
+  chunk_known x has = by (lookup (is_at (nat_cmp (chunk_of x))) es) (ap is_some (sym (read_chunks es m seen ordered own x)) ∙ has)
+    where
+      by : (o : Option (maps.FinMap nat_cmp X)) → IsSome (at_chunk o x) → IsSome o
+      by None has = cc has
+      by (Some chunk) has = refl
+
+  module _ (n : ℕ) (chunk : maps.FinMap nat_cmp X) (had : lookup (is_at (nat_cmp n)) es ≡ Some chunk) where
+    pub together : AreTogether chunk
+    together x y hx hy = own n chunk had x hx ∙ sym (own n chunk had y hy)
+
+    pub number_is : (x : ℕ) → IsSome (maps.get chunk x) → chunk_of x ≡ n
+    number_is x has = own n chunk had x has
+
+    to_chunk : (x : ℕ) → chunk_of x ≡ n → IsSome (maps.get m x) → IsSome (maps.get chunk x)
+    to_chunk x number has = sym (ap is_some (in_its_chunk es m seen ordered own x n (sym number) (Some chunk) had)) ∙ has
+
+    from_chunk : (x : ℕ) → IsSome (maps.get chunk x) → IsSome (maps.get m x)
+    from_chunk x has = ap is_some (in_its_chunk es m seen ordered own x n (sym (number_is x has)) (Some chunk) had) ∙ has
+
+    pub next_in_chunk : (a : ℕ) → n ≡ chunk_of a → (o : Option ℕ) → IsLeast (IsKeyAbove chunk (Some a)) o → IsLeast (IsNextInChunk m (Some a)) o
+    next_in_chunk a home o least =
+        least_as (IsKeyAbove chunk (Some a)) (IsNextInChunk m (Some a)) o
+        (λ x h. (from_chunk x h.0, number_is x h.0 ∙ home, h.1)) (λ x h. (to_chunk x (h.1 ∙ sym home) h.0, h.2)) least
+
+    pub next_in_page : (a : ℕ) → n ≡ chunk_of a → (o : Option ℕ) → IsLeast (λ k. IsKeyAbove chunk (Some a) k × (page_of k ≡ page_of a)) o → IsLeast (IsNextInPage m a) o
+    next_in_page a home o least =
+        least_as (λ k. IsKeyAbove chunk (Some a) k × (page_of k ≡ page_of a)) (IsNextInPage m a) o
+        (λ x h. (from_chunk x h.0.0, h.0.1, number_is x h.0.0 ∙ home, h.1)) (λ x h. ((to_chunk x (h.2 ∙ sym home) h.0, h.1), h.3)) least
+
+    pub first_in_chunk : (o : Option ℕ) → IsLeast (IsKeyAbove chunk None) o → IsLeast (IsInChunk m n) o
+    first_in_chunk o least =
+        least_as (IsKeyAbove chunk None) (IsInChunk m n) o (λ x h. (from_chunk x h.0, number_is x h.0)) (λ x h. (to_chunk x h.1 h.0, tt)) least
+
+  module _ (n : ℕ) (none : lookup (is_at (nat_cmp n)) es ≡ None) where
+    nowhere : (x : ℕ) → chunk_of x ≡ n → IsSome (maps.get m x) → ⊥
+    nowhere x number has = cc (sym (ap is_some (ap (λ j. lookup (is_at (nat_cmp j)) es) number ∙ none)) ∙ chunk_known x has)
+
+    pub no_next : (a : ℕ) → n ≡ chunk_of a → IsLeast (IsNextInChunk m (Some a)) None
+    no_next a home x h = nowhere x (h.1 ∙ sym home) h.0
+
+    pub no_next_in_page : (a : ℕ) → n ≡ chunk_of a → IsLeast (IsNextInPage m a) None
+    no_next_in_page a home x h = nowhere x (h.2 ∙ sym home) h.0
+
+    pub no_first : IsLeast (IsInChunk m n) None
+    no_first x h = nowhere x h.1 h.0
+
+  abbrev pub IsNextChunk : Option ℕ → Option ℕ → Type 0
+  IsNextChunk c next = IsLeast (λ n. IsSome (lookup (is_at (nat_cmp n)) es) × IsAbove c n) next
+
+  reached : (c next : Option ℕ) → IsNextChunk c next → (x : ℕ) → IsSome (maps.get m x) → IsAbove c (chunk_of x) → Reaches next (chunk_of x)
+  reached c None least x has above = least (chunk_of x) (chunk_known x has, above)
+  reached c (Some n) least x has above = least.1 (chunk_of x) (chunk_known x has, above)
+
+  pub is_beyond : (c next : Option ℕ) → IsNextChunk c next → (n : ℕ) → next ≡ Some n → IsAbove c n
+  is_beyond c None least n e = cc e
+  is_beyond c (Some x) least n e = subst (IsAbove c) (same_Some x n e) least.0.1
+
+  pub walk_on : (a here next : Option ℕ) → IsLeast (IsNextInChunk m a) here → is_some here ≡ false → IsNextChunk (option_map chunk_of a) next → IsAt m a next
+  walk_on a (Some k) next none e least = cc e
+  walk_on None None next none e least = record { reach = λ x h. reached None next least x h.0 tt; beyond = is_beyond None next least }
+  walk_on (Some a) None next none e least = record {
+    reach = λ x h. reached (Some (chunk_of a)) next least x h.0 (higher (chunk_of a) (chunk_of x) (chunk_rises a x h.1) (λ same. none x (h.0, same, h.1)));
+    beyond = is_beyond (Some (chunk_of a)) next least;
+  }
+    where
+      higher : (p q : ℕ) → p ≤ q → q ≢ p → p < q
+      higher p q from other = omega arith
+
+  pub walk_next : (a : Option ℕ) (n : ℕ) → IsAt m a (Some n) → (o : Option ℕ) → IsLeast (IsInChunk m n) o → is_some o ≡ false → (next : Option ℕ) → IsNextChunk (Some n) next → IsAt m a next
+  walk_next a n at (Some k) least e next is_next = cc e
+  walk_next a n at None none e next is_next = record {
+    reach = λ x h. reached (Some n) next is_next x h.0 (higher n (chunk_of x) (at.reach x h) (λ same. none x (h.0, same)));
+    beyond = λ k is. farther a n k (at.beyond n refl) (is_beyond (Some n) next is_next k is);
+  }
+    where
+      higher : (p q : ℕ) → p ≤ q → q ≢ p → p < q
+      higher p q from other = omega arith
+
+      farther : (a : Option ℕ) (n k : ℕ) → IsAbove (option_map chunk_of a) n → n < k → IsAbove (option_map chunk_of a) k
+      farther None n k above less = tt
+      farther (Some a) n k above less = omega arith
+
+  pub walk_end : (a : Option ℕ) → IsAt m a None → IsLeast (IsKeyAbove m a) None
+  walk_end a at x h = at.reach x h
+
+-- how many numbers lie at or behind the next one
+abbrev pub numbers_left : Option ℕ → ℕ
+numbers_left None = 0
+numbers_left (Some n) = 2 ^ 64 - n
+
+pub fewer_left : (n : ℕ) (next : Option ℕ) → n < 2 ^ 64 → ((k : ℕ) → next ≡ Some k → n < k) → numbers_left next < numbers_left (Some n)
+fewer_left n None fits above = omega arith
+fewer_left n (Some k) fits above = let less = above k refl in omega arith

@@ -1,0 +1,18 @@
+use Rattle.std.proofs.Common.{sym, ap, subst, ◌≡◌, ◌∙◌}
+use Rattle.std.proofs.Common.{false}
+use Rattle.std.specs.Prelude.{Some}
+use Rattle.std.specs.FinMap.{find}
+use Rattle.cfg_model.specs.Builder.Waiter.{waiter_cmp}
+use Rattle.core_state.specs.Least.{IsLeastBy}
+use Rattle.core_state.specs.inner.Waiting.{AwaitsTelling, lesser_by}
+use Rattle.core_state.proofs.WaitersKept.{Row, least_of_all, slice_is}
+use Rattle.core_state.proofs.waiters.Waiters.next_untold.Goals as goal
+
+pub returns : goal.returns
+returns c =
+    subst (λ o. IsLeastBy waiter_cmp (AwaitsTelling c.args.self.now) o) (sym (c.lesser-2.ensures ∙ ap (λ o. lesser_by waiter_cmp o c.next_untold.result) c.lesser.ensures))
+    (least_of_all c.self.inside.first c.self.inside.few.items c.self.inside.crowd c.args.self.now c.self.view_is c.self.invariant.0 c.self.invariant.1
+    c.untold_among-first.result c.untold_among-few.result c.next_untold.result
+    (subst (λ (row : Row). IsLeastBy waiter_cmp (λ w. find waiter_cmp w row ≡ Some false) c.untold_among-first.result) (slice_is c.self.inside.first c.as_slice.result.now c.as_slice.ensures) c.untold_among-first.ensures)
+    (subst (λ (row : Row). IsLeastBy waiter_cmp (λ w. find waiter_cmp w row ≡ Some false) c.untold_among-few.result) c.as_slice-2.ensures.value c.untold_among-few.ensures)
+    c.next_untold.ensures)

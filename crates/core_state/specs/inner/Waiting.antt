@@ -1,0 +1,39 @@
+-- How waiters are kept: one in place, a few in a row, and the others in order.
+use Rattle.std.specs.Prelude.{◌≡◌, Bool, true, false, List, ◌∷◌, Option}
+use Rattle.std.specs.Prelude.{Some, None, IsSome, if◌then◌else◌}
+use Rattle.std.specs.declared.cmp.Ordering.{Ordering}
+use Rattle.std.specs.Ordering.{is_gt}
+use Rattle.std.specs.FinMap as maps
+use Rattle.std.specs.FinMap.{find}
+use Rattle.cfg_model.specs.declared.state.Waiter.{Waiter}
+use Rattle.cfg_model.specs.Builder.Waiter.{waiter_cmp}
+
+-- The waiters, true for one that was told.
+abbrev pub WaiterMap : Type 0
+WaiterMap = maps.FinMap waiter_cmp Bool
+
+-- The pair in place, if there is one, and behind it those in the row.
+abbrev pub front : {A : Type 0} → Option A → List A → List A
+front None es = es
+front (Some e) es = e ∷ es
+
+-- No waiter of these pairs is in the crowd.
+abbrev pub AreAway : List (Waiter × Bool) → WaiterMap → Type 0
+AreAway pairs crowd = (w : Waiter) → IsSome (find waiter_cmp w pairs) → maps.get crowd w ≡ None
+
+-- The waiters with w among them, untold if it is new; with w told, where it waits.
+abbrev pub with_waiter : WaiterMap → Waiter → WaiterMap
+with_waiter waiters w = if maps.contains_key waiters w then waiters else maps.insert waiters w false
+
+abbrev pub with_told : WaiterMap → Waiter → WaiterMap
+with_told waiters w = if maps.contains_key waiters w then maps.insert waiters w true else waiters
+
+-- w waits and was not told.
+abbrev pub AwaitsTelling : WaiterMap → Waiter → Type 0
+AwaitsTelling waiters w = maps.get waiters w ≡ Some false
+
+-- The lesser of two things in an order, either of which may be none.
+abbrev pub lesser_by : {K : Type 0} → (K → K → Ordering) → Option K → Option K → Option K
+lesser_by cmp None w = w
+lesser_by cmp (Some v) None = Some v
+lesser_by cmp (Some v) (Some w) = if is_gt (cmp v w) then Some w else Some v

@@ -1,0 +1,18 @@
+use Rattle.std.proofs.lemmas.Option.{MatchOption-at_some}
+use Rattle.work_ops.specs.inner.Walking.{IsBeforeStart}
+use Rattle.work_ops.proofs.Stops.{stop_there, stop_last}
+use Rattle.work_ops.proofs.walk.stop_of.Goals as goal
+
+pub returns-in-Some-clause-stop : goal.returns-in-Some-clause-stop
+returns-in-Some-clause-stop g c =
+    stop_there g.J.Job.map _ c.args.s c.min-short.result c.args.k c.in-Some.at c.requires.ends
+    (MatchOption-at_some _ (IsBeforeStart g.J.Job.map (g.P.Place.knows c.before_start.new.place) c.args.s c.min-short.result) c.in-Some.at c.in-Some.is c.in_ok-at.ensures.found)
+
+pub returns-then-short-k-clause-stop : goal.returns-then-short-k-clause-stop
+returns-then-short-k-clause-stop g c = stop_last g.J.Job.map _ c.args.s c.args.k c.requires.ends
+
+pub returns-in_default-2-clause-stop : goal.returns-in_default-2-clause-stop
+returns-in_default-2-clause-stop g c = stop_last g.J.Job.map _ c.args.s c.args.k c.requires.ends
+
+pub returns-in_default-2-2-clause-stop : goal.returns-in_default-2-2-clause-stop
+returns-in_default-2-2-clause-stop g c = stop_last g.J.Job.map _ c.args.s c.args.k c.requires.ends
