@@ -1,6 +1,7 @@
 -- The laws of shares.
 use Rattle.std.specs.Prelude.{◌≡◌, ◌≢◌, ℕ, List, [], ◌∷◌, ◌++◌, Some, slice_get, slice_set}
-use Rattle.shares.specs.Share.{Share, whole, nothing, half, both, IsWhole, IsSpent, IsAboveZero, IsSame, AddUpToOne}
+use Rattle.shares.specs.Share.{Share, whole, nothing, half, both, IsWhole, IsSpent, IsAboveZero}
+use Rattle.shares.specs.Share.{IsSame, AddUpToOne}
 
 -- The first seat alone has all.
 abbrev pub WholeAddsUp : Type 0

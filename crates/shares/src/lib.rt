@@ -1,11 +1,14 @@
-//! A share of one whole: what a seat at a table that threads share keeps, so that a proof can tell whether
-//! it is the only seat. The first seat has the whole; a seat that is split gives half of its share away, and
-//! one that is joined with another has both shares. No value of a share is made: contracts alone see it.
+//! A share of one whole: what a seat at a table that threads share keeps, so that a proof can tell
+//! whether it is the only seat. The first seat has the whole; a seat that is split gives half of
+//! its share away, and one that is joined with another has both shares. No value of a share is
+//! made: contracts alone see it.
 //!
 //! The laws of shares are the contracts of functions that do nothing.
 #![tactic(auto)]
 
-ghost use Rattle.shares.specs.ShareLaws.{WholeAddsUp, SplitAddsUp, JoinAddsUp, WholeLeavesNothing, HalvesAreAll, SameIsEquivalence, SameKeepsWhole, SameKeepsBoth, SplitIsAboveZero, JoinIsAboveZero};
+ghost use Rattle.shares.specs.ShareLaws.{WholeAddsUp, SplitAddsUp, JoinAddsUp, WholeLeavesNothing};
+ghost use Rattle.shares.specs.ShareLaws.{HalvesAreAll, SameIsEquivalence, SameKeepsWhole};
+ghost use Rattle.shares.specs.ShareLaws.{SameKeepsBoth, SplitIsAboveZero, JoinIsAboveZero};
 
 /// The whole share alone adds up to one.
 pub fn the_whole_adds_up()
@@ -17,8 +20,8 @@ pub fn a_split_adds_up()
     ensures { SplitAddsUp }
 {}
 
-/// Shares that add up to one still do after two of them are joined, and nothing stays in the place of the
-/// second.
+/// Shares that add up to one still do after two of them are joined, and nothing stays in the place
+/// of the second.
 pub fn a_join_adds_up()
     ensures { JoinAddsUp }
 {}
@@ -33,8 +36,9 @@ pub fn halves_are_all_of_it()
     ensures { HalvesAreAll }
 {}
 
-/// Shares of the same part of the whole: each share is one with itself, in both directions, and by way of a
-/// third; one of them is whole where the other is; and what is joined to either comes to the same.
+/// Shares of the same part of the whole: each share is one with itself, in both directions, and by
+/// way of a third; one of them is whole where the other is; and what is joined to either comes to
+/// the same.
 pub fn shares_may_be_written_otherwise()
     ensures equivalence { SameIsEquivalence }
     ensures whole { SameKeepsWhole }

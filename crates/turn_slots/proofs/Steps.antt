@@ -36,7 +36,7 @@ module _ {V : Type 0} (fits : ℕ → V → Type 0) (slots n id i : ℕ) (v : Vi
         (λ (x : one.id ≢ id). kept.spent i one.id one.view one.there (others_are_spent (λ u. u.share) s.views id one.id v one.view at one.there x kept.shares all) one.holds)
         (cases_eq one.id id)
 
-    won : v.out ≡ None → length v.holds ≡ slots → IsAboveZero v.share → slice_index s.words (turn_word i) ≡ 0
+    pub won : v.out ≡ None → length v.holds ≡ slots → IsAboveZero v.share → slice_index s.words (turn_word i) ≡ 0
         → IsKept fits slots record { words = slice_set s.words (turn_word i) 1; homes = slice_set s.homes i none; views = slice_set s.views id (with_turn v i) }
     won out long above zero_now =
         kept_of fits slots _
@@ -52,14 +52,14 @@ module _ {V : Type 0} (fits : ℕ → V → Type 0) (slots n id i : ℕ) (v : Vi
         })
         (shares_stay (with_turn v i) refl)
 
-    lost : IsAboveZero v.share → IsKept fits slots record { words = s.words; homes = s.homes; views = slice_set s.views id (with_try v i) }
+    pub lost : IsAboveZero v.share → IsKept fits slots record { words = s.words; homes = s.homes; views = slice_set s.views id (with_try v i) }
     lost above =
         kept_of fits slots _
         (noted fits slots s (sound_of fits slots s kept) id v at (with_try v i) (λ j. refl) refl (λ none_left. absurd (omega (arith, above, none_left))))
         (shares_stay (with_try v i) refl)
 
     -- the seat's slot comes and goes, while its turn stands taken
-    moved : (w : View) (homes : List (maybe.Option (Option V))) → HasTurn v i → w.holds ≡ v.holds → w.share ≡ v.share → IsAboveZero v.share
+    pub moved : (w : View) (homes : List (maybe.Option (Option V))) → HasTurn v i → w.holds ≡ v.holds → w.share ≡ v.share → IsAboveZero v.share
         → ((j : ℕ) → j ≢ i → w.out ≢ Some j → v.out ≢ Some j)
         → ((j : ℕ) → j ≢ i → get_elem? homes j ≡ get_elem? s.homes j)
         → (w.out ≢ Some i → get_elem? homes i ≡ some (some None))
@@ -80,7 +80,7 @@ module _ {V : Type 0} (fits : ℕ → V → Type 0) (slots n id i : ℕ) (v : Vi
         })
         (shares_stay w share)
 
-    given : (x : V) → fits i x → HasTurn v i → v.out ≡ Some i → length v.holds ≡ slots → IsAboveZero v.share → i < length s.homes
+    pub given : (x : V) → fits i x → HasTurn v i → v.out ≡ Some i → length v.holds ≡ slots → IsAboveZero v.share → i < length s.homes
         → IsKept fits slots record { words = slice_set s.words (turn_word i) 0; homes = slice_set s.homes i (some (Some x)); views = slice_set s.views id (record v { holds = slice_set v.holds i false; out = None }) }
     given x ok mine out long above wide =
         let sound = sound_of fits slots s kept in

@@ -1,6 +1,7 @@
 -- The rule of the slots: what holds between any two steps, of the words, of the values at home and
 -- of what each seat knows.
-use Rattle.std.specs.Prelude.{◌≡◌, ◌≢◌, ℕ, ◌+◌, ◌*◌, ◌<◌, false, IsTrue, List, map, length, slice_index, slice_index_or, replicate, Option, Some, None}
+use Rattle.std.specs.Prelude.{◌≡◌, ◌≢◌, ℕ, ◌+◌, ◌*◌, ◌<◌, false, IsTrue, List, map, length}
+use Rattle.std.specs.Prelude.{slice_index, slice_index_or, replicate, Option, Some, None}
 use mathlib.Core.Option.{some}
 use lib.ListN.{get_elem?}
 use Rattle.atomic_table.specs.Table.{State}

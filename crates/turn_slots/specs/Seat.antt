@@ -1,5 +1,6 @@
 -- What contracts see of a seat, and how a call changes it.
-use Rattle.std.specs.Prelude.{◌≡◌, ℕ, ◌+◌, Bool, true, false, IsTrue, List, Some, slice_get, slice_set, slice_index, slice_index_or, replicate}
+use Rattle.std.specs.Prelude.{◌≡◌, ℕ, ◌+◌, Bool, true, false, IsTrue, List, Some, slice_get}
+use Rattle.std.specs.Prelude.{slice_set, slice_index, slice_index_or, replicate}
 use Rattle.atomic_table.specs.Seated.{table_id_coded}
 use Rattle.shares.specs.Share.{Share, share_coded}
 use Rattle.turn_slots.specs.TurnsId.{TurnsId}
@@ -51,7 +52,8 @@ AllFit {V} fits values = (i : ℕ) (v : V) → slice_get values i ≡ Some v →
 -- How a proof stores what contracts see of a seat.
 abbrev pub seat_state_coded : Coded SeatState
 seat_state_coded = coded_via
-    (coded× table_id_coded (coded× share_coded (coded× (coded_list coded_ℕ) (coded_list coded_bool))))
+    (coded× table_id_coded
+    (coded× share_coded (coded× (coded_list coded_ℕ) (coded_list coded_bool))))
     (λ (s : SeatState). (s.turns, (s.share, (s.lost, s.holds))))
     (λ x y e i. record {
       turns = (e i).0;

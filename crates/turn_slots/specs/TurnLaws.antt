@@ -6,7 +6,8 @@ use Rattle.atomic_table.specs.Table.{State}
 use Rattle.shares.specs.Share.{Share, AddUpToOne, IsSpent}
 use Rattle.turn_slots.specs.declared.view.View.{View}
 use Rattle.turn_slots.specs.TurnsId.{TurnsId, turn_word}
-use Rattle.turn_slots.specs.Seat.{SeatState, Holds, HoldsNothing, fresh_seat, with_slot, without_slot}
+use Rattle.turn_slots.specs.Seat.{SeatState, Holds, HoldsNothing, fresh_seat, with_slot}
+use Rattle.turn_slots.specs.Seat.{without_slot}
 use Rattle.turn_slots.specs.Rule.{IsKept, HasTurn, HasOneHolder}
 
 module _ {V : Type 0} (fits : ℕ → V → Type 0) where
@@ -35,7 +36,8 @@ module _ {V : Type 0} (fits : ℕ → V → Type 0) where
 
   abbrev pub SpentHoldsNothing : Type 0
   SpentHoldsNothing = (slots : ℕ) (s : State (Option V) View) → IsKept fits slots s
-      → (id : ℕ) (v : View) → get_elem? s.views id ≡ some v → IsSpent v.share → (i : ℕ) → ¬ HasTurn v i
+      → (id : ℕ) (v : View) → get_elem? s.views id ≡ some v → IsSpent v.share → (i : ℕ)
+      → ¬ HasTurn v i
 
 -- A new seat holds nothing.
 abbrev pub FreshHoldsNothing : Type 0

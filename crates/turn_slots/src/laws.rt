@@ -1,6 +1,8 @@
 //! What holds between any two steps, whatever the threads do, and what a take and a give change.
 //! Each law is the contract of a function that does nothing.
-ghost use Rattle.turn_slots.specs.TurnLaws.{TakenIsHeldByOne, FreeHasItsValue, HeldOnce, SharesAddUp, SpentHoldsNothing, FreshHoldsNothing, TakeAddsOneSlot, GiveTakesOneSlot, GiveUndoesTake};
+ghost use Rattle.turn_slots.specs.TurnLaws.{TakenIsHeldByOne, FreeHasItsValue, HeldOnce};
+ghost use Rattle.turn_slots.specs.TurnLaws.{SharesAddUp, SpentHoldsNothing, FreshHoldsNothing};
+ghost use Rattle.turn_slots.specs.TurnLaws.{TakeAddsOneSlot, GiveTakesOneSlot, GiveUndoesTake};
 
 use crate::rule::Fits;
 

@@ -4,7 +4,8 @@
 //!
 //! - [`Fits`]: what holds of the value of each slot, at every moment.
 //! - [`Turns`]: the slots with their turn words, which threads share by reference.
-//! - [`TurnSeat`]: what one thread takes turns with, and gives them back. A seat may be split for another
+//! - [`TurnSeat`]: what one thread takes turns with, and gives them back. A seat may be split for
+//!   another
 //!   thread and joined again; the only seat closes the slots.
 //! - [`Hold`]: the value of one slot, out with a seat.
 //! - [`laws`]: what holds between any two steps, whatever the threads do.

@@ -1,5 +1,6 @@
 //! The slots and their turn words.
-ghost use Rattle.std.specs.Prelude.{◌≡◌, ◌≤◌, ◌*◌, ◌+◌, vec_len, vec_capacity, [], IfOk, map, replicate, Some};
+ghost use Rattle.std.specs.Prelude.{◌≡◌, ◌≤◌, ◌*◌, ◌+◌, vec_len, vec_capacity, [], IfOk, map};
+ghost use Rattle.std.specs.Prelude.{replicate, Some};
 ghost use Rattle.shares.specs.Share.{whole, IsWhole};
 ghost use Rattle.turn_slots.specs.Inner.Closing.{IsAllThere};
 ghost use Rattle.turn_slots.specs.Seat.{AllFit, HoldsNothing, fresh_seat};

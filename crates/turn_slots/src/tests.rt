@@ -144,12 +144,16 @@ fn stir_in_two<R: Threads + Sync>(rt: &R, turns: &Slots, seat: Seat, first: u32)
     let (left, right) = thread::join(
         rt,
         move || -> Seat
-            requires { (left.turns ≡ turns.now) × (turns.now.slots ≡ 8) × (first < 4) × HoldsNothing left }
-            ensures { (result.turns ≡ left.turns) × IsSame result.share left.share × (result.holds ≡ left.holds) }
+            requires { (left.turns ≡ turns.now) × (turns.now.slots ≡ 8) × (first < 4)
+                × HoldsNothing left }
+            ensures { (result.turns ≡ left.turns) × IsSame result.share left.share
+                × (result.holds ≡ left.holds) }
         { stir(turns, left, first) },
         move || -> Seat
-            requires { (right.turns ≡ turns.now) × (turns.now.slots ≡ 8) × (first < 4) × HoldsNothing right }
-            ensures { (result.turns ≡ right.turns) × IsSame result.share right.share × (result.holds ≡ right.holds) }
+            requires { (right.turns ≡ turns.now) × (turns.now.slots ≡ 8) × (first < 4)
+                × HoldsNothing right }
+            ensures { (result.turns ≡ right.turns) × IsSame result.share right.share
+                × (result.holds ≡ right.holds) }
         { stir(turns, right, first + 4) },
     );
     left.join(turns, right)
@@ -169,12 +173,16 @@ fn stir_in_four<R: Threads + Sync>(rt: &R, turns: &Slots, seat: Seat, first: u32
     let (left, right) = thread::join(
         rt,
         move || -> Seat
-            requires { (left.turns ≡ turns.now) × (turns.now.slots ≡ 8) × (first < 2) × HoldsNothing left }
-            ensures { (result.turns ≡ left.turns) × IsSame result.share left.share × (result.holds ≡ left.holds) }
+            requires { (left.turns ≡ turns.now) × (turns.now.slots ≡ 8) × (first < 2)
+                × HoldsNothing left }
+            ensures { (result.turns ≡ left.turns) × IsSame result.share left.share
+                × (result.holds ≡ left.holds) }
         { stir_in_two(rt, turns, left, first) },
         move || -> Seat
-            requires { (right.turns ≡ turns.now) × (turns.now.slots ≡ 8) × (first < 2) × HoldsNothing right }
-            ensures { (result.turns ≡ right.turns) × IsSame result.share right.share × (result.holds ≡ right.holds) }
+            requires { (right.turns ≡ turns.now) × (turns.now.slots ≡ 8) × (first < 2)
+                × HoldsNothing right }
+            ensures { (result.turns ≡ right.turns) × IsSame result.share right.share
+                × (result.holds ≡ right.holds) }
         { stir_in_two(rt, turns, right, first + 2) },
     );
     left.join(turns, right)
@@ -194,11 +202,13 @@ fn stir_in_eight<R: Threads + Sync>(rt: &R, turns: &Slots, seat: Seat) -> Seat
         rt,
         move || -> Seat
             requires { (left.turns ≡ turns.now) × (turns.now.slots ≡ 8) × HoldsNothing left }
-            ensures { (result.turns ≡ left.turns) × IsSame result.share left.share × (result.holds ≡ left.holds) }
+            ensures { (result.turns ≡ left.turns) × IsSame result.share left.share
+                × (result.holds ≡ left.holds) }
         { stir_in_four(rt, turns, left, 0) },
         move || -> Seat
             requires { (right.turns ≡ turns.now) × (turns.now.slots ≡ 8) × HoldsNothing right }
-            ensures { (result.turns ≡ right.turns) × IsSame result.share right.share × (result.holds ≡ right.holds) }
+            ensures { (result.turns ≡ right.turns) × IsSame result.share right.share
+                × (result.holds ≡ right.holds) }
         { stir_in_four(rt, turns, right, 1) },
     );
     left.join(turns, right)

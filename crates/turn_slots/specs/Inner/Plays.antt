@@ -1,6 +1,7 @@
 -- What each step on the slots tells the seat that makes it: of the step, the seat before, the
 -- number found and the seat after.
-use Rattle.std.specs.Prelude.{◌≡◌, ℕ, ◌+◌, ◌∷◌, ◌==◌, true, false, MatchBool, [], length, slice_index, slice_set, replicate, Option, Some, None}
+use Rattle.std.specs.Prelude.{◌≡◌, ℕ, ◌+◌, ◌∷◌, ◌==◌, true, false, MatchBool, [], length}
+use Rattle.std.specs.Prelude.{slice_index, slice_set, replicate, Option, Some, None}
 use Rattle.atomic_table.specs.Table.{Me, Step, rest}
 use Rattle.shares.specs.Share.{nothing, half, both, IsWhole}
 use Rattle.turn_slots.specs.declared.view.View.{View}
@@ -21,7 +22,8 @@ Tries {V} fits st m r n = (i : ℕ) → st.word ≡ turn_word i → MatchBool (r
     ((v : V) × fits i v × (n ≡ (with_turn m.0 i, (i, Some v) ∷ m.1)))
     ((¬ IsWhole m.0.share) × (n ≡ (with_try m.0 i, m.1)))
 
-module _ {V : Type 0} (st : Step (Option V)) (m : Me (Option V) View) (r : ℕ) (n : Me (Option V) View) where
+module _ {V : Type 0} (st : Step (Option V)) (m : Me (Option V) View) (r : ℕ)
+    (n : Me (Option V) View) where
   -- The slot lies at home again.
   abbrev pub Leaves : Type 0
   Leaves = n ≡ (record m.0 { out = None }, rest m.1)

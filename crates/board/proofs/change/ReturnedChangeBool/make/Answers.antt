@@ -1,0 +1,9 @@
+use Rattle.std.proofs.Common.{refl}
+use Rattle.cfg_model.specs.Builder.Event.{Event}
+use Rattle.cfg_model.specs.Builder.Fact.{Fact}
+use Rattle.board.proofs.Due.{due_reads}
+use Rattle.board.proofs.change.ReturnedChangeBool.make.Goals as goal
+
+pub returned-requires : goal.returned-requires
+returned-requires g c =
+    due_reads g.J.Job.map g.J.Job.seeds (Event.Returned c.args.self.now.k) c.args.piece.now c.requires (Fact.Terminator c.args.self.now.k) refl c.requires.reason.entered _ c.in-Terms.is

@@ -1,0 +1,123 @@
+-- What a call of a seat did.
+use Rattle.std.specs.Prelude.{◌≡◌, ℕ, List, Result, Ok, Err, Option}
+use Rattle.std.specs.Prelude.{Some, None, slice_index_or, refl}
+use Rattle.std.specs.FinMap as maps
+use Rattle.std.specs.Coded.{Coded, code_by, coded×}
+use Rattle.cfg_model.specs.Program.Instructions.{InstructionMap}
+use Rattle.cfg_model.specs.declared.state.Waiter.{Waiter}
+use Rattle.cfg_model.specs.Builder.Event.{Event, Steps, new_entry}
+use Rattle.cfg_model.specs.Builder.Fact.{Fact, Holds, IsSoundFact}
+use Rattle.cfg_model.specs.Builder.Kept.{IsKept}
+use Rattle.cfg_model.specs.Builder.Reason.{May}
+use Rattle.cfg_model.specs.Builder.Shard.{Shard, shard_of, shard_of_event, only}
+use Rattle.cfg_model.specs.Builder.Codes.{coded_state}
+use Rattle.cfg_model.specs.Builder.State.{BuilderState, empty_state, IsNear, near_at}
+use Rattle.core_state.specs.declared.answer.Arrival.{Arrival}
+use Rattle.core_state.specs.Answer.{arrival_of}
+use Rattle.core_state.specs.declared.answer.ShardKind.{ShardKind}
+use Rattle.core_state.specs.declared.answer.PlaceEnd.{PlaceEnd}
+use Rattle.core_state.specs.declared.answer.PlaceEnd.TheVariants.{Busy, Memory}
+use Rattle.board.specs.Slots.{slot_of, shard_at, shard_for}
+use Rattle.board.specs.Seat.{SeatState, Knows, with_turn, with_lost_try, with_seen, coded_shard}
+
+-- The seat had the turn of the shard. All shards together were a kept state then, of which the
+-- first value is the part, and of which all holds that the seat knew.
+pub record HadTurn (map : InstructionMap) (seeds : List ℕ) (shard : Shard)
+    (old new : SeatState) : Type 0 where
+  pub first : BuilderState
+  pub second : BuilderState
+  pub turn : new ≡ with_turn old shard first second
+  pub whole : BuilderState
+  pub kept : IsKept map seeds whole
+  pub part : first ≡ only whole shard
+  pub known : (fact : Fact) → Knows map old fact → Holds map whole fact
+
+-- The seat made the event, in one turn of the event's shard: the state that all shards were
+-- together allowed it, and the second value is its step from the first.
+pub record MadeEvent (map : InstructionMap) (seeds : List ℕ) (event : Event)
+    (old new : SeatState) : Type 0 where
+  pub had : HadTurn map seeds (shard_of_event event) old new
+  pub allowed : May map seeds had.whole event
+  pub step : Steps map had.first event had.second
+
+-- The seat looked at the shard, in one turn of it, and gave it back as it was.
+pub record LookedAt (map : InstructionMap) (seeds : List ℕ) (shard : Shard)
+    (old new : SeatState) : Type 0 where
+  pub had : HadTurn map seeds shard old new
+  pub same : had.second ≡ had.first
+
+-- The state that shows that k is entered, and nothing else.
+abbrev pub entered_alone : ℕ → BuilderState
+entered_alone k = record empty_state { terminators = maps.insert maps.empty k new_entry }
+
+-- The seat that was shown, with a waiter, that the waiter's terminator is entered.
+abbrev pub shown_waiter : SeatState → Option Waiter → SeatState
+shown_waiter seat None = seat
+shown_waiter seat (Some w) = with_seen seat (entered_alone w.terminator)
+
+-- The call was refused because the shard's turn stood taken.
+abbrev pub AnswersBusy : {T : Type 0} → Result T PlaceEnd → Type 0
+AnswersBusy (Ok answer) = ⊥
+AnswersBusy (Err (Busy kind number)) = Unit {0}
+AnswersBusy (Err Memory) = ⊥
+
+-- It was refused for want of memory.
+abbrev pub AnswersMemory : {T : Type 0} → Result T PlaceEnd → Type 0
+AnswersMemory (Ok answer) = ⊥
+AnswersMemory (Err (Busy kind number)) = ⊥
+AnswersMemory (Err Memory) = Unit {0}
+
+-- The refusal names the shard of the key, and the seat has lost one more try of it: that is all
+-- that is new.
+abbrev pub IsBusyAt : ShardKind → ℕ → SeatState → SeatState → PlaceEnd → Type 0
+IsBusyAt kind key old new (Busy k number) =
+    (k ≡ kind) × (number ≡ shard_of key) × (new ≡ with_lost_try old (shard_for kind key))
+IsBusyAt kind key old new Memory = ⊥
+
+-- The same of a call that may be refused for want of memory too.
+abbrev pub WhereBusy : ShardKind → ℕ → SeatState → SeatState → PlaceEnd → Type 0
+WhereBusy kind key old new (Busy k number) =
+    (k ≡ kind) × (number ≡ shard_of key) × (new ≡ with_lost_try old (shard_for kind key))
+WhereBusy kind key old new Memory = Unit {0}
+
+-- Memory ran out: the seat had the turn of the shard, and gave it back as it was.
+abbrev pub WhereMemory : InstructionMap → List ℕ → Shard → SeatState → SeatState → PlaceEnd → Type 0
+WhereMemory map seeds shard old new (Busy k number) = Unit {0}
+WhereMemory map seeds shard old new Memory = LookedAt map seeds shard old new
+
+-- The seat is of the same board, and has the same share and the same shards.
+pub record Stays (old new : SeatState) : Type 0 where
+  pub board : new.board ≡ old.board
+  pub share : new.share ≡ old.share
+  pub holds : new.holds ≡ old.holds
+
+-- All that the seat knows is true of the program.
+abbrev pub KnowsTruth : InstructionMap → List ℕ → SeatState → Type 0
+KnowsTruth map seeds seat = (fact : Fact) → Knows map seat fact → IsSoundFact map seeds fact
+
+-- The answer of an arrival of s at k, by the near start there before and after.
+abbrev pub IsArrivalAt : ℕ → ℕ → BuilderState → BuilderState → Arrival → Type 0
+IsArrivalAt k s first second arrival = (m : ℕ) → IsNear second.ends k m
+    → arrival ≡ arrival_of s (near_at first.ends k) m
+
+-- A shard that is out with a seat: which one, and its value.
+pub record HeldShard : Type 0 where
+  pub shard : Shard
+  pub value : BuilderState
+
+-- The seat has the turn of that shard, which had this value and still has.
+abbrev pub IsHeldBy : SeatState → HeldShard → Type 0
+IsHeldBy seat held = slice_index_or seat.holds (slot_of held.shard) None
+    ≡ Some record { first = held.value; second = held.value }
+
+-- The refusal names this shard, and the seat has lost one more try of it: that is all that is new.
+abbrev pub IsBusyShard : ShardKind → ℕ → SeatState → SeatState → PlaceEnd → Type 0
+IsBusyShard kind shard old new (Busy k number) =
+    (k ≡ kind) × (number ≡ shard) × (new ≡ with_lost_try old (shard_at kind shard))
+IsBusyShard kind shard old new Memory = ⊥
+
+-- How a proof stores what contracts see of a held shard.
+abbrev pub coded_held : Coded HeldShard
+coded_held =
+    code_by _ (coded× coded_shard coded_state) (λ h. (h.shard, h.value))
+    (λ p. record { shard = p.0; value = p.1 }) (λ _. refl)

@@ -1,0 +1,7 @@
+pub mod Slots
+pub mod Seat
+pub mod Calls
+pub mod Rule
+pub mod BoardLaws
+pub mod Sample
+pub mod Inner

@@ -1,0 +1,269 @@
+//! The nine changes of a builder's state, as a seat makes them on the board.
+ghost use Rattle.std.specs.Prelude.{◌≡◌, ◌↔◌, ◌<◌, IsTrue, IsFalse, OnOk, IfOk, IfErr};
+ghost use Rattle.shares.specs.Share.{IsWhole};
+ghost use Rattle.cfg_model.specs.Builder.Event.{Event};
+ghost use Rattle.cfg_model.specs.Builder.Fact.{Fact};
+ghost use Rattle.cfg_model.specs.Builder.Reason.{Reason};
+ghost use Rattle.cfg_model.specs.Builder.Shard.{Shard, shard_of};
+ghost use Rattle.cfg_model.specs.Builder.State.{IsStart, IsEntered, WaitsAt, IsReturned};
+ghost use Rattle.core_state.specs.Place.{Brings, Remembers, near_after};
+ghost use Rattle.core_state.specs.declared.answer.ShardKind.TheVariants as ShardKind;
+ghost use Rattle.board.specs.Seat.{Knows, HoldsShard, lost_of, found, left};
+ghost use Rattle.board.specs.Calls.{MadeEvent, AnswersBusy, IsBusyAt, WhereBusy};
+ghost use Rattle.board.specs.Calls.{WhereMemory, Stays, KnowsTruth, IsArrivalAt};
+
+use crate::change::{Arrive, EdgesDone, Parsed, Returned, Settle, Term, Told, Wait, Want, make};
+use crate::seat::Seat;
+use crate::table::Board;
+use cfg_model::{Chains, Waiter};
+use core_state::{Along, Arrival, Job, PlaceEnd, ShardKind, Walk};
+use std::marker::PhantomData;
+
+// Each change has the same clauses. `event`: after `Ok` the seat has made the event in one turn of
+// its shard, and the state allowed it. `answer`: by the value that the seat found there, and left.
+// `brings`: the seat knows what the event brings. `remembers`, `truth`: what it knew it knows, and
+// all of it is true. `busy`, `lost`: a refusal because the turn stood taken names the shard, comes
+// exactly where one more try was lost, and changes nothing else. `memory`: after a refusal for want
+// of memory the shard is as it was. `stays`: board, share and held shards stay. `only_seat`: the
+// only seat is never refused so.
+
+impl<J: Job> Seat<J> {
+    /// Makes `s` a wanted start, where it is none. Answers whether it is new.
+    pub fn want(&mut self, board: &Board<J>, s: u64) -> Result<bool, PlaceEnd>
+        requires own { self.old.board ≡ board.now }
+        requires free { ¬ HoldsShard self.old (Shard.Starts (shard_of s)) }
+        requires reason { Reason J.map J.seeds (Knows J.map self.old) (Event.Want s) }
+        ensures event { OnOk result (MadeEvent J.map J.seeds (Event.Want s) self.old self.new) }
+        ensures answer { IfOk result (λ new. IsTrue new ↔ ¬ IsStart (found self.new).starts s) }
+        ensures brings { OnOk result (Brings (Event.Want s) (Knows J.map self.new)) }
+        ensures read_back { IfOk result (λ new. Knows J.map self.old (Fact.Start s) → IsFalse new) }
+        ensures remembers { Remembers (Knows J.map self.old) (Knows J.map self.new) }
+        ensures truth { KnowsTruth J.map J.seeds self.new }
+        ensures busy { IfErr result (WhereBusy ShardKind.Starts s self.old self.new) }
+        ensures memory { IfErr result
+            (WhereMemory J.map J.seeds (Shard.Starts (shard_of s)) self.old self.new) }
+        ensures lost { AnswersBusy result
+            ↔ (lost_of self.old (Shard.Starts (shard_of s)) < lost_of self.new
+            (Shard.Starts (shard_of s))) }
+        ensures stays { Stays self.old self.new }
+        ensures only_seat { IsWhole self.old.share → ¬ AnswersBusy result }
+    {
+        make(self, board, ShardKind::Starts, s, &Want { s })
+    }
+
+    /// Makes the start `s` a parsed one.
+    pub fn parsed(&mut self, board: &Board<J>, s: u64) -> Result<(), PlaceEnd>
+        requires own { self.old.board ≡ board.now }
+        requires free { ¬ HoldsShard self.old (Shard.Starts (shard_of s)) }
+        requires reason { Reason J.map J.seeds (Knows J.map self.old) (Event.Parsed s) }
+        ensures event { OnOk result (MadeEvent J.map J.seeds (Event.Parsed s) self.old self.new) }
+        ensures brings { OnOk result (Brings (Event.Parsed s) (Knows J.map self.new)) }
+        ensures remembers { Remembers (Knows J.map self.old) (Knows J.map self.new) }
+        ensures truth { KnowsTruth J.map J.seeds self.new }
+        ensures busy { IfErr result (IsBusyAt ShardKind.Starts s self.old self.new) }
+        ensures lost { AnswersBusy result
+            ↔ (lost_of self.old (Shard.Starts (shard_of s)) < lost_of self.new
+            (Shard.Starts (shard_of s))) }
+        ensures stays { Stays self.old self.new }
+        ensures only_seat { IsWhole self.old.share → ¬ AnswersBusy result }
+    {
+        make(self, board, ShardKind::Starts, s, &Parsed { s })
+    }
+
+    /// The start `s` arrives at the end `k`: the first one there is near; another one splits the
+    /// end at the first address on the chains of both. Takes time linear in the two chains up to
+    /// `k`.
+    pub fn arrive<C: Chains>(
+        &mut self,
+        board: &Board<J>,
+        code: &C,
+        k: u64,
+        s: u64,
+    ) -> Result<Arrival, PlaceEnd>
+        requires code { C.map code.now ≡ J.map }
+        requires own { self.old.board ≡ board.now }
+        requires free { ¬ HoldsShard self.old (Shard.Ends (shard_of k)) }
+        requires reason { Reason J.map J.seeds (Knows J.map self.old) (Event.Arrive k s) }
+        ensures event { OnOk result (MadeEvent J.map J.seeds (Event.Arrive k s) self.old self.new) }
+        ensures answer { IfOk result (IsArrivalAt k s (found self.new) (left self.new)) }
+        ensures brings { OnOk result (Brings (Event.Arrive k s) (Knows J.map self.new)) }
+        ensures near { IfOk result
+            (λ arrival. Knows J.map self.new (Fact.Anchored (near_after s arrival) k)) }
+        ensures remembers { Remembers (Knows J.map self.old) (Knows J.map self.new) }
+        ensures truth { KnowsTruth J.map J.seeds self.new }
+        ensures busy { IfErr result (WhereBusy ShardKind.Ends k self.old self.new) }
+        ensures memory { IfErr result
+            (WhereMemory J.map J.seeds (Shard.Ends (shard_of k)) self.old self.new) }
+        ensures lost { AnswersBusy result
+            ↔ (lost_of self.old (Shard.Ends (shard_of k)) < lost_of self.new
+            (Shard.Ends (shard_of k))) }
+        ensures stays { Stays self.old self.new }
+        ensures only_seat { IsWhole self.old.share → ¬ AnswersBusy result }
+    {
+        self.arrive_along(board, &Along(code), k, s)
+    }
+
+    /// The same, for a program that is walked along its chains.
+    pub fn arrive_along<W: Walk>(
+        &mut self,
+        board: &Board<J>,
+        walk: &W,
+        k: u64,
+        s: u64,
+    ) -> Result<Arrival, PlaceEnd>
+        requires code { W.map walk.now ≡ J.map }
+        requires own { self.old.board ≡ board.now }
+        requires free { ¬ HoldsShard self.old (Shard.Ends (shard_of k)) }
+        requires reason { Reason J.map J.seeds (Knows J.map self.old) (Event.Arrive k s) }
+        ensures event { OnOk result (MadeEvent J.map J.seeds (Event.Arrive k s) self.old self.new) }
+        ensures answer { IfOk result (IsArrivalAt k s (found self.new) (left self.new)) }
+        ensures brings { OnOk result (Brings (Event.Arrive k s) (Knows J.map self.new)) }
+        ensures near { IfOk result
+            (λ arrival. Knows J.map self.new (Fact.Anchored (near_after s arrival) k)) }
+        ensures remembers { Remembers (Knows J.map self.old) (Knows J.map self.new) }
+        ensures truth { KnowsTruth J.map J.seeds self.new }
+        ensures busy { IfErr result (WhereBusy ShardKind.Ends k self.old self.new) }
+        ensures memory { IfErr result
+            (WhereMemory J.map J.seeds (Shard.Ends (shard_of k)) self.old self.new) }
+        ensures lost { AnswersBusy result
+            ↔ (lost_of self.old (Shard.Ends (shard_of k)) < lost_of self.new
+            (Shard.Ends (shard_of k))) }
+        ensures stays { Stays self.old self.new }
+        ensures only_seat { IsWhole self.old.share → ¬ AnswersBusy result }
+    {
+        let change = Arrive {
+            walk,
+            k,
+            s,
+            job: PhantomData,
+        };
+        make(self, board, ShardKind::Ends, k, &change)
+    }
+
+    /// Takes `x` out of the displaced starts of the end `k`.
+    pub fn settle(&mut self, board: &Board<J>, k: u64, x: u64) -> Result<(), PlaceEnd>
+        requires own { self.old.board ≡ board.now }
+        requires free { ¬ HoldsShard self.old (Shard.Ends (shard_of k)) }
+        requires reason { Reason J.map J.seeds (Knows J.map self.old) (Event.Settle k x) }
+        ensures event { OnOk result (MadeEvent J.map J.seeds (Event.Settle k x) self.old self.new) }
+        ensures remembers { Remembers (Knows J.map self.old) (Knows J.map self.new) }
+        ensures truth { KnowsTruth J.map J.seeds self.new }
+        ensures busy { IfErr result (IsBusyAt ShardKind.Ends k self.old self.new) }
+        ensures lost { AnswersBusy result
+            ↔ (lost_of self.old (Shard.Ends (shard_of k)) < lost_of self.new
+            (Shard.Ends (shard_of k))) }
+        ensures stays { Stays self.old self.new }
+        ensures only_seat { IsWhole self.old.share → ¬ AnswersBusy result }
+    {
+        make(self, board, ShardKind::Ends, k, &Settle { k, x })
+    }
+
+    /// Enters `k` as a terminator, where it is none. Answers whether it is new.
+    pub fn term(&mut self, board: &Board<J>, k: u64) -> Result<bool, PlaceEnd>
+        requires own { self.old.board ≡ board.now }
+        requires free { ¬ HoldsShard self.old (Shard.Terminators (shard_of k)) }
+        requires reason { Reason J.map J.seeds (Knows J.map self.old) (Event.Terminator k) }
+        ensures event { OnOk result
+            (MadeEvent J.map J.seeds (Event.Terminator k) self.old self.new) }
+        ensures answer { IfOk result
+            (λ new. IsTrue new ↔ ¬ IsEntered (found self.new).terminators k) }
+        ensures brings { OnOk result (Brings (Event.Terminator k) (Knows J.map self.new)) }
+        ensures read_back { IfOk result (λ new. Knows J.map self.old (Fact.Terminator k)
+            → IsFalse new) }
+        ensures remembers { Remembers (Knows J.map self.old) (Knows J.map self.new) }
+        ensures truth { KnowsTruth J.map J.seeds self.new }
+        ensures busy { IfErr result (WhereBusy ShardKind.Terms k self.old self.new) }
+        ensures memory { IfErr result
+            (WhereMemory J.map J.seeds (Shard.Terminators (shard_of k)) self.old self.new) }
+        ensures lost { AnswersBusy result ↔ (lost_of self.old (Shard.Terminators (shard_of k))
+            < lost_of self.new (Shard.Terminators (shard_of k))) }
+        ensures stays { Stays self.old self.new }
+        ensures only_seat { IsWhole self.old.share → ¬ AnswersBusy result }
+    {
+        make(self, board, ShardKind::Terms, k, &Term { k })
+    }
+
+    /// Makes `w` wait at the terminator `k`, untold, where it does not wait there yet. Answers
+    /// whether it is new there.
+    pub fn wait(&mut self, board: &Board<J>, k: u64, w: Waiter) -> Result<bool, PlaceEnd>
+        requires own { self.old.board ≡ board.now }
+        requires free { ¬ HoldsShard self.old (Shard.Terminators (shard_of k)) }
+        requires reason { Reason J.map J.seeds (Knows J.map self.old) (Event.Wait k w) }
+        ensures event { OnOk result (MadeEvent J.map J.seeds (Event.Wait k w) self.old self.new) }
+        ensures answer { IfOk result
+            (λ new. IsTrue new ↔ ¬ WaitsAt (found self.new).terminators k w) }
+        ensures brings { OnOk result (Brings (Event.Wait k w) (Knows J.map self.new)) }
+        ensures read_back { IfOk result (λ new. Knows J.map self.old (Fact.Waits k w)
+            → IsFalse new) }
+        ensures remembers { Remembers (Knows J.map self.old) (Knows J.map self.new) }
+        ensures truth { KnowsTruth J.map J.seeds self.new }
+        ensures busy { IfErr result (WhereBusy ShardKind.Terms k self.old self.new) }
+        ensures memory { IfErr result
+            (WhereMemory J.map J.seeds (Shard.Terminators (shard_of k)) self.old self.new) }
+        ensures lost { AnswersBusy result ↔ (lost_of self.old (Shard.Terminators (shard_of k))
+            < lost_of self.new (Shard.Terminators (shard_of k))) }
+        ensures stays { Stays self.old self.new }
+        ensures only_seat { IsWhole self.old.share → ¬ AnswersBusy result }
+    {
+        make(self, board, ShardKind::Terms, k, &Wait { k, w })
+    }
+
+    /// Notes that the terminator `k` returns. Answers whether that is new.
+    pub fn returned(&mut self, board: &Board<J>, k: u64) -> Result<bool, PlaceEnd>
+        requires own { self.old.board ≡ board.now }
+        requires free { ¬ HoldsShard self.old (Shard.Terminators (shard_of k)) }
+        requires reason { Reason J.map J.seeds (Knows J.map self.old) (Event.Returned k) }
+        ensures event { OnOk result (MadeEvent J.map J.seeds (Event.Returned k) self.old self.new) }
+        ensures answer { IfOk result
+            (λ new. IsTrue new ↔ ¬ IsReturned (found self.new).terminators k) }
+        ensures brings { OnOk result (Brings (Event.Returned k) (Knows J.map self.new)) }
+        ensures read_back { IfOk result (λ new. Knows J.map self.old (Fact.Returned k)
+            → IsFalse new) }
+        ensures remembers { Remembers (Knows J.map self.old) (Knows J.map self.new) }
+        ensures truth { KnowsTruth J.map J.seeds self.new }
+        ensures busy { IfErr result (IsBusyAt ShardKind.Terms k self.old self.new) }
+        ensures lost { AnswersBusy result ↔ (lost_of self.old (Shard.Terminators (shard_of k))
+            < lost_of self.new (Shard.Terminators (shard_of k))) }
+        ensures stays { Stays self.old self.new }
+        ensures only_seat { IsWhole self.old.share → ¬ AnswersBusy result }
+    {
+        make(self, board, ShardKind::Terms, k, &Returned { k })
+    }
+
+    /// Notes that `w` was told that the terminator `k`, at which it waits, returns.
+    pub fn told(&mut self, board: &Board<J>, k: u64, w: Waiter) -> Result<(), PlaceEnd>
+        requires own { self.old.board ≡ board.now }
+        requires free { ¬ HoldsShard self.old (Shard.Terminators (shard_of k)) }
+        requires reason { Reason J.map J.seeds (Knows J.map self.old) (Event.Told k w) }
+        ensures event { OnOk result (MadeEvent J.map J.seeds (Event.Told k w) self.old self.new) }
+        ensures brings { OnOk result (Brings (Event.Told k w) (Knows J.map self.new)) }
+        ensures remembers { Remembers (Knows J.map self.old) (Knows J.map self.new) }
+        ensures truth { KnowsTruth J.map J.seeds self.new }
+        ensures busy { IfErr result (IsBusyAt ShardKind.Terms k self.old self.new) }
+        ensures lost { AnswersBusy result ↔ (lost_of self.old (Shard.Terminators (shard_of k))
+            < lost_of self.new (Shard.Terminators (shard_of k))) }
+        ensures stays { Stays self.old self.new }
+        ensures only_seat { IsWhole self.old.share → ¬ AnswersBusy result }
+    {
+        make(self, board, ShardKind::Terms, k, &Told { k, w })
+    }
+
+    /// Notes that the ways on of the terminator `k` are dealt with.
+    pub fn edges_done(&mut self, board: &Board<J>, k: u64) -> Result<(), PlaceEnd>
+        requires own { self.old.board ≡ board.now }
+        requires free { ¬ HoldsShard self.old (Shard.Terminators (shard_of k)) }
+        requires reason { Reason J.map J.seeds (Knows J.map self.old) (Event.EdgesDone k) }
+        ensures event { OnOk result
+            (MadeEvent J.map J.seeds (Event.EdgesDone k) self.old self.new) }
+        ensures brings { OnOk result (Brings (Event.EdgesDone k) (Knows J.map self.new)) }
+        ensures remembers { Remembers (Knows J.map self.old) (Knows J.map self.new) }
+        ensures truth { KnowsTruth J.map J.seeds self.new }
+        ensures busy { IfErr result (IsBusyAt ShardKind.Terms k self.old self.new) }
+        ensures lost { AnswersBusy result ↔ (lost_of self.old (Shard.Terminators (shard_of k))
+            < lost_of self.new (Shard.Terminators (shard_of k))) }
+        ensures stays { Stays self.old self.new }
+        ensures only_seat { IsWhole self.old.share → ¬ AnswersBusy result }
+    {
+        make(self, board, ShardKind::Terms, k, &EdgesDone { k })
+    }
+}
