@@ -11,14 +11,15 @@ DequeId = (ℕ × ℕ) × Global
 pub record PoolValue : Type 0 where
   pub deques : List DequeId
 
--- The hands of a pool with these deques that are still to be given out: the numbers from `given` on.
+-- The hands of a pool with these deques that are still to be given out: the numbers from `given`
+-- on.
 pub record HandsValue : Type 0 where
   pub deques : List DequeId
   pub given : ℕ
 
 -- A hand of a pool with these deques, and the number of its own deque.
--- It notes the names that it has put and taken, in order, and for each deque how often it found no name there
--- and how often another taker was faster.
+-- It notes the names that it has put and taken, in order, and for each deque how often it found no
+-- name there and how often another taker was faster.
 pub record HandValue : Type 0 where
   pub deques : List DequeId
   pub number : ℕ
@@ -45,7 +46,8 @@ IsSameHand old new = (new.deques ≡ old.deques) × (new.number ≡ old.number)
 
 -- A hand that was not used yet.
 abbrev pub IsFresh : PoolValue → ℕ → HandValue → Type 0
-IsFresh pool number hand = IsHandOf pool hand × (hand.number ≡ number) × (hand.put ≡ []) × (hand.taken ≡ [])
+IsFresh pool number hand = IsHandOf pool hand × (hand.number ≡ number) × (hand.put ≡ [])
+    × (hand.taken ≡ [])
 
 -- Such hands, numbered from `number` on up to the last of the pool.
 abbrev pub AreFresh : PoolValue → ℕ → List HandValue → Type 0
@@ -56,9 +58,11 @@ AreFresh pool number (hand ∷ hands) = IsFresh pool number hand × AreFresh poo
 abbrev pub AreAllHands : PoolValue → List HandValue → Type 0
 AreAllHands pool hands =
     (length hands ≡ workers_of pool)
-    × ((k : ℕ) (hand : HandValue) → slice_get hands k ≡ Some hand → IsHandOf pool hand × (hand.number ≡ k))
+    × ((k : ℕ) (hand : HandValue) → slice_get hands k ≡ Some hand → IsHandOf pool hand
+    × (hand.number ≡ k))
 
--- What is left of the names of these hands: of each hand the names that it put last, in their order, the last hand's first.
+-- What is left of the names of these hands: of each hand the names that it put last, in their
+-- order, the last hand's first.
 abbrev pub IsLeftInOrder : List HandValue → List Name → Type 0
 IsLeftInOrder [] left = left ≡ []
 IsLeftInOrder (hand ∷ hands) left =

@@ -62,13 +62,18 @@ pub trait Deques {
         requires deque { i < size self.old }
         ensures made { try_made self.old i result self.new }
         ensures size { size self.new ≡ size self.old }
-        ensures got { MatchTried result (λ name. got self.new ≡ got self.old ++ name ∷ []) (got self.new ≡ got self.old) (got self.new ≡ got self.old) }
-        ensures cause { MatchTried result (λ _. Unit {0}) (Rose (beaten self.old i) (beaten self.new i)) (Rose (empties self.old i) (empties self.new i)) }
+        ensures got { MatchTried result
+            (λ name. got self.new ≡ got self.old ++ name ∷ []) (got self.new ≡ got self.old)
+            (got self.new ≡ got self.old) }
+        ensures cause { MatchTried result
+            (λ _. Unit {0}) (Rose (beaten self.old i) (beaten self.new i))
+            (Rose (empties self.old i) (empties self.new i)) }
         ensures empties { (j : ℕ) → empties self.old j ≤ empties self.new j }
         ensures beaten { (j : ℕ) → beaten self.old j ≤ beaten self.new j };
 }
 
-/// The deque that comes `step` deques behind number `own` of `count`, where the first follows the last.
+/// The deque that comes `step` deques behind number `own` of `count`, where the first follows the
+/// last.
 fn turn(own: u32, step: u32, count: u32) -> u32
     requires own { own < count }
     requires step { step < count }
@@ -88,8 +93,12 @@ pub fn first_of<E: Deques>(ends: &mut E, own: u32, count: u32) -> Round
     requires own { own < count }
     ensures round { IsRound E.try_made own count ends.old result ends.new }
     ensures size { E.size ends.new ≡ E.size ends.old }
-    ensures got { MatchRound result (λ name. E.got ends.new ≡ E.got ends.old ++ name ∷ []) (E.got ends.new ≡ E.got ends.old) (E.got ends.new ≡ E.got ends.old) }
-    ensures cause { MatchRound result (λ _. Unit {0}) ((i : ℕ) × (i < count) × Rose (E.beaten ends.old i) (E.beaten ends.new i)) ((i : ℕ) → i < count → Rose (E.empties ends.old i) (E.empties ends.new i)) }
+    ensures got { MatchRound result
+        (λ name. E.got ends.new ≡ E.got ends.old ++ name ∷ []) (E.got ends.new ≡ E.got ends.old)
+        (E.got ends.new ≡ E.got ends.old) }
+    ensures cause { MatchRound result
+        (λ _. Unit {0}) ((i : ℕ) × (i < count) × Rose (E.beaten ends.old i) (E.beaten ends.new i))
+        ((i : ℕ) → i < count → Rose (E.empties ends.old i) (E.empties ends.new i)) }
     ensures empties { (i : ℕ) → E.empties ends.old i ≤ E.empties ends.new i }
     ensures beaten { (i : ℕ) → E.beaten ends.old i ≤ E.beaten ends.new i }
 {

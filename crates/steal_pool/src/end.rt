@@ -46,8 +46,13 @@ impl End {
         ensures deque { deque_of self.new ≡ deque_of self.old }
         ensures wired { IsWired self.new }
         ensures part { (note_of self.new).parts ≡ (note_of self.old).parts }
-        ensures taken { MatchTried result (λ name. (note_of self.new).taken ≡ (note_of self.old).taken ++ name ∷ []) ((note_of self.new).taken ≡ (note_of self.old).taken) ((note_of self.new).taken ≡ (note_of self.old).taken) }
-        ensures cause { MatchTried result (λ _. Unit {0}) (Rose self.old.beaten self.new.beaten) (Rose self.old.empties self.new.empties) }
+        ensures taken { MatchTried result
+            (λ name. (note_of self.new).taken ≡ (note_of self.old).taken ++ name ∷ [])
+            ((note_of self.new).taken ≡ (note_of self.old).taken)
+            ((note_of self.new).taken ≡ (note_of self.old).taken) }
+        ensures cause { MatchTried result
+            (λ _. Unit {0}) (Rose self.old.beaten self.new.beaten)
+            (Rose self.old.empties self.new.empties) }
         ensures empties { self.old.empties ≤ self.new.empties }
         ensures beaten { self.old.beaten ≤ self.new.beaten }
     {

@@ -1,6 +1,7 @@
 //! A worker's hand in the pool: it puts names into its own deque, and takes names from any.
 
-ghost use Rattle.std.specs.Prelude.{◌≡◌, ◌≢◌, ◌↔◌, ℕ, ◌+◌, ◌<◌, ◌≤◌, List, [], ◌∷◌, ◌++◌, length, map, slice_get, Some, None, MatchResult, IfNone, IsOk};
+ghost use Rattle.std.specs.Prelude.{◌≡◌, ◌≢◌, ◌↔◌, ℕ, ◌+◌, ◌<◌, ◌≤◌, List, [], ◌∷◌, ◌++◌, length};
+ghost use Rattle.std.specs.Prelude.{map, slice_get, Some, None, MatchResult, IfNone, IsOk};
 ghost use Rattle.std.specs.Option.{option_to_list};
 ghost use Rattle.crossbeam_deque.specs.Handles.{worker_view};
 ghost use Rattle.steal_pool.specs.Rose.{Rose};
@@ -19,15 +20,16 @@ use core_state::Name;
 use std::marker::Model;
 use std::sync::Wait;
 
-/// A name that came back, since the deque did not take it: for want of memory, or at a limit of its own.
+/// A name that came back, since the deque did not take it: for want of memory, or at a limit of its
+/// own.
 #[derive(Clone, Copy, Debug, PartialEq, Eq)]
 pub struct Back {
     /// The name.
     pub name: Name,
 }
 
-/// A worker's hand in a pool. Contracts see what it has put and taken, and how often it found the deques
-/// without a name or was beaten there.
+/// A worker's hand in a pool. Contracts see what it has put and taken, and how often it found the
+/// deques without a name or was beaten there.
 #[derive(Drop)]
 pub struct Hand {
     number: u32,
@@ -44,7 +46,14 @@ impl Model for Hand {
 
     ghost Value = { HandValue };
 
-    ghost view = { λ h. record { deques = map deque_of h.ends.items; number = h.number; put = (worker_view h.own).put; taken = h.noted.names; empties = map (λ e. e.empties) h.ends.items; beaten = map (λ e. e.beaten) h.ends.items } };
+    ghost view = { λ h. record {
+      deques = map deque_of h.ends.items;
+      number = h.number;
+      put = (worker_view h.own).put;
+      taken = h.noted.names;
+      empties = map (λ e. e.empties) h.ends.items;
+      beaten = map (λ e. e.beaten) h.ends.items;
+    } };
 
     ghost invariant = { λ h. IsWell h.number h.own h.ends.items h.noted.names };
 }
@@ -73,10 +82,12 @@ impl Hand {
         (self.own, self.ends)
     }
 
-    /// Puts a name behind all others of the hand's own deque, or gives it back. The first 64 names never
-    /// come back.
+    /// Puts a name behind all others of the hand's own deque, or gives it back. The first 64 names
+    /// never come back.
     pub fn put(&mut self, name: Name) -> Result<(), Back>
-        ensures put { MatchResult result (λ _. self.new ≡ record self.old { put = self.old.put ++ name ∷ [] }) (λ back. (back.name ≡ name) × (self.new ≡ self.old)) }
+        ensures put { MatchResult result
+            (λ _. self.new ≡ record self.old { put = self.old.put ++ name ∷ [] })
+            (λ back. (back.name ≡ name) × (self.new ≡ self.old)) }
         ensures room { length self.old.put < first_room → IsOk result }
     {
         match self.own.push_as::<Puts>(name) {
@@ -85,18 +96,21 @@ impl Hand {
         }
     }
 
-    /// Takes the first name of the hand's own deque, or else of another's: by rising number from its own
-    /// on and round. Tries again while another taker wins.
+    /// Takes the first name of the hand's own deque, or else of another's: by rising number from
+    /// its own on and round. Tries again while another taker wins.
     pub fn take<R: Wait>(&mut self, rt: &R, pool: &Pool) -> Option<Name>
         requires pool { IsHandOf pool.now self.old }
         ensures same { IsSameHand self.old self.new }
         ensures put { self.new.put ≡ self.old.put }
         ensures taken { self.new.taken ≡ self.old.taken ++ option_to_list result }
         ensures round { LastRound self.old result self.new }
-        ensures none { IfNone result ((i : ℕ) → i < workers_of pool.now → Rose (empties_at self.old i) (empties_at self.new i)) }
+        ensures none { IfNone result
+            ((i : ℕ) → i < workers_of pool.now
+            → Rose (empties_at self.old i) (empties_at self.new i)) }
         ensures counts { CountsLast self.old self.new }
         ensures first { IsOnly self.old → result ≡ slice_get self.old.put (length self.old.taken) }
-        ensures only { IsOnly self.old → (result ≡ None) ↔ (length self.old.taken ≡ length self.old.put) }
+        ensures only { IsOnly self.old → (result ≡ None)
+            ↔ (length self.old.taken ≡ length self.old.put) }
     {
         let own = self.number;
         for _ in rt.forever() {

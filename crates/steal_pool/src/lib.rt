@@ -1,14 +1,15 @@
-//! Names of work, in one deque for each worker. A worker puts names into its own deque, and takes the first
-//! name of its own deque or else of another's (work stealing).
+//! Names of work, in one deque for each worker. A worker puts names into its own deque, and takes
+//! the first name of its own deque or else of another's (work stealing).
 //!
 //! - [`pool`]: a pool, its hands, one for each worker, and what is left at the end.
 //! - [`hand`]: a worker's hand, which puts and takes.
 //! - [`deques`]: one round of tries, over any deques.
 //! - [`names`]: a list of names.
 //!
-//! Names leave a deque in the order in which they were put, at either end, so that a hand that finds no
-//! name knows that each deque was empty when it was tried. A hand notes what it put and took, in proofs
-//! alone; when all hands are gathered, the names put are those taken and those left, each as often.
+//! Names leave a deque in the order in which they were put, at either end, so that a hand that
+//! finds no name knows that each deque was empty when it was tried. A hand notes what it put and
+//! took, in proofs alone; when all hands are gathered, the names put are those taken and those
+//! left, each as often.
 #![tactic(auto)]
 
 pub mod deques;

@@ -4,8 +4,9 @@ use core_state::Name;
 use crossbeam_deque::protocol::{Join, Outcome, Protocol, Split};
 use std::collections::LinkedList;
 
-/// What one pass has put into its deque and taken from it, and its part of all passes. The owner's pass
-/// knows besides how many parts there are; another one has none of them. No value of it is made.
+/// What one pass has put into its deque and taken from it, and its part of all passes. The owner's
+/// pass knows besides how many parts there are; another one has none of them. No value of it is
+/// made.
 pub struct Note {
     /// Its parts of the whole.
     pub parts: u64,
@@ -77,8 +78,8 @@ impl Outcome<Name, Note> for Puts {
     ghost then = { λ v xs w. w ≡ note v.parts v.whole (v.put ++ xs) v.taken };
 }
 
-/// A name that is taken is the last one taken. A pass that has all parts sees which name it is, and finds
-/// no name only where all are taken.
+/// A name that is taken is the last one taken. A pass that has all parts sees which name it is, and
+/// finds no name only where all are taken.
 pub struct Takes;
 
 impl Outcome<Name, Note> for Takes {
@@ -86,7 +87,8 @@ impl Outcome<Name, Note> for Takes {
     ghost use Rattle.steal_pool.specs.Often.{EachAsOften};
     ghost use Rattle.steal_pool.specs.inner.Rule.{note, HasAll, AreNext};
 
-    ghost then = { λ v xs w. (w ≡ note v.parts v.whole v.put (v.taken ++ xs)) × (HasAll v → AreNext v xs) };
+    ghost then = { λ v xs w. (w ≡ note v.parts v.whole v.put (v.taken ++ xs))
+        × (HasAll v → AreNext v xs) };
 
     ghost empty = { λ v. HasAll v → EachAsOften v.put v.taken };
 }

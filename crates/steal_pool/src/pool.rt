@@ -1,12 +1,15 @@
 //! A pool of deques, one for each worker: how it is made, and how it ends.
 
-ghost use Rattle.std.specs.Prelude.{◌≡◌, ℕ, ◌+◌, ◌<◌, ◌≤◌, List, [], ◌∷◌, ◌++◌, map, length, reverse, cond, flat_map, IfOk, OnOk, MatchOption};
-ghost use Rattle.crossbeam_deque.specs.Handles.{worker_deque, worker_flavor, worker_view, stealer_deque};
+ghost use Rattle.std.specs.Prelude.{◌≡◌, ℕ, ◌+◌, ◌<◌, ◌≤◌, List, [], ◌∷◌, ◌++◌, map, length};
+ghost use Rattle.std.specs.Prelude.{reverse, cond, flat_map, IfOk, OnOk, MatchOption};
+ghost use Rattle.crossbeam_deque.specs.Handles.{worker_deque, worker_flavor, worker_view};
+ghost use Rattle.crossbeam_deque.specs.Handles.{stealer_deque};
 ghost use Rattle.steal_pool.specs.Often.{EachAsOften};
 ghost use Rattle.steal_pool.specs.Pool.{workers_of, AreFresh, AreAllHands, IsLeftInOrder};
 ghost use Rattle.steal_pool.specs.inner.Rule.{note, HasAll};
 ghost use Rattle.steal_pool.specs.inner.Ends.{deque_of, note_of, IsWired};
-ghost use Rattle.steal_pool.specs.inner.Building.{whole_of, IsNew, AreOwners, AreEnds, AreRows, AreApart, AreJoined, AreDrained, IsDrained, Each};
+ghost use Rattle.steal_pool.specs.inner.Building.{whole_of, IsNew, AreOwners, AreEnds, AreRows};
+ghost use Rattle.steal_pool.specs.inner.Building.{AreApart, AreJoined, AreDrained, IsDrained, Each};
 
 use crate::end::{End, Owner, Row, Thief};
 use crate::hand::Hand;
@@ -57,7 +60,8 @@ impl Model for Hands {
 impl Hands {
     /// The next hand: number 0 first, and so on.
     pub fn next(&mut self) -> Option<Hand>
-        ensures { MatchOption result ((self.old ≡ []) × (self.new ≡ [])) (λ hand. self.old ≡ hand ∷ self.new) }
+        ensures { MatchOption result ((self.old ≡ []) × (self.new ≡ []))
+            (λ hand. self.old ≡ hand ∷ self.new) }
     {
         self.rest.pop()
     }
@@ -85,11 +89,14 @@ impl Pool {
         self.thieves.len() as u32
     }
 
-    /// Ends the pool, and gives the names that are left in its deques. Takes time linear in their number,
-    /// and quadratic in that of the workers. [`Memory`] where memory ran out, and then the names are gone.
+    /// Ends the pool, and gives the names that are left in its deques. Takes time linear in their
+    /// number, and quadratic in that of the workers. [`Memory`] where memory ran out, and then the
+    /// names are gone.
     pub fn gather(self, alloc: Global, hands: Vec<Hand>) -> Result<Names, Memory>
         requires hands { AreAllHands self hands.items }
-        ensures as_often { IfOk result (λ left. EachAsOften (flat_map (λ hand. hand.put) hands.items) (flat_map (λ hand. hand.taken) hands.items ++ left)) }
+        ensures as_often { IfOk result
+            (λ left. EachAsOften (flat_map (λ hand. hand.put) hands.items)
+            (flat_map (λ hand. hand.taken) hands.items ++ left)) }
         ensures order { IfOk result (λ left. IsLeftInOrder hands.items left) }
     {
         let parts = apart(alloc, hands)?;
@@ -116,7 +123,8 @@ fn owners_of(alloc: Global, count: usize) -> Result<Vec<Owner>, Memory>
 
 /// The other side of each deque.
 fn thieves_of(alloc: Global, owners: &Vec<Owner>) -> Result<Vec<Thief>, Memory>
-    ensures { IfOk result (λ thieves. map stealer_deque thieves.items ≡ map worker_deque owners.now.items) }
+    ensures { IfOk result
+        (λ thieves. map stealer_deque thieves.items ≡ map worker_deque owners.now.items) }
 {
     let mut thieves = Vec::with_capacity(alloc, owners.len())?;
     for k in 0..owners.len() {
@@ -152,9 +160,11 @@ fn end_of(own: &mut Owner, spare: bool) -> Result<End, Memory>
 fn ends_of(alloc: Global, owners: &mut Vec<Owner>, number: usize) -> Result<Row, Memory>
     requires inside { number < length owners.old.items }
     requires new { AreOwners number owners.old.items }
-    ensures deques { OnOk result (map worker_deque owners.new.items ≡ map worker_deque owners.old.items) }
+    ensures deques { OnOk result
+        (map worker_deque owners.new.items ≡ map worker_deque owners.old.items) }
     ensures new { OnOk result (AreOwners (number + 1) owners.new.items) }
-    ensures ends { IfOk result (λ row. AreEnds number (map worker_deque owners.old.items) row.ends.items) }
+    ensures ends { IfOk result
+        (λ row. AreEnds number (map worker_deque owners.old.items) row.ends.items) }
 {
     let mut ends = Vec::with_capacity(alloc, owners.len())?;
     for k in 0..owners.len() {
@@ -166,9 +176,12 @@ fn ends_of(alloc: Global, owners: &mut Vec<Owner>, number: usize) -> Result<Row,
 /// The ends of all hands.
 fn rows_of(alloc: Global, owners: &mut Vec<Owner>) -> Result<Vec<Row>, Memory>
     requires new { AreOwners 0 owners.old.items }
-    ensures deques { OnOk result (map worker_deque owners.new.items ≡ map worker_deque owners.old.items) }
+    ensures deques { OnOk result
+        (map worker_deque owners.new.items ≡ map worker_deque owners.old.items) }
     ensures new { OnOk result (AreOwners (length owners.old.items) owners.new.items) }
-    ensures rows { IfOk result (λ rows. (length rows.items ≡ length owners.old.items) × AreRows (map worker_deque owners.old.items) rows.items) }
+    ensures rows { IfOk result
+        (λ rows. (length rows.items ≡ length owners.old.items)
+        × AreRows (map worker_deque owners.old.items) rows.items) }
 {
     let mut rows = Vec::with_capacity(alloc, owners.len())?;
     for number in 0..owners.len() {
@@ -183,7 +196,9 @@ fn hands_of(alloc: Global, owners: Vec<Owner>, rows: Vec<Row>) -> Result<Vec<Han
     requires length { length rows.items ≡ length owners.items }
     requires new { AreOwners (length owners.items) owners.items }
     requires rows { AreRows (map worker_deque owners.items) rows.items }
-    ensures { IfOk result (λ hands. AreFresh (record { deques = map worker_deque owners.items }) 0 (reverse hands.items)) }
+    ensures { IfOk result
+        (λ hands. AreFresh (record { deques = map worker_deque owners.items }) 0
+        (reverse hands.items)) }
 {
     let mut owners = owners;
     let mut rows = rows;

@@ -1,5 +1,5 @@
-//! Row 25 of the worked examples, rounds over deques that are made for the test, and threads that put and
-//! take side by side.
+//! Row 25 of the worked examples, rounds over deques that are made for the test, and threads that
+//! put and take side by side.
 
 ghost use Rattle.std.specs.Prelude.{◌≡◌, ◌<◌, IfOk, IfSome};
 ghost use Rattle.steal_pool.specs.Pool.{workers_of, IsHandOf, IsSameHand};
@@ -32,7 +32,8 @@ fn parse(key: u64) -> Name {
 fn two(alloc: Global) -> Result<Option<(Pool, Hand, Hand)>, Memory>
     ensures workers { IfOk result (λ found. IfSome found (λ r. workers_of r.0 ≡ 2)) }
     ensures hands { IfOk result (λ found. IfSome found (λ r. IsHandOf r.0 r.1 × IsHandOf r.0 r.2)) }
-    ensures numbers { IfOk result (λ found. IfSome found (λ r. (r.1.number ≡ 0) × (r.2.number ≡ 1))) }
+    ensures numbers { IfOk result
+        (λ found. IfSome found (λ r. (r.1.number ≡ 0) × (r.2.number ≡ 1))) }
 {
     let (pool, mut hands) = Pool::new(alloc, 2)?;
     let Some(zero) = hands.next() else {
@@ -64,8 +65,8 @@ fn marked(rt: &impl Abort, marks: &mut Vec<bool>, keys: &[u64]) {
     }
 }
 
-/// Puts names with keys from `first` on, takes one after every third, and then takes some more. Answers the
-/// keys of those taken.
+/// Puts names with keys from `first` on, takes one after every third, and then takes some more.
+/// Answers the keys of those taken.
 fn work<R: Wait>(rt: &R, pool: &Pool, hand: Hand, keys: Vec<u64>, first: u64) -> (Hand, Vec<u64>)
     requires { IsHandOf pool.now hand }
     ensures { IsSameHand hand result.0 }

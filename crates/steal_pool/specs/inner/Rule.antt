@@ -29,7 +29,8 @@ abbrev pub Kept : List Name → List Note → Type 0
 Kept items notes =
     (owner : ℕ) × (left : List Name)
     × ((weight : Name → ℕ) → taken_weight weight notes ≡ sum_by weight left)
-    × ((port : ℕ) (v : Note) → get_elem? notes port ≡ some v → Fits (parts_of notes) owner left items port v)
+    × ((port : ℕ) (v : Note) → get_elem? notes port ≡ some v
+    → Fits (parts_of notes) owner left items port v)
 
 -- The owner's pass has all parts, so that no other pass has taken anything.
 abbrev pub HasAll : Note → Type 0
@@ -37,4 +38,5 @@ HasAll v = (0 < v.whole) × (v.parts ≡ v.whole)
 
 -- The names xs were put next behind those that were taken.
 abbrev pub AreNext : Note → List Name → Type 0
-AreNext v xs = (left : List Name) × (rest : List Name) × (v.put ≡ left ++ (xs ++ rest)) × EachAsOften left v.taken
+AreNext v xs = (left : List Name) × (rest : List Name) × (v.put ≡ left ++ (xs ++ rest))
+    × EachAsOften left v.taken

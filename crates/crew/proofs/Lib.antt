@@ -1,0 +1,3 @@
+mod Ending
+mod Reasons
+mod GivenBack

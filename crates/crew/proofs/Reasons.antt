@@ -1,0 +1,16 @@
+-- Reasons for what a worker does, from what it knows.
+use Rattle.std.proofs.Common.{◌≡◌, ℕ, List, sym, subst}
+use Rattle.cfg_model.specs.Program.Instructions.{InstructionMap}
+use Rattle.cfg_model.specs.Builder.Event.{Event}
+use Rattle.cfg_model.specs.Builder.Fact.{Fact}
+use Rattle.cfg_model.specs.Builder.Reason.{Reason}
+use Rattle.split_laws.proofs.FactLaws.{reason_more}
+use Rattle.board.specs.Seat.{SeatState, Knows}
+use Rattle.crew.specs.inner.Desk.{KnowsSoundly}
+
+-- What is a reason by what the worker knows is one by what its seat knows.
+pub seat_reason : (map : InstructionMap) (seeds : List ℕ) (seat desk : SeatState) → seat ≡ desk → (event : Event)
+    → Reason map seeds (KnowsSoundly map seeds desk) event → Reason map seeds (Knows map seat) event
+seat_reason map seeds seat desk same event reason =
+    reason_more map seeds (KnowsSoundly map seeds desk) (Knows map seat)
+    (λ fact known. subst (λ (s : SeatState). Knows map s fact) (sym same) known.0) event reason

@@ -1,0 +1,99 @@
+//! The state that workers leave, and the closed state.
+
+ghost use Rattle.std.specs.Prelude.{◌≡◌, ◌≤◌, IfOk};
+ghost use Rattle.cfg_model.specs.Program.Reach.{AreSeeds};
+ghost use Rattle.cfg_model.specs.Builder.Kept.{IsKept, IsClosed};
+
+use crate::gate::Gate;
+use crate::hall::Hall;
+use crate::hands::dealt;
+use crate::team::employ_all;
+use board::Board;
+use cfg_model::Chains;
+use core_state::{Job, Memory, State};
+use std::alloc::Global;
+use std::marker::{Brand, Send, Sync};
+use std::sync::Wait;
+use std::thread::Threads;
+use steal_pool::Pool;
+use work_ops::finish;
+
+/// The state that `workers` workers leave who build the graph of the program `code` from `seeds`,
+/// each in a thread of its own. It is kept; whatever work is left in it, [`finish`] finds. Where a
+/// thread cannot be started, its worker works when another one has ended. It may wait, for workers
+/// and for their tries. [`Memory`] where memory ran out: where it ran out for a worker, that worker
+/// ends, and the state is what all have made of it.
+pub fn work<R: Threads + Wait + Sync, C: Chains, G: Gate>(
+    rt: &R,
+    alloc: Global,
+    code: &C,
+    seeds: &[u64],
+    workers: u32,
+    gate: &G,
+) -> Result<State, Memory>
+    requires least { 2 ≤ workers }
+    requires most { workers ≤ 64 }
+    requires seeds { AreSeeds (C.map code.now) seeds.now }
+    ensures kept { IfOk result (λ state. IsKept (C.map code.now) seeds.now state.maps) }
+    ensures changes { IfOk result (λ state. state.changes ≡ 0) }
+{
+    work_for::<Brand, R, C, G>(rt, alloc, code, seeds, workers, gate)
+}
+
+/// The closed state of the program `code` whose seeds are `seeds`, built by `workers` workers: what
+/// they leave is finished on the caller's thread. It may wait as [`work`] does. [`Memory`] where
+/// memory ran out.
+pub fn build<R: Threads + Wait + Sync, C: Chains, G: Gate>(
+    rt: &R,
+    alloc: Global,
+    code: &C,
+    seeds: &[u64],
+    workers: u32,
+    gate: &G,
+) -> Result<State, Memory>
+    requires least { 2 ≤ workers }
+    requires most { workers ≤ 64 }
+    requires seeds { AreSeeds (C.map code.now) seeds.now }
+    ensures closed { IfOk result (λ state. IsClosed (C.map code.now) seeds.now state.maps) }
+{
+    let mut state = work(rt, alloc, code, seeds, workers, gate)?;
+    finish(alloc, code, seeds, &mut state)?;
+    Ok(state)
+}
+
+/// The state that workers leave who work for `J`.
+fn work_for<J: Job + Send + Sync, R: Threads + Wait + Sync, C: Chains, G: Gate>(
+    rt: &R,
+    alloc: Global,
+    code: &C,
+    seeds: &[u64],
+    workers: u32,
+    gate: &G,
+) -> Result<State, Memory>
+    requires least { 2 ≤ workers }
+    requires most { workers ≤ 64 }
+    requires code { C.map code.now ≡ J.map }
+    requires job { seeds.now ≡ J.seeds }
+    requires seeds { AreSeeds J.map J.seeds }
+    ensures kept { IfOk result (λ state. IsKept J.map J.seeds state.maps) }
+    ensures changes { IfOk result (λ state. state.changes ≡ 0) }
+{
+    let Ok((pool, hands)) = Pool::new(alloc, workers) else {
+        return Err(Memory);
+    };
+    let hands = dealt(alloc, &pool, hands, seeds)?;
+    let (board, seat) = Board::<J>::new(alloc, code)?;
+    let hall = Hall {
+        rt,
+        board: &board,
+        pool: &pool,
+        code,
+        seeds,
+        gate,
+    };
+    let (seat, hands) = employ_all(alloc, &hall, seat, hands, 0)?;
+    let state = board.close(alloc, seat)?;
+    // The names that are left are not used: `finish` finds their work in the state.
+    let _ = pool.gather(alloc, hands);
+    Ok(state)
+}

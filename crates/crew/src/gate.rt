@@ -1,0 +1,18 @@
+//! A gate in front of each operation of a worker, by which a test holds workers.
+
+use core_state::WorkKind;
+use std::marker::Sync;
+
+/// What a worker passes before each operation.
+pub trait Gate: Sync {
+    /// Worker number `worker`, from 0, is about to do the work of this kind at the address `key`.
+    fn before(&self, worker: u32, kind: WorkKind, key: u64);
+}
+
+/// The gate that holds nobody.
+#[derive(Clone, Copy, Debug, PartialEq, Eq)]
+pub struct OpenGate;
+
+impl Gate for OpenGate {
+    fn before(&self, _worker: u32, _kind: WorkKind, _key: u64) {}
+}

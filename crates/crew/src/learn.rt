@@ -1,0 +1,155 @@
+//! Doing the work of a name, of which nothing is known but the name.
+
+ghost use Rattle.std.specs.Prelude.{◌≡◌, ◌≤◌, IfOk, IfErr, IfSome, IsTrue, IsSome};
+ghost use Rattle.cfg_model.specs.Program.Chain.{IsTerminator, IsTerminatorOf};
+ghost use Rattle.cfg_model.specs.Program.Instructions.{IsLawful};
+ghost use Rattle.cfg_model.specs.Program.Reach.{AreSeeds};
+ghost use Rattle.cfg_model.specs.Builder.Fact.{Fact};
+ghost use Rattle.work_ops.specs.Going.{RoseIfBusy};
+ghost use Rattle.crew.specs.inner.Desk.{KnowsSoundly, all_lost};
+
+use crate::desk::Desk;
+use crate::station::Station;
+use cfg_model::{Chains, Flow, term};
+use core_state::{Job, Name, Place, PlaceEnd, WorkKind};
+use work_ops::{edges_op, move_op, parse_op, tell_op, want_op};
+
+/// Does the work of a name. A name says nothing of the state, whoever put it: so the worker looks
+/// first whether there is such a seed, start or terminator, and where there is none it does
+/// nothing.
+///
+/// Where it followed a chain, it gives the terminator there, if it found that its edges have to be
+/// followed and keeps that name no more.
+pub(crate) fn do_named<J: Job, S: Station, C: Chains>(
+    desk: &mut Desk<J, S>,
+    code: &C,
+    seeds: &[u64],
+    name: Name,
+) -> Result<Option<u64>, PlaceEnd>
+    requires code { C.map code.now ≡ J.map }
+    requires job { seeds.now ≡ J.seeds }
+    requires seeds { AreSeeds J.map J.seeds }
+    ensures entered { IfOk result (λ k. IfSome k
+        (λ k. KnowsSoundly J.map J.seeds desk.new (Fact.Terminator k))) }
+    ensures busy { IfErr result (RoseIfBusy (all_lost desk.old) (all_lost desk.new)) }
+{
+    let key = name.key;
+    match name.kind {
+        WorkKind::Want => want_seed(desk, code, seeds, key)?,
+        WorkKind::Parse => return parse_start(desk, code, key),
+        WorkKind::Move => move_op::<J, Desk<J, S>, C>(desk, code, key)?,
+        WorkKind::Edges => follow_edges(desk, code, key)?,
+        WorkKind::Tell => tell_op::<J, Desk<J, S>, C>(desk, code, key)?,
+    }
+    Ok(None)
+}
+
+/// Makes `s` a start, where it is a seed.
+fn want_seed<J: Job, S: Station, C: Chains>(
+    desk: &mut Desk<J, S>,
+    code: &C,
+    seeds: &[u64],
+    s: u64,
+) -> Result<(), PlaceEnd>
+    requires code { C.map code.now ≡ J.map }
+    requires job { seeds.now ≡ J.seeds }
+    requires seeds { AreSeeds J.map J.seeds }
+    ensures busy { IfErr result (RoseIfBusy (all_lost desk.old) (all_lost desk.new)) }
+{
+    match seeds.binary_search(&s) {
+        Ok(_) => want_op::<J, Desk<J, S>, C>(desk, code, s),
+        Err(_) => Ok(()),
+    }
+}
+
+/// Follows the chain of `s` to its end, where `s` is a start. Gives the terminator, where the name
+/// of its edges was the last that it found and it does not remember to have followed them.
+fn parse_start<J: Job, S: Station, C: Chains>(
+    desk: &mut Desk<J, S>,
+    code: &C,
+    s: u64,
+) -> Result<Option<u64>, PlaceEnd>
+    requires code { C.map code.now ≡ J.map }
+    requires seeds { AreSeeds J.map J.seeds }
+    ensures entered { IfOk result (λ k. IfSome k
+        (λ k. KnowsSoundly J.map J.seeds desk.new (Fact.Terminator k))) }
+    ensures busy { IfErr result (RoseIfBusy (all_lost desk.old) (all_lost desk.new)) }
+{
+    if !code.has(s) || !<Desk<J, S> as Place<J>>::has_start(desk, s)? {
+        return Ok(None);
+    }
+    parse_op::<J, Desk<J, S>, C>(desk, code, s)?;
+    let k = end_of::<J, C>(code, s);
+    let name = Name {
+        kind: WorkKind::Edges,
+        key: k,
+    };
+    if desk.take_newest(name) && !desk.has_followed(k) {
+        Ok(Some(k))
+    } else {
+        Ok(None)
+    }
+}
+
+/// The terminator of the chain of `s`.
+fn end_of<J: Job, C: Chains>(code: &C, s: u64) -> u64
+    requires code { C.map code.now ≡ J.map }
+    requires stands { IsSome (J.map s) }
+    ensures { IsTerminatorOf J.map s result }
+{
+    term(code, s)
+}
+
+/// Follows the edges of `k`, where `k` is a terminator at which a block ends.
+fn follow_edges<J: Job, S: Station, C: Chains>(
+    desk: &mut Desk<J, S>,
+    code: &C,
+    k: u64,
+) -> Result<(), PlaceEnd>
+    requires code { C.map code.now ≡ J.map }
+    requires seeds { AreSeeds J.map J.seeds }
+    ensures busy { IfErr result (RoseIfBusy (all_lost desk.old) (all_lost desk.new)) }
+{
+    if !enters(desk, code, k)? {
+        return Ok(());
+    }
+    edges_op::<J, Desk<J, S>, C>(desk, code, k)
+}
+
+/// Whether `k` is a terminator at which a block ends. It is entered then: the start that is near
+/// there is one, since it stands there, and `k` ends its chain.
+fn enters<J: Job, S: Station, C: Chains>(
+    desk: &mut Desk<J, S>,
+    code: &C,
+    k: u64,
+) -> Result<bool, PlaceEnd>
+    requires code { C.map code.now ≡ J.map }
+    requires seeds { AreSeeds J.map J.seeds }
+    ensures entered { IfOk result
+        (λ entered. IsTrue entered → KnowsSoundly J.map J.seeds desk.new (Fact.Terminator k)) }
+    ensures busy { IfErr result (RoseIfBusy (all_lost desk.old) (all_lost desk.new)) }
+    ensures counted { all_lost desk.old ≤ all_lost desk.new }
+{
+    let Some(start) = <Desk<J, S> as Place<J>>::near(desk, k)? else {
+        return Ok(false);
+    };
+    if !ends_chain::<J, C>(code, k) {
+        return Ok(false);
+    }
+    want_op::<J, Desk<J, S>, C>(desk, code, start)?;
+    <Desk<J, S> as Place<J>>::term(desk, k)?;
+    Ok(true)
+}
+
+/// Whether `k` is a terminator.
+fn ends_chain<J: Job, C: Chains>(code: &C, k: u64) -> bool
+    requires code { C.map code.now ≡ J.map }
+    requires stands { IsSome (J.map k) }
+    ensures lawful { IsLawful J.map }
+    ensures ends { IsTrue result → IsTerminator J.map k }
+{
+    match code.flow(k) {
+        Flow::Straight { .. } => false,
+        _ => true,
+    }
+}

@@ -1,0 +1,27 @@
+//! Workers that build a control-flow graph side by side, each in a thread of its own.
+//!
+//! The state that they build lies on a board, whose shards each worker takes in turn, and the names
+//! of the work that is to be done lie in a pool, from which each worker takes. Which worker does
+//! what, and in which order, hangs on the threads. Whatever they do, the state is kept, and what
+//! they leave undone is done when they have ended: so the answer is always the one closed state.
+//!
+//! - [`work`], [`build`]: the state that workers leave, and the closed state.
+//! - [`Gate`]: what a worker passes before each operation, by which a test holds workers.
+#![tactic(auto)]
+
+mod closed;
+mod desk;
+mod followed;
+mod gate;
+mod hall;
+mod hands;
+mod learn;
+mod names;
+mod station;
+mod team;
+#[cfg(test)]
+mod tests;
+mod worker;
+
+pub use closed::{build, work};
+pub use gate::{Gate, OpenGate};

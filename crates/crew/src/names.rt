@@ -1,0 +1,77 @@
+//! The names of work that a worker found and keeps for itself.
+
+ghost use Rattle.steal_pool.specs.Pool.{IsSameHand};
+
+use core_state::Name;
+use std::alloc::Global;
+use std::collections::VecDeque;
+use std::mem;
+use steal_pool::Hand;
+
+/// How many names a worker keeps for itself. What it found before lies in its deque, where others
+/// take it too.
+const KEPT: usize = 64;
+
+/// The names that a worker found last. The newest is done first.
+#[derive(Drop)]
+pub(crate) struct Names {
+    names: VecDeque<Name>,
+}
+
+impl Names {
+    /// No names yet.
+    pub(crate) fn new(alloc: Global) -> Names {
+        Names {
+            names: VecDeque::new(alloc),
+        }
+    }
+
+    /// The newest name.
+    pub(crate) fn take(&mut self) -> Option<Name> {
+        self.names.pop_back()
+    }
+
+    /// Takes the newest name, where it is this one. Whether it was.
+    pub(crate) fn take_newest(&mut self, name: Name) -> bool {
+        if self.names.back() != Some(&name) {
+            return false;
+        }
+        self.names.pop_back();
+        true
+    }
+
+    /// Keeps a name. Where there are many already, the oldest goes into the deque of `hand`; where
+    /// that gives it back, or memory is missing, the new name is dropped, and its work is found
+    /// when all workers have ended.
+    pub(crate) fn keep(&mut self, hand: &mut Hand, name: Name)
+        ensures { IsSameHand hand.old hand.new }
+    {
+        if self.names.len() >= KEPT && !self.pass_on(hand) {
+            return;
+        }
+        let _ = self.names.push_back(name);
+    }
+
+    /// Puts the oldest name into the deque. Whether there is room for another now.
+    fn pass_on(&mut self, hand: &mut Hand) -> bool
+        ensures { IsSameHand hand.old hand.new }
+    {
+        let Some(oldest) = self.names.front() else {
+            return true;
+        };
+        if hand.put(*oldest).is_err() {
+            return false;
+        }
+        self.names.pop_front();
+        true
+    }
+
+    /// Puts a name aside for the newest one, which takes its place. Where there is no other, it
+    /// comes back.
+    pub(crate) fn swap(&mut self, name: Name) -> Name {
+        match self.names.back_mut() {
+            Some(newest) => mem::replace(newest, name),
+            None => name,
+        }
+    }
+}
