@@ -10,7 +10,7 @@ ghost use Rattle.finaliser.specs.Inner.Shown.{IsShownBlock, IsShownEdge, StartAp
 use crate::blocks::by_start;
 use crate::edges::add_ways;
 use crate::memory::Memory;
-use cfg_model::{Block, Blocks, Chains, Edge, Edges, block_of, edges_in_order};
+use cfg_model::{Block, Blocks, Chains, Edge, Edges, block_by, edges_in_order};
 use core_state::State;
 use std::alloc::Global;
 
@@ -20,17 +20,17 @@ use std::alloc::Global;
 pub struct Outline {
     /// The blocks, by where they start.
     pub blocks: Blocks,
-    /// The edges, by the start of the block that they leave, then of the block that they enter, then by
-    /// kind.
+    /// The edges, by the start of the block that they leave, then of the block that they enter,
+    /// then by kind.
     pub edges: Edges,
 }
 
 /// The basic blocks of the program `code`, and the edges between them, from the closed state of its
-/// builder alone: neither the seeds nor anything else that is reached is looked at. [`Memory`] where
-/// memory ran out.
+/// builder alone: neither the seeds nor anything else that is reached is looked at. [`Memory`]
+/// where memory ran out.
 ///
-/// It goes once over the ends of the state and looks at the last instruction of each block, and at the
-/// chain of each call's target. The rest of the time goes into sorting.
+/// It goes once over the ends of the state and looks at the last instruction of each block, and at
+/// the chain of each call's target. The rest of the time goes into sorting.
 pub fn blocks_and_edges<C: Chains>(
     alloc: Global,
     code: &C,
@@ -46,26 +46,30 @@ pub fn blocks_and_edges<C: Chains>(
     })
 }
 
-/// The blocks that end at the ends of the state, in the order of these, and the edges from there. An edge
-/// may stand there more than once.
+/// The blocks that end at the ends of the state, in the order of these, and the edges from there.
+/// An edge may stand there more than once.
 fn read_ends<C: Chains>(
     alloc: Global,
     code: &C,
     state: &State,
 ) -> Result<(Vec<Block>, Vec<Edge>), Memory>
     requires closed { IsClosedFromSome (C.map code.now) state.now.maps }
-    ensures lawful { IfOk result (λ _. IsLawful (C.map code.now) ⊎ ((k : ℕ) → ¬ HasEnd state.now.maps.ends k)) }
-    ensures blocks { IfOk result (λ o. Gains [] o.0.items (IsShownBlock (C.map code.now) state.now.maps)) }
+    ensures lawful { IfOk result
+        (λ _. IsLawful (C.map code.now) ⊎ ((k : ℕ) → ¬ HasEnd state.now.maps.ends k)) }
+    ensures blocks { IfOk result
+        (λ o. Gains [] o.0.items (IsShownBlock (C.map code.now) state.now.maps)) }
     ensures apart { IfOk result (λ o. AllPairs StartApart o.0.items) }
-    ensures edges { IfOk result (λ o. Gains [] o.1.items (IsShownEdge (C.map code.now) state.now.maps)) }
+    ensures edges { IfOk result
+        (λ o. Gains [] o.1.items (IsShownEdge (C.map code.now) state.now.maps)) }
 {
     let mut blocks = Vec::new(alloc);
     let mut edges = Vec::new(alloc);
     let mut at = None;
     while let Some(k) = state.end_after(at) {
         let s = start_at(state, k);
-        add_ways(code, state, s, k, &mut edges)?;
-        blocks.push(block_of(code, s, k))?;
+        let flow = code.flow(k);
+        add_ways(code, state, s, k, flow, &mut edges)?;
+        blocks.push(block_by(code, s, k, flow))?;
         at = Some(k);
     }
     Ok((blocks, edges))

@@ -41,7 +41,8 @@ fn branch_back(rt: HostRuntime) -> Result<(), Fail> {
         edge(4, 4, EdgeKind::Taken),
         edge(4, 12, EdgeKind::Fall),
     ];
-    expect(&rt, &outline_of(rt.alloc(), &row_6())?, &blocks, &edges);
+    let code = row_6(rt.alloc());
+    expect(&rt, &outline_of(rt.alloc(), &code)?, &blocks, &edges);
     Ok(())
 }
 
@@ -60,7 +61,8 @@ fn two_streams(rt: HostRuntime) -> Result<(), Fail> {
         edge(4, 2, EdgeKind::Taken),
         edge(4, 8, EdgeKind::Fall),
     ];
-    expect(&rt, &outline_of(rt.alloc(), &row_8())?, &blocks, &edges);
+    let code = row_8(rt.alloc());
+    expect(&rt, &outline_of(rt.alloc(), &code)?, &blocks, &edges);
     Ok(())
 }
 
@@ -69,7 +71,8 @@ fn two_streams(rt: HostRuntime) -> Result<(), Fail> {
 fn endless_recursion(rt: HostRuntime) -> Result<(), Fail> {
     let blocks = [block(0, 4, EndKind::Call)];
     let edges = [edge(0, 0, EdgeKind::Call)];
-    expect(&rt, &outline_of(rt.alloc(), &row_9())?, &blocks, &edges);
+    let code = row_9(rt.alloc());
+    expect(&rt, &outline_of(rt.alloc(), &code)?, &blocks, &edges);
     Ok(())
 }
 
@@ -91,7 +94,8 @@ fn mutual_recursion(rt: HostRuntime) -> Result<(), Fail> {
         edge(12, 0, EdgeKind::Call),
         edge(12, 16, EdgeKind::After),
     ];
-    expect(&rt, &outline_of(rt.alloc(), &row_10())?, &blocks, &edges);
+    let code = row_10(rt.alloc());
+    expect(&rt, &outline_of(rt.alloc(), &code)?, &blocks, &edges);
     Ok(())
 }
 
@@ -104,11 +108,7 @@ fn kept_twice(rt: HostRuntime) -> Result<(), Fail> {
         block(4, 6, EndKind::Stop),
     ];
     let edges = [edge(0, 2, EdgeKind::Table), edge(0, 4, EdgeKind::Table)];
-    expect(
-        &rt,
-        &outline_of(rt.alloc(), &table_jump())?,
-        &blocks,
-        &edges,
-    );
+    let code = table_jump(rt.alloc());
+    expect(&rt, &outline_of(rt.alloc(), &code)?, &blocks, &edges);
     Ok(())
 }

@@ -72,8 +72,8 @@ module _ (map : InstructionMap) (seeds : List ℕ) where
   leads_on r stops (LeadsTo.after_indirect {k = k} {to = to} h) =
       target_leads map seeds k to r (subst EndsChain (sym h) tt) (IsTarget.onward (successor_by map k to (IndirectCall (Some to)) h (Contains-here to [])))
   leads_on r stops (LeadsTo.after_call h back) = record { reached = Reached.past_call r h back; starts = StartsBlock.past_call r h back }
-  leads_on r stops (LeadsTo.table {k = k} {to = to} {entries = entries} {full = full} h c) =
-      target_leads map seeds k to r (subst EndsChain (sym h) tt) (IsTarget.onward (successor_by map k to (Table entries full) h c))
+  leads_on r stops (LeadsTo.table {k = k} {to = to} {entries = entries} {full = full} {is_open = is_open} h c) =
+      target_leads map seeds k to r (subst EndsChain (sym h) tt) (IsTarget.onward (successor_by map k to (Table entries full is_open) h c))
 
   pub edge_leads : (edge : Edge) → IsEdge map seeds edge → IsLeader map seeds edge.to
   edge_leads edge is = leads_on (reached_along is.from.reached is.ends.runs) is.ends.stops is.leads

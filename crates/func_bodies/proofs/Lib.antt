@@ -12,3 +12,4 @@ pub mod Together
 pub mod BlocksListed
 pub mod Whole
 pub mod Parts
+pub mod Joining

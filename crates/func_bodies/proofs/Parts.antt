@@ -6,25 +6,17 @@ use Rattle.cfg_model.specs.declared.graph.Block.{Block}
 use Rattle.cfg_model.specs.declared.graph.Edge.{Edge}
 use Rattle.cfg_model.specs.declared.graph.Function.{Function}
 use Rattle.cfg_model.specs.Program.Instructions.{InstructionMap, IsLawful}
-use Rattle.cfg_model.specs.Graph.Function.{IsFunction}
-use Rattle.cfg_model.specs.Graph.Graph.{FunctionBefore, IsOutline}
+use Rattle.cfg_model.specs.Graph.Graph.{IsOutline}
 use Rattle.cfg_model.specs.Builder.Kept.{IsClosed}
 use Rattle.cfg_model.specs.Graph.Leader.{IsLeader}
-use Rattle.cfg_model.specs.Graph.Listing.{Lists}
 use Rattle.cfg_model.specs.Builder.State.{BuilderState, IsStart}
 use Rattle.func_bodies.specs.declared.ways.Way.{Way}
-use Rattle.func_bodies.specs.Listed.{AreOrdered, HaveEachEntry}
 use Rattle.func_bodies.specs.Inner.Entries.{AreEntriesBy}
 use Rattle.func_bodies.specs.Inner.Ways.{HasBlockAt, JoinsBlocks, AreWaysOf}
 use Rattle.func_bodies.specs.Inner.Bodies.{IsFunctionBy}
+use Rattle.func_bodies.specs.Inner.Plans.{AreAll}
 use Rattle.func_bodies.proofs.BlocksListed.{edge_joins, entry_leads, leader_listed, leader_starts}
 use Rattle.func_bodies.proofs.Whole.{entry_exact, functions_exact, each_entry, functions_ordered}
-
--- these are all functions of the program
-pub record AreAll (map : InstructionMap) (seeds : List ℕ) (functions : List Function) : Type 0 where
-  pub exact : Lists FunctionBefore (IsFunction map seeds) functions
-  pub complete : HaveEachEntry map seeds functions
-  pub ordered : AreOrdered functions
 
 pub same_outline : (map : InstructionMap) (seeds : List ℕ) (blocks shown : List Block) (edges ways : List Edge) → blocks ≡ shown → edges ≡ ways → IsOutline map seeds shown ways → IsOutline map seeds blocks edges
 same_outline map seeds blocks shown edges ways b e outline =

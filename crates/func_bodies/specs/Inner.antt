@@ -4,3 +4,5 @@ pub mod Ways
 pub mod Found
 pub mod Bodies
 pub mod Marking
+pub mod Plans
+pub mod Parts

@@ -29,8 +29,8 @@ pub record AreMarksOf (functions : List Function) (old new : List Edge) : Type 0
   pub marked : (k : ℕ) (d : Edge) → k < length old
       → IsMarkOf functions (slice_index_or old k d) (slice_index_or new k d)
 
--- Where these are all functions of a program, and the old edges all its edges, the new ones complete
--- its graph.
+-- Where these are all functions of a program, and the old edges all its edges, the new ones
+-- complete its graph.
 abbrev pub CompleteGraphs : List Function → List Edge → List Edge → Type 0
 CompleteGraphs functions old new =
     (map : InstructionMap) (seeds : List ℕ) (entry : ℕ) (blocks : List Block)

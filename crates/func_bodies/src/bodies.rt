@@ -1,7 +1,8 @@
 //! The body of a function: the blocks that its entry leads to without a call and without entering
 //! another function.
 
-ghost use Rattle.std.specs.Prelude.{◌≡◌, ◌↔◌, ℕ, ◌<◌, ◌≤◌, All, AllPairs, Contains, IfOk, OnOk, IsTrue, length};
+ghost use Rattle.std.specs.Prelude.{◌≡◌, ◌↔◌, ℕ, ◌<◌, ◌≤◌, All, AllPairs};
+ghost use Rattle.std.specs.Prelude.{Contains, IfOk, OnOk, IsTrue, length};
 ghost use Rattle.std.specs.List.{AllZip};
 ghost use Rattle.std.specs.List.Sorted.{IsNonDecreasingBy};
 ghost use Rattle.cfg_model.specs.Graph.Listing.{Extends};
@@ -16,15 +17,15 @@ use crate::ways::{Way, ways_from};
 use cfg_model::Block;
 use std::alloc::Global;
 
-/// The starts of the blocks of the function that starts at block `entry`, rising. Its stamp is above
-/// all that were used before. The time is linear in the ways from these blocks, but for a search among
-/// all ways at each block, and for sorting them.
+/// The starts of the blocks of the function that starts at block `entry`, rising. Its stamp is
+/// above all that were used before. The time is linear in the ways from these blocks, but for a
+/// search among all ways at each block, and for sorting them.
 pub(crate) fn body_of(
     alloc: Global,
     blocks: &[Block],
     ways: &[Way],
     entry: usize,
-    stamp: usize,
+    stamp: u32,
     found: &mut Found,
 ) -> Result<Vec<u64>, Memory>
     requires blocks { AllPairs BlockBefore blocks.now }
@@ -55,13 +56,14 @@ fn starts_of(alloc: Global, blocks: &[Block], numbers: &[usize]) -> Result<Vec<u
 }
 
 /// Finds the blocks of the function that starts at block `entry`.
-fn find(ways: &[Way], entry: usize, stamp: usize, found: &mut Found) -> Result<(), Memory>
+fn find(ways: &[Way], entry: usize, stamp: u32, found: &mut Found) -> Result<(), Memory>
     requires rising { IsNonDecreasingBy (λ way. way.from) ways.now }
     requires within { All (λ way. way.to < length found.old.stamps.items) ways.now }
     requires entry { entry < length found.old.stamps.items }
     requires new { All (λ s. s < stamp) found.old.stamps.items }
     ensures stamped { OnOk result (AreStamped stamp found.new.order.items found.new.stamps.items) }
-    ensures exact { OnOk result ((i : ℕ) → Contains found.new.order.items i ↔ InBodyBy ways.now entry i) }
+    ensures exact { OnOk result ((i : ℕ) → Contains found.new.order.items i
+        ↔ InBodyBy ways.now entry i) }
     ensures as_many { OnOk result (length found.new.stamps.items ≡ length found.old.stamps.items) }
 {
     found.begin(stamp, entry)?;
@@ -75,11 +77,12 @@ fn find(ways: &[Way], entry: usize, stamp: usize, found: &mut Found) -> Result<(
 }
 
 /// Adds where these ways lead to, if they stay in the function.
-fn add_targets(ways: &[Way], entry: usize, stamp: usize, found: &mut Found) -> Result<(), Memory>
+fn add_targets(ways: &[Way], entry: usize, stamp: u32, found: &mut Found) -> Result<(), Memory>
     requires within { All (λ way. way.to < length found.old.stamps.items) ways.now }
     requires stamped { AreStamped stamp found.old.order.items found.old.stamps.items }
     ensures stamped { OnOk result (AreStamped stamp found.new.order.items found.new.stamps.items) }
-    ensures adds { OnOk result (Extends found.old.order.items found.new.order.items (StaysAmong ways.now entry)) }
+    ensures adds { OnOk result
+        (Extends found.old.order.items found.new.order.items (StaysAmong ways.now entry)) }
     ensures as_many { OnOk result (length found.new.stamps.items ≡ length found.old.stamps.items) }
 {
     for way in ways {
@@ -89,11 +92,12 @@ fn add_targets(ways: &[Way], entry: usize, stamp: usize, found: &mut Found) -> R
 }
 
 /// Adds where this way leads to, if it stays in the function.
-fn add_target(way: Way, entry: usize, stamp: usize, found: &mut Found) -> Result<(), Memory>
+fn add_target(way: Way, entry: usize, stamp: u32, found: &mut Found) -> Result<(), Memory>
     requires within { way.to < length found.old.stamps.items }
     requires stamped { AreStamped stamp found.old.order.items found.old.stamps.items }
     ensures stamped { OnOk result (AreStamped stamp found.new.order.items found.new.stamps.items) }
-    ensures adds { OnOk result (Extends found.old.order.items found.new.order.items (StaysTo entry way)) }
+    ensures adds { OnOk result
+        (Extends found.old.order.items found.new.order.items (StaysTo entry way)) }
     ensures as_many { length found.new.stamps.items ≡ length found.old.stamps.items }
 {
     if stays(way, entry) {

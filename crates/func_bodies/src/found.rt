@@ -7,14 +7,14 @@ ghost use Rattle.func_bodies.specs.Inner.Found.{AreStamped};
 use crate::memory::Memory;
 use std::alloc::Global;
 
-/// The blocks found, by their places in the list of all blocks. What is noted of each block is never
-/// cleared: a later function has a greater stamp.
+/// The blocks found, by their places in the list of all blocks. What is noted of each block, in
+/// four bytes, is never cleared: a later function has a greater stamp.
 #[derive(Drop)]
 pub(crate) struct Found {
     /// The blocks of the function at hand, in the order found.
     pub(crate) order: Vec<usize>,
     /// For each block, the stamp of the last function that it was found for; 0 where there is none.
-    pub(crate) stamps: Vec<usize>,
+    pub(crate) stamps: Vec<u32>,
 }
 
 impl Found {
@@ -29,10 +29,11 @@ impl Found {
     }
 
     /// Begins with another function: its first block alone is found.
-    pub(crate) fn begin(&mut self, stamp: usize, block: usize) -> Result<(), Memory>
+    pub(crate) fn begin(&mut self, stamp: u32, block: usize) -> Result<(), Memory>
         requires new { All (λ s. s < stamp) self.old.stamps.items }
         requires within { block < length self.old.stamps.items }
-        ensures stamped { OnOk result (AreStamped stamp self.new.order.items self.new.stamps.items) }
+        ensures stamped { OnOk result
+            (AreStamped stamp self.new.order.items self.new.stamps.items) }
         ensures one { OnOk result (self.new.order.items ≡ block ∷ []) }
         ensures as_many { length self.new.stamps.items ≡ length self.old.stamps.items }
     {
@@ -43,11 +44,13 @@ impl Found {
     }
 
     /// Adds a block, unless it is there.
-    pub(crate) fn add(&mut self, stamp: usize, block: usize) -> Result<(), Memory>
+    pub(crate) fn add(&mut self, stamp: u32, block: usize) -> Result<(), Memory>
         requires stamped { AreStamped stamp self.old.order.items self.old.stamps.items }
         requires within { block < length self.old.stamps.items }
-        ensures stamped { OnOk result (AreStamped stamp self.new.order.items self.new.stamps.items) }
-        ensures adds { OnOk result (Extends self.old.order.items self.new.order.items (λ b. b ≡ block)) }
+        ensures stamped { OnOk result
+            (AreStamped stamp self.new.order.items self.new.stamps.items) }
+        ensures adds { OnOk result (Extends self.old.order.items self.new.order.items
+            (λ b. b ≡ block)) }
         ensures as_many { length self.new.stamps.items ≡ length self.old.stamps.items }
     {
         if self.stamps[block] != stamp {

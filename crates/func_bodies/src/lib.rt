@@ -2,6 +2,7 @@
 //! builder and the blocks and edges that were read off it.
 //!
 //! - [`listing`]: the functions, in the order of their entries.
+//! - [`sharing`]: the same, made by several threads.
 //! - [`tails`]: tail calls among the edges.
 //! - [`memory`]: the one free answer, want of memory.
 #![tactic(auto)]
@@ -11,6 +12,7 @@ mod entries;
 mod found;
 pub mod listing;
 pub mod memory;
+pub mod sharing;
 pub mod tails;
 #[cfg(test)]
 mod tests;
@@ -18,4 +20,5 @@ mod ways;
 
 pub use listing::functions;
 pub use memory::Memory;
+pub use sharing::{MOST_WORKERS, functions_by};
 pub use tails::mark_tails;

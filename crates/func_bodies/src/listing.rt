@@ -8,11 +8,10 @@ ghost use Rattle.cfg_model.specs.Graph.Function.{IsFunction};
 ghost use Rattle.cfg_model.specs.Graph.Graph.{BlockBefore, FunctionBefore};
 ghost use Rattle.cfg_model.specs.Builder.Kept.{IsClosed};
 ghost use Rattle.cfg_model.specs.Graph.Listing.{Lists};
-ghost use Rattle.cfg_model.specs.Builder.State.{IsStart};
-ghost use Rattle.finaliser.specs.Closed.{IsClosedFromSome, IsOutlineOf};
+ghost use Rattle.finaliser.specs.Closed.{IsOutlineOf};
 ghost use Rattle.func_bodies.specs.Listed.{AreOrdered, HaveEachEntry};
-ghost use Rattle.func_bodies.specs.Inner.Ways.{HasBlockAt};
 ghost use Rattle.func_bodies.specs.Inner.Bodies.{IsFunctionBy};
+ghost use Rattle.func_bodies.specs.Inner.Plans.{Serves, MakesAll};
 
 use crate::bodies::body_of;
 use crate::entries::entries_of;
@@ -24,14 +23,14 @@ use core_state::State;
 use finaliser::{Outline, may_return};
 use std::alloc::Global;
 
-/// The functions of the program `code` whose seeds are `seeds`, in the order of their entries, from the
-/// closed state of its builder and its outline: exactly the seeds and the targets of reached calls. A
-/// function may return exactly where its entry does, and its body rises. [`Memory`] where memory ran
-/// out.
+/// The functions of the program `code` whose seeds are `seeds`, in the order of their entries, from
+/// the closed state of its builder and its outline: exactly the seeds and the targets of reached
+/// calls. A function may return exactly where its entry does, and its body rises. [`Memory`] where
+/// memory ran out.
 ///
-/// The time of a body is that of the edges from its blocks but for searches and sorting: a block that
-/// functions share is looked at once for each of them. What is made of the blocks and edges for all
-/// functions together takes one pass over them.
+/// The time of a body is that of the edges from its blocks but for searches and sorting: a block
+/// that functions share is looked at once for each of them. What is made of the blocks and edges
+/// for all functions together takes one pass over them.
 pub fn functions<C: Chains>(
     alloc: Global,
     code: &C,
@@ -45,13 +44,45 @@ pub fn functions<C: Chains>(
     ensures complete { IfOk result (HaveEachEntry (C.map code.now) seeds.now) }
     ensures ordered { IfOk result AreOrdered }
 {
+    let blocks = outline.blocks.as_slice();
+    let plan = plan_of(alloc, code, seeds, state, outline)?;
+    let functions = functions_at(alloc, code, state, blocks, &plan.ways, &plan.entries)?;
+    Ok(Functions::from_vec(functions))
+}
+
+/// What is made of the blocks and edges for all functions together.
+#[derive(Drop)]
+pub(crate) struct Plan {
+    /// The entries of the functions, rising.
+    pub(crate) entries: Vec<u64>,
+    /// The ways between blocks, by the block that they leave.
+    pub(crate) ways: Vec<Way>,
+}
+
+/// The entries of the functions, and the ways between blocks: who makes a function of each entry
+/// has all functions of the program.
+pub(crate) fn plan_of<C: Chains>(
+    alloc: Global,
+    code: &C,
+    seeds: &[u64],
+    state: &State,
+    outline: &Outline,
+) -> Result<Plan, Memory>
+    requires closed { IsClosed (C.map code.now) seeds.now state.now.maps }
+    requires outline { IsOutlineOf (C.map code.now) state.now.maps outline.now }
+    ensures serves { IfOk result
+        (λ plan. Serves (C.map code.now) state.now.maps outline.now.blocks plan.ways.items
+        plan.entries.items) }
+    ensures makes { IfOk result
+        (λ plan. MakesAll (C.map code.now) seeds.now outline.now.blocks plan.ways.items
+        plan.entries.items) }
+{
     know_laws(code);
     let blocks = outline.blocks.as_slice();
     let edges = outline.edges.as_slice();
     let entries = entries_of(alloc, edges, seeds)?;
     let ways = ways_of(alloc, blocks, edges, &entries)?;
-    let functions = functions_at(alloc, code, state, blocks, &ways, &entries)?;
-    Ok(Functions::from_vec(functions))
+    Ok(Plan { entries, ways })
 }
 
 /// Each answer of a program shows its laws, so this asks it for one.
@@ -61,8 +92,9 @@ fn know_laws<C: Chains>(code: &C)
     let _ = code.has(0);
 }
 
-/// The functions of these entries, in the same order.
-fn functions_at<C: Chains>(
+/// The functions of these entries, in the same order. [`Memory`] too where there are 2^32 - 1
+/// entries or more, whose functions alone take more than 160 GiB.
+pub(crate) fn functions_at<C: Chains>(
     alloc: Global,
     code: &C,
     state: &State,
@@ -70,20 +102,19 @@ fn functions_at<C: Chains>(
     ways: &[Way],
     entries: &[u64],
 ) -> Result<Vec<Function>, Memory>
-    requires closed { IsClosedFromSome (C.map code.now) state.now.maps }
-    requires starts { All (IsStart state.now.maps.starts) entries.now }
-    requires blocks { AllPairs BlockBefore blocks.now }
-    requires entries { All (HasBlockAt blocks.now) entries.now }
-    requires rising { IsNonDecreasingBy (λ way. way.from) ways.now }
-    requires within { All (λ way. way.to < length blocks.now) ways.now }
-    ensures { IfOk result (λ v. AllZip (IsFunctionBy (C.map code.now) blocks.now ways.now) entries.now v.items) }
+    requires { Serves (C.map code.now) state.now.maps blocks.now ways.now entries.now }
+    ensures { IfOk result
+        (λ v. AllZip (IsFunctionBy (C.map code.now) blocks.now ways.now) entries.now v.items) }
 {
+    if entries.len() >= u32::MAX as usize {
+        return Err(Memory);
+    }
     let mut found = Found::new(alloc, blocks.len())?;
     let mut functions = Vec::with_capacity(alloc, entries.len())?;
     for (i, &entry) in entries.iter().enumerate() {
         let returns = may_return(code, state, entry);
         let number = number_of(blocks, entry);
-        let body = body_of(alloc, blocks, ways, number, i + 1, &mut found)?;
+        let body = body_of(alloc, blocks, ways, number, i as u32 + 1, &mut found)?;
         functions.push(Function {
             entry,
             returns,

@@ -1,6 +1,6 @@
 //! Worked programs, from the closed states that one thread builds.
 
-use crate::{functions, mark_tails};
+use crate::{functions, functions_by, mark_tails};
 use alone::build_alone;
 use cfg_model::{Edge, EdgeKind, Edges, Function, Functions};
 use finaliser::blocks_and_edges;
@@ -40,7 +40,7 @@ fn edge(from: u64, to: u64, kind: EdgeKind) -> Edge {
 #[test]
 fn one_function(rt: HostRuntime) -> Result<(), Fail> {
     let wanted: [Wanted; 1] = [(0, true, &[0, 2, 4, 8])];
-    let (functions, _) = marked(rt.alloc(), &row_8())?;
+    let (functions, _) = marked(rt.alloc(), &row_8(rt.alloc()))?;
     expect(&rt, functions.as_slice(), &wanted);
     Ok(())
 }
@@ -49,7 +49,7 @@ fn one_function(rt: HostRuntime) -> Result<(), Fail> {
 #[test]
 fn endless_recursion(rt: HostRuntime) -> Result<(), Fail> {
     let wanted: [Wanted; 1] = [(0, false, &[0])];
-    let (functions, _) = marked(rt.alloc(), &row_9())?;
+    let (functions, _) = marked(rt.alloc(), &row_9(rt.alloc()))?;
     expect(&rt, functions.as_slice(), &wanted);
     Ok(())
 }
@@ -58,7 +58,7 @@ fn endless_recursion(rt: HostRuntime) -> Result<(), Fail> {
 #[test]
 fn mutual_recursion(rt: HostRuntime) -> Result<(), Fail> {
     let wanted: [Wanted; 2] = [(0, true, &[0, 4, 8]), (12, true, &[12, 16])];
-    let (functions, _) = marked(rt.alloc(), &row_10())?;
+    let (functions, _) = marked(rt.alloc(), &row_10(rt.alloc()))?;
     expect(&rt, functions.as_slice(), &wanted);
     Ok(())
 }
@@ -68,19 +68,19 @@ fn mutual_recursion(rt: HostRuntime) -> Result<(), Fail> {
 #[test]
 fn cut_off_branch(rt: HostRuntime) -> Result<(), Fail> {
     let wanted: [Wanted; 1] = [(0, true, &[0, 4])];
-    let (functions, edges) = marked(rt.alloc(), &row_12())?;
+    let (functions, edges) = marked(rt.alloc(), &row_12(rt.alloc()))?;
     expect(&rt, functions.as_slice(), &wanted);
     let kinds = [edge(0, 4, EdgeKind::Fall), edge(4, 4, EdgeKind::Jump)];
     assert_eq!(rt; edges.as_slice(), kinds.as_slice());
     Ok(())
 }
 
-/// Row 17: a jump to the entry of its own function stays a jump, and one from another function is a tail
-/// call, which does not lead into the body.
+/// Row 17: a jump to the entry of its own function stays a jump, and one from another function is a
+/// tail call, which does not lead into the body.
 #[test]
 fn tail_call(rt: HostRuntime) -> Result<(), Fail> {
     let wanted: [Wanted; 2] = [(0, true, &[0, 4, 8]), (12, true, &[12])];
-    let (functions, edges) = marked(rt.alloc(), &row_17())?;
+    let (functions, edges) = marked(rt.alloc(), &row_17(rt.alloc()))?;
     expect(&rt, functions.as_slice(), &wanted);
     let kinds = [
         edge(0, 4, EdgeKind::Fall),
@@ -89,5 +89,27 @@ fn tail_call(rt: HostRuntime) -> Result<(), Fail> {
         edge(12, 0, EdgeKind::Tail),
     ];
     assert_eq!(rt; edges.as_slice(), kinds.as_slice());
+    Ok(())
+}
+
+/// Two, three and 64 workers give what one does.
+#[test]
+fn more_workers(rt: HostRuntime) -> Result<(), Fail> {
+    let alloc = rt.alloc();
+    for code in [row_8(alloc), row_10(alloc), row_17(alloc)] {
+        let seeds = code.seeds();
+        let state = build_alone(alloc, &code, seeds)?;
+        let outline = blocks_and_edges(alloc, &code, &state)?;
+        let alone = functions(alloc, &code, seeds, &state, &outline)?;
+        for workers in [1, 2, 3, 64] {
+            let made = functions_by(&rt, alloc, &code, seeds, &state, &outline, workers)?;
+            assert_eq!(rt; made.as_slice().len(), alone.as_slice().len());
+            for (one, other) in made.as_slice().iter().zip(alone.as_slice()) {
+                assert_eq!(rt; one.entry, other.entry);
+                assert_eq!(rt; one.returns, other.returns);
+                assert_eq!(rt; one.body.as_slice(), other.body.as_slice());
+            }
+        }
+    }
     Ok(())
 }

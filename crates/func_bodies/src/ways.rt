@@ -20,8 +20,8 @@ pub(crate) struct Way {
     pub(crate) enters: bool,
 }
 
-/// The ways of these edges, by the block that they leave. It takes time linear in the edges but for a
-/// search among the blocks and the entries at each.
+/// The ways of these edges, by the block that they leave. It takes time linear in the edges but for
+/// a search among the blocks and the entries at each.
 pub(crate) fn ways_of(
     alloc: Global,
     blocks: &[Block],

@@ -29,7 +29,8 @@ fn onward<C: Chains>(code: &C, leaders: &[u64], k: u64) -> Option<u64>
     requires has { IsSome (C.map code.now k) }
     requires rising { IsStrictlyIncreasing leaders.now }
     ensures lawful { IsLawful (C.map code.now) }
-    ensures onward { IfSome result (λ next. GoesOnTo (C.map code.now) k next × (¬ Contains leaders.now next)) }
+    ensures onward { IfSome result
+        (λ next. GoesOnTo (C.map code.now) k next × (¬ Contains leaders.now next)) }
     ensures ends { IfNone result (IsStop (C.map code.now) (Contains leaders.now) k) }
 {
     match code.flow(k) {

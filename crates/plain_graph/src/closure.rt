@@ -5,13 +5,16 @@
 //! ones are those known so far; [`mark`] looks for further returning ones among them. A round that
 //! marks nothing is the last.
 
-ghost use Rattle.std.specs.Prelude.{◌≡◌, ◌↔◌, ◌⊎◌, ◌<◌, [], ◌∷◌, ℕ, ◌^◌, IfOk, OnOk, IsTrue, Contains, length, option_to_list, IsSome};
+ghost use Rattle.std.specs.Prelude.{◌≡◌, ◌↔◌, ◌⊎◌, ◌<◌, [], ◌∷◌, ℕ, ◌^◌, IfOk, OnOk};
+ghost use Rattle.std.specs.Prelude.{IsTrue, Contains, length, option_to_list, IsSome};
 ghost use Rattle.std.specs.List.Sorted.{IsStrictlyIncreasing};
 ghost use Rattle.std.specs.BTreeSet.{btree_set_len};
 ghost use Rattle.cfg_model.specs.Program.Instructions.{IsLawful, targets_at};
 ghost use Rattle.cfg_model.specs.Program.Reach.{AreSeeds};
 ghost use Rattle.plain_graph.specs.Inner.Closure.{IsClosure};
-ghost use Rattle.plain_graph.specs.Inner.Rounds.{ReturnsBy, Meet, IsWithin, HaveSame, Adds, Follows, AreKnown, AreReached, AreReturning, IsClosedUnder, AreAllLearnt, Learns};
+ghost use Rattle.plain_graph.specs.Inner.Rounds.{ReturnsBy, Meet, IsWithin, HaveSame, Adds};
+ghost use Rattle.plain_graph.specs.Inner.Rounds.{Follows, AreKnown, AreReached, AreReturning};
+ghost use Rattle.plain_graph.specs.Inner.Rounds.{IsClosedUnder, AreAllLearnt, Learns};
 
 use crate::found::{Found, has, insert};
 use crate::spread::spread;
@@ -55,15 +58,16 @@ impl Closure {
 
 /// The closure of the program `code` from `seeds`, or want of memory.
 ///
-/// The time is linear but for the look-ups in sets: what is found first is all, and one round then finds
-/// nothing more. That it would find whatever were missing is what the proof rests on.
+/// The time is linear but for the look-ups in sets: what is found first is all, and one round then
+/// finds nothing more. That it would find whatever were missing is what the proof rests on.
 pub(crate) fn closure_of<C: Chains>(
     alloc: Global,
     code: &C,
     seeds: &[u64],
 ) -> Result<Closure, Memory>
     requires seeds { AreSeeds (C.map code.now) seeds.now }
-    ensures closure { IfOk result (λ c. IsClosure (C.map code.now) seeds.now c.reached.items c.returning.keys) }
+    ensures closure { IfOk result
+        (λ c. IsClosure (C.map code.now) seeds.now c.reached.items c.returning.keys) }
     ensures known { IfOk result (λ c. AreKnown (C.map code.now) c.reached.items) }
 {
     let mut found = Found::of(alloc, seeds)?;
@@ -96,8 +100,10 @@ fn follow<C: Chains>(code: &C, returning: &BTreeSet<u64>, found: &mut Found) -> 
     ensures same { OnOk result (HaveSame found.new.order.items found.new.members.keys) }
     ensures known { OnOk result (AreKnown (C.map code.now) found.new.order.items) }
     ensures kept { OnOk result (IsWithin found.old.order.items found.new.order.items) }
-    ensures reached { OnOk result (AreReached (C.map code.now) found.old.order.items found.new.order.items) }
-    ensures closed { OnOk result (IsClosedUnder (C.map code.now) returning.now.keys found.new.order.items) }
+    ensures reached { OnOk result
+        (AreReached (C.map code.now) found.old.order.items found.new.order.items) }
+    ensures closed { OnOk result
+        (IsClosedUnder (C.map code.now) returning.now.keys found.new.order.items) }
 {
     let mut i = 0;
     while i < found.order.len() {
@@ -119,7 +125,9 @@ pub(crate) fn follow_one<C: Chains>(
     requires known { IsSome (C.map code.now a) }
     ensures lawful { IsLawful (C.map code.now) }
     ensures same { OnOk result (HaveSame found.new.order.items found.new.members.keys) }
-    ensures follows { OnOk result (Follows (C.map code.now) returning.now.keys a found.old.order.items found.new.order.items) }
+    ensures follows { OnOk result
+        (Follows (C.map code.now) returning.now.keys a found.old.order.items
+        found.new.order.items) }
 {
     match code.flow(a) {
         Flow::Straight { next } => found.add(next),
@@ -146,7 +154,8 @@ fn follow_table<C: Chains>(code: &C, a: u64, entries: u32, found: &mut Found) ->
     requires same { HaveSame found.old.order.items found.old.members.keys }
     requires entries { entries ≡ length (targets_at (C.map code.now) a) }
     ensures same { OnOk result (HaveSame found.new.order.items found.new.members.keys) }
-    ensures adds { OnOk result (Adds found.old.order.items found.new.order.items (targets_at (C.map code.now) a)) }
+    ensures adds { OnOk result
+        (Adds found.old.order.items found.new.order.items (targets_at (C.map code.now) a)) }
 {
     for i in 0..entries {
         found.add(code.target(a, i))?;
@@ -162,10 +171,13 @@ fn mark<C: Chains>(code: &C, order: &[u64], returning: &mut BTreeSet<u64>) -> Re
     requires within { IsWithin returning.old.keys order.now }
     ensures returning { OnOk result (AreReturning (C.map code.now) returning.new.keys) }
     ensures within { OnOk result (IsWithin returning.new.keys order.now) }
-    ensures marked { IfOk result (λ marked. IsTrue marked → btree_set_len returning.old < btree_set_len returning.new) }
+    ensures marked { IfOk result
+        (λ marked. IsTrue marked → btree_set_len returning.old < btree_set_len returning.new) }
     ensures small { OnOk result (btree_set_len returning.new < 2 ^ 63) }
-    ensures same { IfOk result (λ marked. ¬ IsTrue marked → returning.new.keys ≡ returning.old.keys) }
-    ensures all { IfOk result (λ marked. ¬ IsTrue marked → AreAllLearnt (C.map code.now) order.now returning.old.keys) }
+    ensures same { IfOk result
+        (λ marked. ¬ IsTrue marked → returning.new.keys ≡ returning.old.keys) }
+    ensures all { IfOk result
+        (λ marked. ¬ IsTrue marked → AreAllLearnt (C.map code.now) order.now returning.old.keys) }
 {
     let before = returning.len();
     for i in (0..order.len()).rev() {
@@ -183,8 +195,10 @@ pub(crate) fn mark_one<C: Chains>(
     requires known { IsSome (C.map code.now a) }
     requires returning { AreReturning (C.map code.now) returning.old.keys }
     ensures returning { OnOk result (AreReturning (C.map code.now) returning.new.keys) }
-    ensures only { OnOk result ((b : ℕ) → Contains returning.new.keys b → Contains returning.old.keys b ⊎ (b ≡ a)) }
-    ensures marks { OnOk result (Learns (C.map code.now) (a ∷ []) returning.old.keys returning.new.keys) }
+    ensures only { OnOk result ((b : ℕ) → Contains returning.new.keys b
+        → Contains returning.old.keys b ⊎ (b ≡ a)) }
+    ensures marks { OnOk result
+        (Learns (C.map code.now) (a ∷ []) returning.old.keys returning.new.keys) }
 {
     if !has(returning, a) && returns_now(code, a, returning) {
         insert(returning, a)?;

@@ -1,6 +1,7 @@
 //! Addresses that are found one after another, each once.
 
-ghost use Rattle.std.specs.Prelude.{◌≡◌, ◌↔◌, ◌⊎◌, ◌+◌, [], ◌∷◌, ℕ, IfOk, OnOk, IsTrue, Contains, option_to_list};
+ghost use Rattle.std.specs.Prelude.{◌≡◌, ◌↔◌, ◌⊎◌, ◌+◌, [], ◌∷◌, ℕ, IfOk};
+ghost use Rattle.std.specs.Prelude.{OnOk, IsTrue, Contains, option_to_list};
 ghost use Rattle.std.specs.List.Sorted.{IsStrictlyIncreasing};
 ghost use Rattle.std.specs.BTreeSet.{btree_set_len};
 ghost use Rattle.plain_graph.specs.Inner.Rounds.{IsWithin, HaveSame, Adds};
@@ -48,7 +49,8 @@ impl Found {
     pub(crate) fn add_any(&mut self, a: Option<u64>) -> Result<(), Memory>
         requires { HaveSame self.old.order.items self.old.members.keys }
         ensures same { OnOk result (HaveSame self.new.order.items self.new.members.keys) }
-        ensures adds { OnOk result (Adds self.old.order.items self.new.order.items (option_to_list a)) }
+        ensures adds { OnOk result
+            (Adds self.old.order.items self.new.order.items (option_to_list a)) }
     {
         match a {
             Some(a) => self.add(a),
@@ -77,10 +79,12 @@ pub(crate) fn has(set: &BTreeSet<u64>, a: u64) -> bool
 pub(crate) fn insert(set: &mut BTreeSet<u64>, a: u64) -> Result<bool, Memory>
     ensures has { OnOk result (Contains set.new.keys a) }
     ensures kept { OnOk result (IsWithin set.old.keys set.new.keys) }
-    ensures only { OnOk result ((b : ℕ) → Contains set.new.keys b → Contains set.old.keys b ⊎ (b ≡ a)) }
+    ensures only { OnOk result ((b : ℕ) → Contains set.new.keys b
+        → Contains set.old.keys b ⊎ (b ≡ a)) }
     ensures new { IfOk result (λ new. IsTrue new ↔ ¬ Contains set.old.keys a) }
     ensures old { IfOk result (λ new. ¬ IsTrue new → set.new.keys ≡ set.old.keys) }
-    ensures len { IfOk result (λ new. IsTrue new → btree_set_len set.new ≡ btree_set_len set.old + 1) }
+    ensures len { IfOk result
+        (λ new. IsTrue new → btree_set_len set.new ≡ btree_set_len set.old + 1) }
 {
     Ok(set.insert(a)?)
 }

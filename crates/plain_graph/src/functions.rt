@@ -20,11 +20,11 @@ use crate::functions::entries::entries_of;
 use cfg_model::{Addresses, Edge, Function, Memory};
 use std::alloc::Global;
 
-/// The functions of a program with these edges, which are in order, in the order of their entries, or
-/// want of memory.
+/// The functions of a program with these edges, which are in order, in the order of their entries,
+/// or want of memory.
 ///
-/// The time is linear in the blocks and edges of all bodies together, but for searches in ordered sets
-/// and lists: a block that functions share is looked at once for each of them.
+/// The time is linear in the blocks and edges of all bodies together, but for searches in ordered
+/// sets and lists: a block that functions share is looked at once for each of them.
 pub(crate) fn functions_of(
     alloc: Global,
     edges: &[Edge],
@@ -32,7 +32,8 @@ pub(crate) fn functions_of(
     seeds: &[u64],
 ) -> Result<Vec<Function>, Memory>
     requires { AllPairs EdgeBefore edges.now }
-    ensures { IfOk result (λ v. AreFunctionsWithin edges.now seeds.now closure.now.returning.keys v.items) }
+    ensures { IfOk result
+        (λ v. AreFunctionsWithin edges.now seeds.now closure.now.returning.keys v.items) }
 {
     let entries = entries_of(alloc, edges, seeds)?;
     functions_at(alloc, edges, closure, &entries)
@@ -47,7 +48,9 @@ fn functions_at(
 ) -> Result<Vec<Function>, Memory>
     requires edges { AllPairs EdgeBefore edges.now }
     requires rising { IsStrictlyIncreasing entries.now }
-    ensures { IfOk result (λ v. AllZip (IsFunctionWithin edges.now entries.now closure.now.returning.keys) entries.now v.items) }
+    ensures { IfOk result
+        (λ v. AllZip (IsFunctionWithin edges.now entries.now closure.now.returning.keys)
+        entries.now v.items) }
 {
     let mut functions = Vec::with_capacity(alloc, entries.len())?;
     for &entry in entries {
@@ -66,7 +69,8 @@ fn function_at(
 ) -> Result<Function, Memory>
     requires edges { AllPairs EdgeBefore edges.now }
     requires rising { IsStrictlyIncreasing entries.now }
-    ensures { IfOk result (IsFunctionWithin edges.now entries.now closure.now.returning.keys entry) }
+    ensures { IfOk result
+        (IsFunctionWithin edges.now entries.now closure.now.returning.keys entry) }
 {
     let body = body_of(alloc, edges, entries, entry)?;
     Ok(Function {

@@ -1,13 +1,15 @@
 //! The leaders of a program: the addresses where its basic blocks start.
 
-ghost use Rattle.std.specs.Prelude.{◌≡◌, ◌↔◌, ◌⊎◌, ℕ, All, Contains, IfOk, OnOk, IsTrue, IsSome, length};
+ghost use Rattle.std.specs.Prelude.{◌≡◌, ◌↔◌, ◌⊎◌, ℕ, All, Contains};
+ghost use Rattle.std.specs.Prelude.{IfOk, OnOk, IsTrue, IsSome, length};
 ghost use Rattle.std.specs.List.Sorted.{IsStrictlyIncreasing};
 ghost use Rattle.cfg_model.specs.Program.Instructions.{IsLawful, targets_at};
 ghost use Rattle.cfg_model.specs.Program.Chain.{GoesOnTo};
 ghost use Rattle.plain_graph.specs.Inner.Closure.{IsClosure};
 ghost use Rattle.cfg_model.specs.Graph.Leader.{IsLeader};
 ghost use Rattle.cfg_model.specs.Graph.Listing.{Gains};
-ghost use Rattle.plain_graph.specs.Inner.LeaderRules.{IsThere, HasLongTo, JoinsAt, MadeBy, MadeAt, MadeFrom};
+ghost use Rattle.plain_graph.specs.Inner.LeaderRules.{IsThere, HasLongTo, JoinsAt};
+ghost use Rattle.plain_graph.specs.Inner.LeaderRules.{MadeBy, MadeAt, MadeFrom};
 
 use crate::closure::Closure;
 use cfg_model::{Chains, Flow, Memory};
@@ -21,9 +23,11 @@ pub(crate) fn leaders_of<C: Chains>(
     seeds: &[u64],
 ) -> Result<Vec<u64>, Memory>
     requires known { All (λ a. IsSome (C.map code.now a)) closure.now.reached.items }
-    requires closure { IsClosure (C.map code.now) seeds.now closure.now.reached.items closure.now.returning.keys }
+    requires closure { IsClosure (C.map code.now) seeds.now closure.now.reached.items
+        closure.now.returning.keys }
     ensures rising { IfOk result (λ v. IsStrictlyIncreasing v.items) }
-    ensures exact { IfOk result (λ v. (a : ℕ) → Contains v.items a ↔ IsLeader (C.map code.now) seeds.now a) }
+    ensures exact { IfOk result
+        (λ v. (a : ℕ) → Contains v.items a ↔ IsLeader (C.map code.now) seeds.now a) }
 {
     let marks = marks_of(alloc, code, closure, seeds)?;
     Ok(rising(marks))
@@ -47,7 +51,9 @@ fn marks_of<C: Chains>(
     seeds: &[u64],
 ) -> Result<Vec<u64>, Memory>
     requires { All (λ a. IsSome (C.map code.now a)) closure.now.reached.items }
-    ensures { IfOk result (λ v. Gains seeds.now v.items (MadeFrom (C.map code.now) closure.now.reached.items closure.now.returning.keys closure.now.reached.items)) }
+    ensures { IfOk result
+        (λ v. Gains seeds.now v.items (MadeFrom (C.map code.now) closure.now.reached.items
+        closure.now.returning.keys closure.now.reached.items)) }
 {
     let mut marks = Vec::from_slice(alloc, seeds)?;
     for &k in closure.addresses() {
@@ -60,7 +66,8 @@ fn marks_of<C: Chains>(
 fn mark<C: Chains>(code: &C, closure: &Closure, k: u64, marks: &mut Vec<u64>) -> Result<(), Memory>
     requires known { All (λ a. IsSome (C.map code.now a)) closure.now.reached.items }
     requires has { IsSome (C.map code.now k) }
-    ensures { OnOk result (Gains marks.old.items marks.new.items (MadeAt (C.map code.now) closure.now.reached.items closure.now.returning.keys k)) }
+    ensures { OnOk result (Gains marks.old.items marks.new.items
+        (MadeAt (C.map code.now) closure.now.reached.items closure.now.returning.keys k)) }
 {
     match code.flow(k) {
         Flow::Straight { next } => mark_join(code, closure, k, next, marks),
@@ -106,7 +113,8 @@ fn mark_call(
     fall: Option<u64>,
     marks: &mut Vec<u64>,
 ) -> Result<(), Memory>
-    ensures { OnOk result (Gains marks.old.items marks.new.items (λ x. (x ≡ target) ⊎ (Contains closure.now.returning.keys target × IsThere fall x))) }
+    ensures { OnOk result (Gains marks.old.items marks.new.items
+        (λ x. (x ≡ target) ⊎ (Contains closure.now.returning.keys target × IsThere fall x))) }
 {
     mark_one(target, marks)?;
     if closure.returns(target) {
@@ -119,7 +127,8 @@ fn mark_call(
 /// Of a table jump: its kept targets.
 fn mark_table<C: Chains>(code: &C, k: u64, entries: u32, marks: &mut Vec<u64>) -> Result<(), Memory>
     requires { entries ≡ length (targets_at (C.map code.now) k) }
-    ensures { OnOk result (Gains marks.old.items marks.new.items (Contains (targets_at (C.map code.now) k))) }
+    ensures { OnOk result
+        (Gains marks.old.items marks.new.items (Contains (targets_at (C.map code.now) k))) }
 {
     for i in 0..entries {
         marks.push(code.target(k, i))?;
@@ -137,7 +146,8 @@ fn mark_join<C: Chains>(
 ) -> Result<(), Memory>
     requires known { All (λ a. IsSome (C.map code.now a)) closure.now.reached.items }
     requires straight { GoesOnTo (C.map code.now) k next }
-    ensures { OnOk result (Gains marks.old.items marks.new.items (JoinsAt (C.map code.now) closure.now.reached.items k next)) }
+    ensures { OnOk result (Gains marks.old.items marks.new.items
+        (JoinsAt (C.map code.now) closure.now.reached.items k next)) }
 {
     if code.length(k) == 2 && has_long_to(code, closure, next) {
         mark_one(next, marks)

@@ -29,7 +29,8 @@ pub(crate) fn outline_of<C: Chains>(
     seeds: &[u64],
 ) -> Result<(Vec<Block>, Vec<Edge>), Memory>
     requires known { AreKnown (C.map code.now) closure.now.reached.items }
-    requires closure { IsClosure (C.map code.now) seeds.now closure.now.reached.items closure.now.returning.keys }
+    requires closure { IsClosure (C.map code.now) seeds.now closure.now.reached.items
+        closure.now.returning.keys }
     ensures { IfOk result (λ o. IsOutline (C.map code.now) seeds.now o.0.items o.1.items) }
 {
     let leaders = leaders_of(alloc, code, closure, seeds)?;
@@ -46,8 +47,11 @@ fn cut_at<C: Chains>(
 ) -> Result<(Vec<Block>, Vec<Edge>), Memory>
     requires known { All (λ a. IsSome (C.map code.now a)) leaders.now }
     requires rising { IsStrictlyIncreasing leaders.now }
-    ensures blocks { IfOk result (λ o. AllZip (IsBlockWithin (C.map code.now) leaders.now) leaders.now o.0.items) }
-    ensures edges { IfOk result (λ o. Gains [] o.1.items (IsEdgeFrom (C.map code.now) leaders.now closure.now.returning.keys leaders.now)) }
+    ensures blocks { IfOk result
+        (λ o. AllZip (IsBlockWithin (C.map code.now) leaders.now) leaders.now o.0.items) }
+    ensures edges { IfOk result
+        (λ o. Gains [] o.1.items
+        (IsEdgeFrom (C.map code.now) leaders.now closure.now.returning.keys leaders.now)) }
 {
     let mut blocks = Vec::with_capacity(alloc, leaders.len())?;
     let mut edges = Vec::new(alloc);
@@ -68,7 +72,8 @@ fn add_ways<C: Chains>(
     edges: &mut Vec<Edge>,
 ) -> Result<(), Memory>
     requires { IsSome (C.map code.now k) }
-    ensures { OnOk result (Gains edges.old.items edges.new.items (Leaves (C.map code.now) (Contains closure.now.returning.keys) s k)) }
+    ensures { OnOk result (Gains edges.old.items edges.new.items
+        (Leaves (C.map code.now) (Contains closure.now.returning.keys) s k)) }
 {
     add_edges(code, s, k, callee_returns(code, closure, k), edges)
 }
@@ -76,7 +81,8 @@ fn add_ways<C: Chains>(
 /// Where a known address is called at `k`: whether it returns.
 fn callee_returns<C: Chains>(code: &C, closure: &Closure, k: u64) -> bool
     requires { IsSome (C.map code.now k) }
-    ensures { (target : _) (fall : _) → IsCall (C.map code.now) k target fall → IsTrue result ↔ Contains closure.now.returning.keys target }
+    ensures { (target : _) (fall : _) → IsCall (C.map code.now) k target fall → IsTrue result
+        ↔ Contains closure.now.returning.keys target }
 {
     match code.flow(k) {
         Flow::Call { target, .. } => closure.returns(target),

@@ -1,8 +1,8 @@
-//! Finding what is reached and what of it returns in one go: each address is looked at when it is found,
-//! and again when one that it waits for turns out to return.
+//! Finding what is reached and what of it returns in one go: each address is looked at when it is
+//! found, and again when one that it waits for turns out to return.
 //!
-//! Nothing that is found here is wrong. That nothing is missing is not needed: the rounds of the closure
-//! go on from here until they find nothing more.
+//! Nothing that is found here is wrong. That nothing is missing is not needed: the rounds of the
+//! closure go on from here until they find nothing more.
 
 ghost use Rattle.std.specs.Prelude.{◌≡◌, length, OnOk, IsSome};
 ghost use Rattle.cfg_model.specs.Program.Instructions.{targets_at};
@@ -14,8 +14,8 @@ use cfg_model::{Chains, Flow, Memory};
 use std::alloc::Global;
 use std::collections::{BTreeMap, BTreeSet};
 
-/// Who waits for an address to return, and the addresses whose waiters have not been told yet that they
-/// do.
+/// Who waits for an address to return, and the addresses whose waiters have not been told yet that
+/// they do.
 #[derive(Drop)]
 struct Waiting {
     waiters: BTreeMap<u64, Vec<u64>>,
@@ -30,9 +30,12 @@ pub(crate) fn spread<C: Chains>(
     found: &mut Found,
     returning: &mut BTreeSet<u64>,
 ) -> Result<(), Memory>
-    requires { IsFoundSoFar (C.map code.now) found.old.order.items found.old.members.keys returning.old.keys }
-    ensures so_far { OnOk result (IsFoundSoFar (C.map code.now) found.new.order.items found.new.members.keys returning.new.keys) }
-    ensures finds { OnOk result (FindsMore (C.map code.now) found.old.order.items found.new.order.items) }
+    requires { IsFoundSoFar (C.map code.now) found.old.order.items found.old.members.keys
+        returning.old.keys }
+    ensures so_far { OnOk result (IsFoundSoFar (C.map code.now) found.new.order.items
+        found.new.members.keys returning.new.keys) }
+    ensures finds { OnOk result
+        (FindsMore (C.map code.now) found.old.order.items found.new.order.items) }
 {
     let mut waiting = Waiting {
         waiters: BTreeMap::new(alloc),
@@ -62,9 +65,12 @@ impl Waiting {
         found: &mut Found,
         returning: &mut BTreeSet<u64>,
     ) -> Result<(), Memory>
-        requires { IsFoundSoFar (C.map code.now) found.old.order.items found.old.members.keys returning.old.keys }
-        ensures so_far { OnOk result (IsFoundSoFar (C.map code.now) found.new.order.items found.new.members.keys returning.new.keys) }
-        ensures finds { OnOk result (FindsMore (C.map code.now) found.old.order.items found.new.order.items) }
+        requires { IsFoundSoFar (C.map code.now) found.old.order.items found.old.members.keys
+            returning.old.keys }
+        ensures so_far { OnOk result (IsFoundSoFar (C.map code.now) found.new.order.items
+            found.new.members.keys returning.new.keys) }
+        ensures finds { OnOk result
+            (FindsMore (C.map code.now) found.old.order.items found.new.order.items) }
     {
         let Some(waiters) = self.waiters.remove(&b) else {
             return Ok(());
@@ -75,7 +81,8 @@ impl Waiting {
         Ok(())
     }
 
-    /// Adds what the instruction at `a` leads to, and marks `a` where it returns now; else `a` waits.
+    /// Adds what the instruction at `a` leads to, and marks `a` where it returns now; else `a`
+    /// waits.
     fn visit<C: Chains>(
         &mut self,
         alloc: Global,
@@ -84,9 +91,12 @@ impl Waiting {
         found: &mut Found,
         returning: &mut BTreeSet<u64>,
     ) -> Result<(), Memory>
-        requires { IsFoundSoFar (C.map code.now) found.old.order.items found.old.members.keys returning.old.keys }
-        ensures so_far { OnOk result (IsFoundSoFar (C.map code.now) found.new.order.items found.new.members.keys returning.new.keys) }
-        ensures finds { OnOk result (FindsMore (C.map code.now) found.old.order.items found.new.order.items) }
+        requires { IsFoundSoFar (C.map code.now) found.old.order.items found.old.members.keys
+            returning.old.keys }
+        ensures so_far { OnOk result (IsFoundSoFar (C.map code.now) found.new.order.items
+            found.new.members.keys returning.new.keys) }
+        ensures finds { OnOk result
+            (FindsMore (C.map code.now) found.old.order.items found.new.order.items) }
     {
         if !has(&found.members, a) {
             return Ok(());
@@ -99,9 +109,9 @@ impl Waiting {
         self.note(alloc, code, a, returning)
     }
 
-    /// Notes that `a` is to be told of, where it is known to return, and else what it waits for: any of
-    /// its ways on; of a call the target, and once that returns the fall. So nobody waits again for what
-    /// was told.
+    /// Notes that `a` is to be told of, where it is known to return, and else what it waits for:
+    /// any of its ways on; of a call the target, and once that returns the fall. So nobody waits
+    /// again for what was told.
     fn note<C: Chains>(
         &mut self,
         alloc: Global,

@@ -24,7 +24,7 @@ no-some x e = cc
 
 -- A flow through a table.
 abbrev pub IsTableFlow : Flow → Type 0
-IsTableFlow flow = (entries : ℕ) × (full : Bool) × (flow ≡ flows.Table entries full)
+IsTableFlow flow = (entries : ℕ) × (full : Bool) × (is_open : Bool) × (flow ≡ flows.Table entries full is_open)
 
 -- ---- from a table to its flow
 
@@ -41,29 +41,29 @@ flow-of_table bytes j behind cut table (raw.Jump target) start is = absurd (no-r
 flow-of_table bytes j behind cut table (raw.Call target) start is = absurd (no-register bytes j table start is)
 flow-of_table bytes j behind cut table raw.IndirectCall start is = absurd (no-register bytes j table start is)
 flow-of_table bytes j behind cut table raw.Return start is = absurd (no-register bytes j table start is)
-flow-of_table bytes j behind cut table (raw.RegisterJump register offset) start is = (_, _, refl)
+flow-of_table bytes j behind cut table (raw.RegisterJump register offset) start is = (_, _, _, refl)
 flow-of_table bytes j behind cut table raw.Stop start is = absurd (no-register bytes j table start is)
 
 -- ---- from a flow to its table
 
-module _ (entries : ℕ) (full : Bool) where
-  straight-no : (o : Option ℕ) → straight_flow o ≡ flows.Table entries full → ⊥
+module _ (entries : ℕ) (full is_open : Bool) where
+  straight-no : (o : Option ℕ) → straight_flow o ≡ flows.Table entries full is_open → ⊥
   straight-no None e = cc
   straight-no (Some x) e = cc
 
-  jump-no : (o : Option ℕ) → jump_flow o ≡ flows.Table entries full → ⊥
+  jump-no : (o : Option ℕ) → jump_flow o ≡ flows.Table entries full is_open → ⊥
   jump-no None e = cc
   jump-no (Some x) e = cc
 
-  call-no : (o fall : Option ℕ) → call_flow o fall ≡ flows.Table entries full → ⊥
+  call-no : (o fall : Option ℕ) → call_flow o fall ≡ flows.Table entries full is_open → ⊥
   call-no None fall e = cc
   call-no (Some x) fall e = cc
 
-  table-some : (cut : Option ℕ) (o : Option Table) → table_flow cut o ≡ flows.Table entries full → (table : Table) × (o ≡ Some table)
+  table-some : (cut : Option ℕ) (o : Option Table) → table_flow cut o ≡ flows.Table entries full is_open → (table : Table) × (o ≡ Some table)
   table-some cut None e = absurd (cc)
   table-some cut (Some table) e = (table, refl)
 
-  table-of_flow : (bytes : List ℕ) (behind : ℕ) (cut : Option ℕ) (o : Option Table) (r : RawFlow) → flow_by bytes behind cut o r ≡ flows.Table entries full → (table : Table) × (o ≡ Some table)
+  table-of_flow : (bytes : List ℕ) (behind : ℕ) (cut : Option ℕ) (o : Option Table) (r : RawFlow) → flow_by bytes behind cut o r ≡ flows.Table entries full is_open → (table : Table) × (o ≡ Some table)
   table-of_flow bytes behind cut o raw.Straight e = absurd (straight-no (in_code bytes behind) e)
   table-of_flow bytes behind cut o (raw.Branch target) e = absurd (cc)
   table-of_flow bytes behind cut o (raw.Jump target) e = absurd (jump-no (in_code bytes target) e)
@@ -105,12 +105,12 @@ module _ (bytes : List ℕ) (cuts : ℕ → Option ℕ) where
 
   -- What goes through a table has one.
   pub flow-table : (j : ℕ) (flow : Flow) → IsTableFlow flow → flow_at (program_under bytes cuts) j ≡ Some flow → HasTable bytes j
-  flow-table j flow (entries, full, is) at =
+  flow-table j flow (entries, full, is_open, is) at =
       let code = code_of bytes cuts j (known-flow (program_under bytes cuts) j flow at) in
       let by = flow-program bytes cuts j code (placed_at bytes j) refl in
-      let found = table-of_flow entries full bytes (j + (placed_at bytes j).length) (cuts j) (table_at bytes j) (raw_flow_at bytes j) (same_Some _ flow (sym by ∙ at) ∙ is) in
+      let found = table-of_flow entries full is_open bytes (j + (placed_at bytes j).length) (cuts j) (table_at bytes j) (raw_flow_at bytes j) (same_Some _ flow (sym by ∙ at) ∙ is) in
       record { table = found.0; at_jump = found.1 }
 
   -- It ends chains.
   pub table-ends : (j : ℕ) → HasTable bytes j → IsTerminator (program_under bytes cuts) j
-  table-ends j has = let f = table-flow j has in subst EndsChain (sym (f.2 ∙ ap (λ x. Some x) f.1.2)) tt
+  table-ends j has = let f = table-flow j has in subst EndsChain (sym (f.2 ∙ ap (λ x. Some x) f.1.3)) tt

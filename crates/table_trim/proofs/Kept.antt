@@ -1,5 +1,5 @@
 -- The cuts of the jumps seen so far.
-use Rattle.std.proofs.Common.{◌≡◌, ◌≢◌, ℕ, ◌+◌, ◌-◌, ◌/◌, ◌%◌, ◌<◌, ◌≤◌, ◌⊎◌, List, length, get_or, Option, Some, None, refl, sym, ap, ◌∙◌, subst, inl, inr, arith}
+use Rattle.std.proofs.Common.{◌≡◌, ◌≢◌, ℕ, ◌+◌, ◌<◌, ◌≤◌, ◌⊎◌, List, length, get_or, Option, Some, None, refl, sym, ap, ◌∙◌, subst, inl, inr, arith}
 use Rattle.std.specs.Prelude.{Contains}
 use Rattle.std.specs.FinMap as map
 use Rattle.std.specs.Option.{option_map, MatchOption}
@@ -7,11 +7,11 @@ use Rattle.std.specs.Ordering.{nat_cmp}
 use Rattle.std.proofs.lemmas.List.{get_or_default}
 use Rattle.std.proofs.lemmas.List.Elements.{Contains-get_or}
 use Rattle.std.proofs.lemmas.Option.{same_Some, none-some, MatchOption-at_some}
+use Rattle.std.proofs.Math.Nat.{le-max_left}
 use borrow.Author.Count.{below_more}
 use Rattle.jump_table.specs.declared.table.Table.{Table}
 use Rattle.jump_table.specs.Table.{table_at}
-use Rattle.jump_table.proofs.Targets.{is_table}
-use Rattle.cfg_model.specs.Program.Cuts.{Extent, IsBaseInside, IsCutTo, AreCuts}
+use Rattle.cfg_model.specs.Program.Cuts.{Extent, IsBaseInside, IsCutTo, AreCuts, kept_before}
 use Rattle.cfg_model.proofs.Builder.MapFacts.{same_or_other, get_here, get_apart}
 use Rattle.code_view.specs.Cuts.{Counts, cut_of, CutsFit, CanBeKept}
 use Rattle.table_trim.specs.Extents.{extent_of, extent_at}
@@ -22,11 +22,11 @@ pub record IsCutJump (bytes jumps bases : List ℕ) (j kept : ℕ) : Type 0 wher
   pub counts : Contains jumps j
   pub table : Table
   pub at_jump : table_at bytes j ≡ Some table
-  pub cut : IsCutBy bases table kept
+  pub cut : IsCutBy bases (extent_of table) kept
 
 -- The table of jump k has the cut that the bases give it.
 abbrev pub IsSettled : List ℕ → List ℕ → List ℕ → Counts → ℕ → Type 0
-IsSettled bytes jumps bases cuts k = (d : ℕ) (table : Table) → table_at bytes (get_or jumps k d) ≡ Some table → CutBy bases table (cut_of cuts (get_or jumps k d))
+IsSettled bytes jumps bases cuts k = (d : ℕ) (table : Table) → table_at bytes (get_or jumps k d) ≡ Some table → CutBy bases (extent_of table) (cut_of cuts (get_or jumps k d))
 
 -- What the cuts are once the first i jumps were seen.
 pub record AreSettled (bytes jumps bases : List ℕ) (cuts : Counts) (i : ℕ) : Type 0 where
@@ -36,18 +36,18 @@ pub record AreSettled (bytes jumps bases : List ℕ) (cuts : Counts) (i : ℕ) :
 -- ---- one jump
 
 -- A jump that is cut has a table, and the cut is that of the table.
-pub cut-by : (bytes bases : List ℕ) (j : ℕ) (o : Option ℕ) → JumpCutBy bytes bases j o → (table : Table) → table_at bytes j ≡ Some table → CutBy bases table o
-cut-by bytes bases j o is table at = MatchOption-at_some (o ≡ None) (λ t. CutBy bases t o) table at is
+pub cut-by : (bytes bases : List ℕ) (j : ℕ) (o : Option ℕ) → JumpCutBy bytes bases j o → (table : Table) → table_at bytes j ≡ Some table → CutBy bases (extent_of table) o
+cut-by bytes bases j o is table at = MatchOption-at_some (o ≡ None) (λ t. CutBy bases (extent_of t) o) table at is
 
 pub record HasCut (bytes bases : List ℕ) (j kept : ℕ) : Type 0 where
   pub table : Table
   pub at_jump : table_at bytes j ≡ Some table
-  pub cut : IsCutBy bases table kept
+  pub cut : IsCutBy bases (extent_of table) kept
 
 pub has-cut : (bytes bases : List ℕ) (j kept : ℕ) → JumpCutBy bytes bases j (Some kept) → HasCut bytes bases j kept
 has-cut bytes bases j kept is = go (table_at bytes j) refl is
   where
-    go : (o : Option Table) → table_at bytes j ≡ o → MatchOption o (Some kept ≡ None) (λ t. CutBy bases t (Some kept)) → HasCut bytes bases j kept
+    go : (o : Option Table) → table_at bytes j ≡ o → MatchOption o (Some kept ≡ None) (λ t. CutBy bases (extent_of t) (Some kept)) → HasCut bytes bases j kept
     go None at h = absurd (none-some kept (sym h))
     go (Some table) at h = record { table = table; at_jump = at; cut = h }
 
@@ -58,14 +58,14 @@ module _ (bytes jumps bases : List ℕ) where
     complete = λ k below d table at. absurd (omega arith);
   }
 
-  -- No base lies inside the table of a jump that has no cut.
+  -- A table that the bases do not cut has no cut.
   uncut : (cuts : Counts) (j : ℕ) → ((kept : ℕ) → cut_of cuts j ≡ Some kept → IsCutJump bytes jumps bases j kept) → (table : Table) → table_at bytes j ≡ Some table
-      → ((b : ℕ) → Contains bases b → ¬ IsInside table b) → (o : Option ℕ) → cut_of cuts j ≡ o → CutBy bases table o
+      → ((kept : ℕ) → ¬ IsCutBy bases (extent_of table) kept) → (o : Option ℕ) → cut_of cuts j ≡ o → CutBy bases (extent_of table) o
   uncut cuts j sound table at none None is = none
   uncut cuts j sound table at none (Some kept) is =
       let cut = sound kept is in
       let same : cut.table ≡ table = same_Some cut.table table (sym cut.at_jump ∙ at) in
-      absurd (none cut.cut.base cut.cut.there (subst (λ t. IsInside t cut.cut.base) same cut.cut.inside))
+      absurd (none kept (subst (λ t. IsCutBy bases (extent_of t) kept) same cut.cut))
 
   module _ (cuts : Counts) (i e : ℕ) (inside : i < length jumps) (before : AreSettled bytes jumps bases cuts i) where
     jump_at : (d : ℕ) → get_or jumps i d ≡ get_or jumps i e
@@ -92,15 +92,15 @@ module _ (bytes jumps bases : List ℕ) where
             counts = subst (Contains jumps) (sym same) (Contains-get_or jumps i e inside);
             table = h.table;
             at_jump = ap (table_at bytes) same ∙ h.at_jump;
-            cut = subst (IsCutBy bases h.table) value h.cut;
+            cut = subst (IsCutBy bases (extent_of h.table)) value h.cut;
           }
       sound-at q n (inr other) at = before.sound q n (sym (get_apart cuts (get_or jumps i e) kept q other) ∙ at)
 
-      settled-at : (q : ℕ) (table : Table) → table_at bytes q ≡ Some table → (q ≡ get_or jumps i e) ⊎ ((q ≢ get_or jumps i e) × CutBy bases table (cut_of cuts q)) → CutBy bases table (cut_of after q)
+      settled-at : (q : ℕ) (table : Table) → table_at bytes q ≡ Some table → (q ≡ get_or jumps i e) ⊎ ((q ≢ get_or jumps i e) × CutBy bases (extent_of table) (cut_of cuts q)) → CutBy bases (extent_of table) (cut_of after q)
       settled-at q table at (inl same) =
           let cut = cut-by bytes bases (get_or jumps i e) (Some kept) is table (ap (table_at bytes) (sym same) ∙ at) in
-          subst (CutBy bases table) (sym (ap (cut_of after) same ∙ get_here cuts (get_or jumps i e) kept)) cut
-      settled-at q table at (inr other) = subst (CutBy bases table) (sym (get_apart cuts (get_or jumps i e) kept q other.0)) other.1
+          subst (CutBy bases (extent_of table)) (sym (ap (cut_of after) same ∙ get_here cuts (get_or jumps i e) kept)) cut
+      settled-at q table at (inr other) = subst (CutBy bases (extent_of table)) (sym (get_apart cuts (get_or jumps i e) kept q other.0)) other.1
 
       by_case : (q : ℕ) (P : Type 0) → P → (q ≡ get_or jumps i e) ⊎ (q ≢ get_or jumps i e) → (q ≡ get_or jumps i e) ⊎ ((q ≢ get_or jumps i e) × P)
       by_case q P p (inl same) = inl same
@@ -118,18 +118,14 @@ module _ (bytes jumps bases : List ℕ) where
 -- ---- all jumps
 
 module _ (bytes jumps bases : List ℕ) (are : AreBases bytes jumps bases) where
-  -- What a cut leaves: one entry at least, since bases are multiples of 4, and fewer than there are.
+  -- What a cut leaves: one entry at least, and fewer than there are.
   pub can_be_kept : (j kept : ℕ) → HasCut bytes bases j kept → CanBeKept bytes j kept
-  can_be_kept j kept cut =
-      let own = is_table bytes j cut.table cut.at_jump in
-      let other = are.sound cut.cut.base cut.cut.there in
-      let aligned : cut.cut.base % 4 ≡ 0 = subst (λ b. b % 4 ≡ 0) other.base (is_table bytes other.jump other.table other.at_jump).aligned in
-      record {
-        table = cut.table;
-        at_jump = cut.at_jump;
-        some = omega (arith, cut.cut.entries, cut.cut.inside.above, own.aligned, aligned);
-        within = omega (arith, cut.cut.entries, cut.cut.inside.above, cut.cut.inside.below);
-      }
+  can_be_kept j kept cut = record {
+    table = cut.table;
+    at_jump = cut.at_jump;
+    some = subst (λ n. 1 ≤ n) (sym cut.cut.entries) (le-max_left 1 _);
+    within = omega (arith, cut.cut.fewer);
+  }
 
   module _ (cuts : Counts) (i : ℕ) (all : i ≡ length jumps) (settled : AreSettled bytes jumps bases cuts i) where
     pub settled-fits : CutsFit bytes (cut_of cuts)
@@ -146,11 +142,11 @@ module _ (bytes jumps bases : List ℕ) (are : AreBases bytes jumps bases) where
     base_by_extents jump b (Some table) at other is base counts =
         record { jump = jump; counts = counts; table = table; at_jump = at; base = ap (λ (e : Extent). e.base) (same_Some (extent_of table) other is) ∙ base }
 
-    to-inside : (table : Table) (b : ℕ) → IsBaseInside (extent_at bytes) Counted (extent_of table) b → Contains bases b × IsInside table b
+    to-inside : (table : Table) (b : ℕ) → IsBaseInside (extent_at bytes) Counted (extent_of table) b → Contains bases b × IsInside (extent_of table) b
     to-inside table b h =
         (are.complete b (base_by_extents h.jump b (table_at bytes h.jump) refl h.other h.at_jump h.base h.counts), record { above = h.above; below = h.below })
 
-    from-inside : (table : Table) (b : ℕ) → Contains bases b → IsInside table b → IsBaseInside (extent_at bytes) Counted (extent_of table) b
+    from-inside : (table : Table) (b : ℕ) → Contains bases b → IsInside (extent_of table) b → IsBaseInside (extent_at bytes) Counted (extent_of table) b
     from-inside table b there inside =
         let of = are.sound b there in
         record {
@@ -174,19 +170,32 @@ module _ (bytes jumps bases : List ℕ) (are : AreBases bytes jumps bases) where
           inside = from-inside cut.table cut.cut.base cut.cut.there cut.cut.inside;
           least = λ b h. let p = to-inside cut.table b h in cut.cut.least b p.0 p.1;
           entries = cut.cut.entries;
+          fewer = cut.cut.fewer;
         }
 
-    -- The least base inside a table tells what is kept of it.
-    same_cut : (table : Table) (base kept : ℕ) → IsBaseInside (extent_at bytes) Counted (extent_of table) base
-        → ((b : ℕ) → IsBaseInside (extent_at bytes) Counted (extent_of table) b → base ≤ b) → kept ≡ (base - table.base) / 4
-        → (o : Option ℕ) → CutBy bases table o → o ≡ Some kept
-    same_cut table base kept inside least entries None none = let p = to-inside table base inside in absurd (none base p.0 p.1)
-    same_cut table base kept inside least entries (Some n) cut =
+    -- A cut by the extents is one by the tables.
+    by-bases : (table : Table) (base kept : ℕ) → IsBaseInside (extent_at bytes) Counted (extent_of table) base
+        → ((b : ℕ) → IsBaseInside (extent_at bytes) Counted (extent_of table) b → base ≤ b)
+        → kept ≡ kept_before (extent_of table) base → kept < table.count → IsCutBy bases (extent_of table) kept
+    by-bases table base kept inside least entries fewer =
         let p = to-inside table base inside in
-        let below : cut.base ≤ base = cut.least base p.0 p.1 in
-        let above : base ≤ cut.base = least cut.base (from-inside table cut.base cut.there cut.inside) in
-        let same : cut.base ≡ base = omega arith in
-        ap (λ m. Some m) (cut.entries ∙ ap (λ b. (b - table.base) / 4) same ∙ sym entries)
+        record {
+          base = base;
+          there = p.0;
+          inside = p.1;
+          least = λ b there in_table. least b (from-inside table b there in_table);
+          entries = entries;
+          fewer = fewer;
+        }
+
+    -- The bases cut a table in one way alone.
+    same_cut : (table : Extent) (kept : ℕ) → IsCutBy bases table kept → (o : Option ℕ) → CutBy bases table o → o ≡ Some kept
+    same_cut table kept by None none = absurd (none kept by)
+    same_cut table kept by (Some n) cut =
+        let below : cut.base ≤ by.base = cut.least by.base by.there by.inside in
+        let above : by.base ≤ cut.base = by.least cut.base cut.there cut.inside in
+        let same : cut.base ≡ by.base = omega arith in
+        ap (λ m. Some m) (cut.entries ∙ ap (kept_before table) same ∙ sym by.entries)
 
     backward-at : (j kept : ℕ) → IsCutTo (extent_at bytes) Counted j kept → (o : Option Table) → table_at bytes j ≡ o → cut_of cuts j ≡ Some kept
     backward-at j kept h None at = absurd (none-some h.table (ap (option_map extent_of) (sym at) ∙ h.at_jump))
@@ -194,12 +203,14 @@ module _ (bytes jumps bases : List ℕ) (are : AreBases bytes jumps bases) where
         let same : h.table ≡ extent_of table = same_Some h.table (extent_of table) (sym h.at_jump ∙ ap (option_map extent_of) at) in
         let k = h.counts.0 in
         let below : k < i = omega (arith, h.counts.1) in
-        let by : CutBy bases table (cut_of cuts j) =
-        subst (λ q. CutBy bases table (cut_of cuts q)) h.counts.2 (settled.complete k below j table (ap (table_at bytes) h.counts.2 ∙ at)) in
-        same_cut table h.base kept
+        let by : CutBy bases (extent_of table) (cut_of cuts j) =
+        subst (λ q. CutBy bases (extent_of table) (cut_of cuts q)) h.counts.2 (settled.complete k below j table (ap (table_at bytes) h.counts.2 ∙ at)) in
+        same_cut (extent_of table) kept
+        (by-bases table h.base kept
         (subst (λ e. IsBaseInside (extent_at bytes) Counted e h.base) same h.inside)
         (subst (λ e. (b : ℕ) → IsBaseInside (extent_at bytes) Counted e b → h.base ≤ b) same h.least)
-        (h.entries ∙ ap (λ (e : Extent). (h.base - e.base) / 4) same)
+        (h.entries ∙ ap (λ (e : Extent). kept_before e h.base) same)
+        (subst (λ (e : Extent). kept < e.count) same h.fewer))
         (cut_of cuts j) by
 
     pub settled-cuts : AreCuts (extent_at bytes) (λ j. Contains jumps j) (cut_of cuts)

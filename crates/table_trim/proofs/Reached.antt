@@ -97,6 +97,7 @@ module _ (tables : Tables) (One Other : ℕ → Type 0) (same : (j : ℕ) (exten
     inside = inside-other cut.table cut.base cut.inside;
     least = λ b h. cut.least b (inside-one cut.table b h);
     entries = cut.entries;
+    fewer = cut.fewer;
   }
 
   cut-one : (j kept : ℕ) → IsCutTo tables Other j kept → IsCutTo tables One j kept
@@ -108,6 +109,7 @@ module _ (tables : Tables) (One Other : ℕ → Type 0) (same : (j : ℕ) (exten
     inside = inside-one cut.table cut.base cut.inside;
     least = λ b h. cut.least b (inside-other cut.table b h);
     entries = cut.entries;
+    fewer = cut.fewer;
   }
 
   cuts-other : (cuts : ℕ → Option ℕ) → AreCuts tables One cuts → AreCuts tables Other cuts

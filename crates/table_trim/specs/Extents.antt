@@ -7,7 +7,7 @@ use Rattle.cfg_model.specs.Program.Cuts.{Extent, Tables}
 
 -- Where a jump table lies.
 abbrev pub extent_of : Table → Extent
-extent_of table = record { base = table.base; count = table.count }
+extent_of table = record { base = table.base; width = table.width; count = table.count }
 
 -- Where the table of the jump at j lies, if it has one.
 abbrev pub extent_at : List ℕ → Tables

@@ -1,10 +1,12 @@
--- Words that no public clause cites: the bases of the tables of some jumps, how they cut a table, and
--- the table jumps that a state shows.
-use Rattle.std.specs.Prelude.{◌≡◌, ℕ, ◌+◌, ◌-◌, ◌*◌, ◌/◌, ◌<◌, ◌≤◌, List, Contains, Option, Some, None}
+-- Words that no public clause cites: the bases of the tables of some jumps, how they cut a table,
+-- and the table jumps that a state shows.
+use Rattle.std.specs.Prelude.{◌≡◌, ℕ, ◌+◌, ◌*◌, ◌<◌, ◌≤◌, List, Contains, Option, Some, None}
 use Rattle.std.specs.Option.{MatchOption}
 use Rattle.jump_table.specs.declared.table.Table.{Table}
 use Rattle.jump_table.specs.Table.{table_at}
 use Rattle.cfg_model.specs.Builder.State.{BuilderState, IsEntered}
+use Rattle.cfg_model.specs.Program.Cuts.{Extent, kept_before}
+use Rattle.table_trim.specs.Extents.{extent_of}
 
 -- The instruction at j is a jump that has a table.
 pub record HasTable (bytes : List ℕ) (j : ℕ) : Type 0 where
@@ -29,23 +31,25 @@ pub record AreBases (bytes jumps bases : List ℕ) : Type 0 where
   pub complete : (b : ℕ) → IsBaseOf bytes jumps b → Contains bases b
 
 -- b lies strictly inside a table.
-pub record IsInside (table : Table) (b : ℕ) : Type 0 where
+pub record IsInside (table : Extent) (b : ℕ) : Type 0 where
   pub above : table.base < b
-  pub below : b < table.base + 4 * table.count
+  pub below : b < table.base + table.width * table.count
 
--- A table is cut to this many entries: up to the least of the bases inside it.
-pub record IsCutBy (bases : List ℕ) (table : Table) (kept : ℕ) : Type 0 where
+-- A table is cut to this many entries, fewer than it has: up to the least of the bases inside it.
+pub record IsCutBy (bases : List ℕ) (table : Extent) (kept : ℕ) : Type 0 where
   pub base : ℕ
   pub there : Contains bases base
   pub inside : IsInside table base
   pub least : (b : ℕ) → Contains bases b → IsInside table b → base ≤ b
-  pub entries : kept ≡ (base - table.base) / 4
+  pub entries : kept ≡ kept_before table base
+  pub fewer : kept < table.count
 
--- How many entries are kept of a table, where one of the bases lies inside it.
-abbrev pub CutBy : List ℕ → Table → Option ℕ → Type 0
+-- How many entries are kept of a table, where the bases cut it.
+abbrev pub CutBy : List ℕ → Extent → Option ℕ → Type 0
 CutBy bases table o =
-    MatchOption o ((b : ℕ) → Contains bases b → ¬ IsInside table b) (IsCutBy bases table)
+    MatchOption o ((kept : ℕ) → ¬ IsCutBy bases table kept) (IsCutBy bases table)
 
 -- The same of the table of the jump at j, where it has one.
 abbrev pub JumpCutBy : List ℕ → List ℕ → ℕ → Option ℕ → Type 0
-JumpCutBy bytes bases j o = MatchOption (table_at bytes j) (o ≡ None) (λ table. CutBy bases table o)
+JumpCutBy bytes bases j o =
+    MatchOption (table_at bytes j) (o ≡ None) (λ table. CutBy bases (extent_of table) o)

@@ -1,8 +1,9 @@
 //! The bases of jump tables, in order, and the cut of a table by them.
 
-ghost use Rattle.std.specs.Prelude.{◌≡◌, IsTrue, IfOk, All};
+ghost use Rattle.std.specs.Prelude.{◌≡◌, ◌<◌, IsTrue, IfOk, All};
 ghost use Rattle.std.specs.List.Sorted.{IsNonDecreasing};
 ghost use Rattle.elf_image.specs.Code.{is_code};
+ghost use Rattle.table_trim.specs.Extents.{extent_of};
 ghost use Rattle.table_trim.specs.Inner.{AreBases, CutBy};
 
 use code_view::{Code, Memory};
@@ -25,19 +26,21 @@ pub(crate) fn bases_of(alloc: Global, code: &Code<'_>, jumps: &[u64]) -> Result<
     Ok(bases)
 }
 
-/// How many entries come before the least base inside the table; `None` where no base lies inside it.
+/// How many whole entries come before the least base inside the table, one at least; `None` where
+/// that is all of them, or no base lies inside.
 pub(crate) fn cut_by(bases: &[u64], table: &Table) -> Option<u32>
-    requires { IsNonDecreasing bases.now }
-    ensures { CutBy bases.now table.now result }
+    requires sorted { IsNonDecreasing bases.now }
+    requires width { 0 < (extent_of table.now).width }
+    ensures { CutBy bases.now (extent_of table.now) result }
 {
     let start = table.base;
     let after = bases.partition_point(|base| *base <= start);
     if after == bases.len() {
         return None;
     }
-    let distance = bases[after] - start;
-    if distance < 4 * u64::from(table.count) {
-        Some((distance / 4) as u32)
+    let kept = ((bases[after] - start) / u64::from(table.width)).max(1);
+    if kept < u64::from(table.count) {
+        Some(kept as u32)
     } else {
         None
     }

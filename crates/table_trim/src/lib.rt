@@ -1,7 +1,8 @@
 //! Where jump tables overlap: how many entries are kept of each.
 //!
-//! The entries of a table lie one after another, and the bound test in front of its jump may allow more
-//! than belong to it. A table ends at the latest where the next one begins, so it is cut there.
+//! The entries of a table lie one after another, and the bound test in front of its jump may allow
+//! more than belong to it. A table ends at the latest where the next one begins, so it is cut
+//! there.
 //!
 //! - `jumps`: the table jumps that a closed state shows. - `bases`: where their tables begin.
 //! - `trim`: the cuts of these tables.

@@ -7,13 +7,14 @@ use crate::cuts;
 use alone::build_alone;
 use cfg_model::{Chains, Flow};
 use cfg_vectors::row_file;
+use chain_index::ChainIndex;
 use code_view::{Code, Cuts};
 use elf_image::Image;
 use std::alloc::{AllocFailed, Global};
 use std::test::Fail;
 
-/// The jumps of row 15: one through a table of four entries, and one through a table of two that begins
-/// at the third of them.
+/// The jumps of row 15: one through a table of four entries, and one through a table of two that
+/// begins at the third of them.
 const FIRST: u64 = 0x1001C;
 
 const SECOND: u64 = 0x10048;
@@ -38,8 +39,9 @@ fn kept_targets(alloc: Global, code: &Code<'_>, a: u64) -> Result<Vec<u64>, Allo
 fn cuts_a_table_where_another_begins(rt: HostRuntime) -> Result<(), Fail> {
     let file = row_file(rt.alloc(), 15, 0)?;
     let image = Image::parse(rt.alloc(), file)?;
+    let index = ChainIndex::new(rt.alloc(), &image)?;
     let none = Cuts::none(rt.alloc());
-    let code = Code::new(&image, &none);
+    let code = Code::new(&image, &index, &none);
     assert!(rt; code.has(FIRST) && code.has(SECOND));
     let targets = kept_targets(rt.alloc(), &code, FIRST)?;
     assert_eq!(rt;
@@ -56,7 +58,7 @@ fn cuts_a_table_where_another_begins(rt: HostRuntime) -> Result<(), Fail> {
     assert_eq!(rt; cuts.count(FIRST), Some(2));
     assert_eq!(rt; cuts.count(SECOND), None);
 
-    let code = Code::new(&image, &cuts);
+    let code = Code::new(&image, &index, &cuts);
     assert!(rt; code.has(FIRST) && code.has(SECOND));
     let targets = kept_targets(rt.alloc(), &code, FIRST)?;
     assert_eq!(rt; targets.as_slice(), [0x10020, 0x10020].as_slice());
@@ -64,14 +66,16 @@ fn cuts_a_table_where_another_begins(rt: HostRuntime) -> Result<(), Fail> {
         code.flow(FIRST),
         Flow::Table {
             entries: 2,
-            full: false
+            full: false,
+            is_open: false
         }
     );
     assert_eq!(rt;
         code.flow(SECOND),
         Flow::Table {
             entries: 2,
-            full: true
+            full: true,
+            is_open: false
         }
     );
     Ok(())

@@ -18,11 +18,12 @@ use code_view::{Code, Cuts, Memory};
 use core_state::State;
 use std::alloc::Global;
 
-/// The cuts of the jump tables of `code`, which has no cuts yet, from its closed state: a table is cut
-/// where the next one begins inside it. The tables that count are those whose jumps are reached.
+/// The cuts of the jump tables of `code`, which has no cuts yet, from its closed state: a table is
+/// cut where the next one begins inside it. The tables that count are those whose jumps are
+/// reached.
 ///
-/// [`Memory`] where memory ran out. It goes once over the terminators of the state; the rest of the time
-/// goes into sorting the bases of the tables and a search among them for each.
+/// [`Memory`] where memory ran out. It goes once over the terminators of the state; the rest of the
+/// time goes into sorting the bases of the tables and a search among them for each.
 pub fn cuts(alloc: Global, code: &Code<'_>, state: &State) -> Result<Cuts, Memory>
     requires uncut { code.now.cuts ≡ map.empty }
     requires closed { (seeds : List ℕ) × IsClosed (program_of code.now) seeds state.now.maps }
@@ -35,11 +36,12 @@ pub fn cuts(alloc: Global, code: &Code<'_>, state: &State) -> Result<Cuts, Memor
     cuts_of(alloc, code, &jumps)
 }
 
-/// The cuts of the tables of `jumps`, where the tables of these jumps alone count. Jumps without a table
-/// have no part in it.
+/// The cuts of the tables of `jumps`, where the tables of these jumps alone count. Jumps without a
+/// table have no part in it.
 fn cuts_of(alloc: Global, code: &Code<'_>, jumps: &[u64]) -> Result<Cuts, Memory>
     requires { All (λ j. IsTrue (is_code code.now.bytes j)) jumps.now }
-    ensures cuts { IfOk result (λ cuts. AreCuts (extent_at code.now.bytes) (λ j. Contains jumps.now j) (cut_of cuts)) }
+    ensures cuts { IfOk result
+        (λ cuts. AreCuts (extent_at code.now.bytes) (λ j. Contains jumps.now j) (cut_of cuts)) }
     ensures fits { IfOk result (λ cuts. CutsFit code.now.bytes (cut_of cuts)) }
 {
     let bases = bases_of(alloc, code, jumps)?;
@@ -52,7 +54,8 @@ fn cuts_of(alloc: Global, code: &Code<'_>, jumps: &[u64]) -> Result<Cuts, Memory
     Ok(cuts)
 }
 
-/// How many entries are kept of the table of the jump at `j`, where it has one with a base inside it.
+/// How many entries are kept of the table of the jump at `j`, where it has one with a base inside
+/// it.
 fn jump_cut_by(code: &Code<'_>, bases: &[u64], j: u64) -> Option<u32>
     requires sorted { IsNonDecreasing bases.now }
     requires code { IsTrue (is_code code.now.bytes j) }

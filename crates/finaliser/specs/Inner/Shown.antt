@@ -10,11 +10,13 @@ use Rattle.cfg_model.specs.Builder.State.{BuilderState, IsNear}
 
 -- The block from a start to the instruction at the end where that start is near.
 abbrev pub IsShownBlock : InstructionMap → BuilderState → Block → Type 0
-IsShownBlock map state block = (k : ℕ) × IsNear state.ends k block.start × IsBlockOf map block.start k block
+IsShownBlock map state block =
+    (k : ℕ) × IsNear state.ends k block.start × IsBlockOf map block.start k block
 
 -- An edge that leaves a start by a way on from the end where that start is near.
 abbrev pub IsShownEdge : InstructionMap → BuilderState → Edge → Type 0
-IsShownEdge map state edge = (k : ℕ) × IsNear state.ends k edge.from × LeadsTo map (Returns map) k edge.to edge.kind
+IsShownEdge map state edge =
+    (k : ℕ) × IsNear state.ends k edge.from × LeadsTo map (Returns map) k edge.to edge.kind
 
 -- Two blocks start at different addresses.
 abbrev pub StartApart : Block → Block → Type 0

@@ -90,7 +90,7 @@ module _ (map : InstructionMap) (seeds reached returning : List ℕ) (closure : 
   marked_leads k a r (Some (Jump target)) h m = onward_leader k a (Jump target) r h (listed_one target a m) (StartsBlock.target r h (listed_one target a m))
   marked_leads k a r (Some (Call target fall)) h m = call_leader k a target fall r h m
   marked_leads k a r (Some (IndirectCall fall)) h m = onward_leader k a (IndirectCall fall) r h (there_listed fall a m) (StartsBlock.fall r h (there_is fall a m))
-  marked_leads k a r (Some (Table entries full)) h m = onward_leader k a (Table entries full) r h m (StartsBlock.target r h m)
+  marked_leads k a r (Some (Table entries full is_open)) h m = onward_leader k a (Table entries full is_open) r h m (StartsBlock.target r h m)
   marked_leads k a r (Some Return) h m = absurd m
   marked_leads k a r (Some Unknown) h m = absurd m
   marked_leads k a r (Some Stop) h m = absurd m
@@ -103,7 +103,7 @@ module _ (map : InstructionMap) (seeds reached returning : List ℕ) (closure : 
   target_marked k a (Jump target) c = one_listed target a c
   target_marked k a (Call target fall) c = inl (one_listed target a c)
   target_marked k a (IndirectCall fall) c = absurd (Contains-none a c)
-  target_marked k a (Table entries full) c = c
+  target_marked k a (Table entries full is_open) c = c
   target_marked k a Return c = absurd (Contains-none a c)
   target_marked k a Unknown c = absurd (Contains-none a c)
   target_marked k a Stop c = absurd (Contains-none a c)
@@ -114,7 +114,7 @@ module _ (map : InstructionMap) (seeds reached returning : List ℕ) (closure : 
   fall_marked k a (Jump target) e = cc
   fall_marked k a (Call target fall) e = cc
   fall_marked k a (IndirectCall fall) e = is_there fall a e
-  fall_marked k a (Table entries full) e = cc
+  fall_marked k a (Table entries full is_open) e = cc
   fall_marked k a Return e = cc
   fall_marked k a Unknown e = cc
   fall_marked k a Stop e = cc

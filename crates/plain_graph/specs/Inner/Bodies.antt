@@ -23,12 +23,14 @@ StaysAmong edges entries entry a =
     (edge : Edge) × Contains edges edge × StaysTo entries entry edge a
 
 -- These are the addresses of the body, rising.
-pub record IsBodyWithin (edges : List Edge) (entries : List ℕ) (entry : ℕ) (body : List ℕ) : Type 0 where
+pub record IsBodyWithin (edges : List Edge) (entries : List ℕ) (entry : ℕ)
+    (body : List ℕ) : Type 0 where
   pub rising : IsStrictlyIncreasing body
   pub exact : (a : ℕ) → Contains body a ↔ InBody (Contains edges) (Contains entries) entry a
 
 -- The function of this entry.
-pub record IsFunctionWithin (edges : List Edge) (entries returning : List ℕ) (entry : ℕ) (function : Function) : Type 0 where
+pub record IsFunctionWithin (edges : List Edge) (entries returning : List ℕ) (entry : ℕ)
+    (function : Function) : Type 0 where
   pub starts : function.entry ≡ entry
   pub status : IsTrue function.returns ↔ Contains returning entry
   pub body : IsBodyWithin edges entries entry function.body
@@ -37,10 +39,12 @@ pub record IsFunctionWithin (edges : List Edge) (entries returning : List ℕ) (
 pub record AreEntriesWithin (edges : List Edge) (seeds entries : List ℕ) : Type 0 where
   pub rising : IsStrictlyIncreasing entries
   pub exact : (a : ℕ)
-      → Contains entries a ↔ (Contains seeds a ⊎ ((edge : Edge) × Contains edges edge × CallsTo edge a))
+      → Contains entries a
+      ↔ (Contains seeds a ⊎ ((edge : Edge) × Contains edges edge × CallsTo edge a))
 
 -- These are the functions, in the order of their entries.
-pub record AreFunctionsWithin (edges : List Edge) (seeds returning : List ℕ) (functions : List Function) : Type 0 where
+pub record AreFunctionsWithin (edges : List Edge) (seeds returning : List ℕ)
+    (functions : List Function) : Type 0 where
   pub entries : List ℕ
   pub are : AreEntriesWithin edges seeds entries
   pub each : AllZip (IsFunctionWithin edges entries returning) entries functions

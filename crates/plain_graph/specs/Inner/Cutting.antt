@@ -1,4 +1,5 @@
--- Blocks and edges, where blocks are cut at a list of leaders and these are the addresses that return.
+-- Blocks and edges, where blocks are cut at a list of leaders and these are the addresses that
+-- return.
 use Rattle.std.specs.Prelude.{ℕ, List, Contains}
 use Rattle.cfg_model.specs.declared.graph.Block.{Block}
 use Rattle.cfg_model.specs.declared.graph.Edge.{Edge}

@@ -1,7 +1,8 @@
 -- Which leaders one reached instruction makes, read off its flow and what the closure found.
 use Rattle.std.specs.Prelude.{◌≡◌, ℕ, ◌⊎◌, List, Contains, Option, Some, None}
 use Rattle.cfg_model.specs.declared.flow.Flow.{Flow}
-use Rattle.cfg_model.specs.declared.flow.Flow.TheVariants.{Straight, Branch, Jump, Call, IndirectCall, Table}
+use Rattle.cfg_model.specs.declared.flow.Flow.TheVariants.{Straight, Branch, Jump}
+use Rattle.cfg_model.specs.declared.flow.Flow.TheVariants.{Call, IndirectCall, Table}
 use Rattle.cfg_model.specs.Program.Instructions.{InstructionMap, flow_at, length_at, targets_at}
 use Rattle.cfg_model.specs.Program.Chain.{GoesOnTo}
 
@@ -31,7 +32,7 @@ MadeBy map reached returning k (Some (Jump target)) a = a ≡ target
 MadeBy map reached returning k (Some (Call target fall)) a =
     (a ≡ target) ⊎ (Contains returning target × IsThere fall a)
 MadeBy map reached returning k (Some (IndirectCall fall)) a = IsThere fall a
-MadeBy map reached returning k (Some (Table entries full)) a = Contains (targets_at map k) a
+MadeBy map reached returning k (Some (Table entries full is_open)) a = Contains (targets_at map k) a
 MadeBy map reached returning k _ a = ⊥
 
 -- The instruction at k makes a a leader.

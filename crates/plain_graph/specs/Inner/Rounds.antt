@@ -1,5 +1,6 @@
 -- Rounds: what one instruction adds to the addresses that are found, and to those known to return.
-use Rattle.std.specs.Prelude.{◌≡◌, ◌↔◌, ℕ, ◌<◌, ◌⊎◌, List, length, ◌++◌, Contains, Option, Some, IsSome}
+use Rattle.std.specs.Prelude.{◌≡◌, ◌↔◌, ℕ, ◌<◌, ◌⊎◌, List, length}
+use Rattle.std.specs.Prelude.{◌++◌, Contains, Option, Some, IsSome}
 use Rattle.cfg_model.specs.Program.Instructions.{InstructionMap}
 use Rattle.cfg_model.specs.Program.Successors.{IsSuccessor, IsCall, ReturnsByItself}
 use Rattle.cfg_model.specs.Program.Status.{Returns}
@@ -43,7 +44,8 @@ pub record Adds (old new added : List ℕ) : Type 0 where
 
 -- The list new goes on where old ends, and has the addresses of old and what the instruction at a
 -- leads to.
-pub record Follows (map : InstructionMap) (returning : List ℕ) (a : ℕ) (old new : List ℕ) : Type 0 where
+pub record Follows (map : InstructionMap) (returning : List ℕ) (a : ℕ)
+    (old new : List ℕ) : Type 0 where
   pub rest : List ℕ
   pub goes_on : new ≡ old ++ rest
   pub has : (b : ℕ) → Leads map returning a b → Contains new b
@@ -74,8 +76,8 @@ pub data Learns (map : InstructionMap) (xs old new : List ℕ) : Type 0 where
   grown : length old < length new → Learns map xs old new
   at_rest : new ≡ old → AreAllLearnt map xs old → Learns map xs old new
 
--- What holds of the addresses found so far: each is that of an instruction, the set beside their list
--- has the same, and those marked return and are among them.
+-- What holds of the addresses found so far: each is that of an instruction, the set beside their
+-- list has the same, and those marked return and are among them.
 pub record IsFoundSoFar (map : InstructionMap) (order members returning : List ℕ) : Type 0 where
   pub same : HaveSame order members
   pub known : AreKnown map order

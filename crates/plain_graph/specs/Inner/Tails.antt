@@ -1,5 +1,6 @@
 -- Tail calls, read off a list of functions, and the edges in which they are marked.
-use Rattle.std.specs.Prelude.{◌≡◌, ◌≢◌, ℕ, ◌<◌, List, length, slice_index_or, All, AllPairs, Contains}
+use Rattle.std.specs.Prelude.{◌≡◌, ◌≢◌, ℕ, ◌<◌, List, length}
+use Rattle.std.specs.Prelude.{slice_index_or, All, AllPairs, Contains}
 use Rattle.std.specs.List.Sorted.{IsStrictlyIncreasing}
 use Rattle.cfg_model.specs.declared.graph.Edge.{Edge}
 use Rattle.cfg_model.specs.declared.graph.EdgeKind.TheVariants as kinds
@@ -12,13 +13,15 @@ pub record AreSearchable (functions : List Function) : Type 0 where
   pub entries : AllPairs FunctionBefore functions
   pub bodies : All (λ f. IsStrictlyIncreasing f.body) functions
 
--- One of these functions starts at this address; the body of the one that starts there has the other.
+-- One of these functions starts at this address; the body of the one that starts there has the
+-- other.
 abbrev pub IsEntryOf : List Function → ℕ → Type 0
 IsEntryOf functions a = (function : Function) × Contains functions function × (function.entry ≡ a)
 
 abbrev pub IsInBodyOf : List Function → ℕ → ℕ → Type 0
 IsInBodyOf functions entry a =
-    (function : Function) × Contains functions function × (function.entry ≡ entry) × Contains function.body a
+    (function : Function) × Contains functions function × (function.entry ≡ entry)
+    × Contains function.body a
 
 -- The edge is a tail call: a jump to one of these functions from outside of its body.
 pub record IsTailWithin (functions : List Function) (edge : Edge) : Type 0 where

@@ -39,7 +39,8 @@ pub(crate) fn body_of(
 /// The edges from `a`, which lie side by side.
 fn edges_from(edges: &[Edge], a: u64) -> &[Edge]
     requires { AllPairs EdgeBefore edges.now }
-    ensures { (edge : Edge) → Contains result.now edge ↔ (Contains edges.now edge × (edge.from ≡ a)) }
+    ensures { (edge : Edge) → Contains result.now edge
+        ↔ (Contains edges.now edge × (edge.from ≡ a)) }
 {
     let first = edges.partition_point(|edge| edge.from < a);
     let rest = &edges[first..];
@@ -52,7 +53,8 @@ fn add_targets(edges: &[Edge], entries: &[u64], entry: u64, found: &mut Found) -
     requires same { HaveSame found.old.order.items found.old.members.keys }
     requires rising { IsStrictlyIncreasing entries.now }
     ensures same { OnOk result (HaveSame found.new.order.items found.new.members.keys) }
-    ensures adds { OnOk result (Extends found.old.order.items found.new.order.items (StaysAmong edges.now entries.now entry)) }
+    ensures adds { OnOk result (Extends found.old.order.items found.new.order.items
+        (StaysAmong edges.now entries.now entry)) }
 {
     for edge in edges {
         add_target(*edge, entries, entry, found)?;
@@ -65,7 +67,8 @@ fn add_target(edge: Edge, entries: &[u64], entry: u64, found: &mut Found) -> Res
     requires same { HaveSame found.old.order.items found.old.members.keys }
     requires rising { IsStrictlyIncreasing entries.now }
     ensures same { OnOk result (HaveSame found.new.order.items found.new.members.keys) }
-    ensures adds { OnOk result (Extends found.old.order.items found.new.order.items (StaysTo entries.now entry edge)) }
+    ensures adds { OnOk result
+        (Extends found.old.order.items found.new.order.items (StaysTo entries.now entry edge)) }
 {
     if stays(edge, entries, entry) {
         found.add(edge.to)?;

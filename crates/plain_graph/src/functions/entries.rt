@@ -19,7 +19,8 @@ pub(crate) fn entries_of(alloc: Global, edges: &[Edge], seeds: &[u64]) -> Result
 
 /// The seeds, and the targets of calls.
 fn called_in(alloc: Global, edges: &[Edge], seeds: &[u64]) -> Result<Vec<u64>, Memory>
-    ensures { IfOk result (λ v. Gains seeds.now v.items (λ a. (edge : Edge) × Contains edges.now edge × CallsTo edge a)) }
+    ensures { IfOk result (λ v. Gains seeds.now v.items
+        (λ a. (edge : Edge) × Contains edges.now edge × CallsTo edge a)) }
 {
     let mut marks = Vec::from_slice(alloc, seeds)?;
     for edge in edges {

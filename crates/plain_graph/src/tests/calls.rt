@@ -55,6 +55,7 @@ fn mutual_recursion(rt: HostRuntime) -> Result<(), Fail> {
         edge(12, 16, EdgeKind::After),
     ];
     let code = Sample {
+        alloc: rt.alloc(),
         slots: &slots,
         targets: &[],
         seeds: &[0],
@@ -63,7 +64,8 @@ fn mutual_recursion(rt: HostRuntime) -> Result<(), Fail> {
     expect(&rt, rt.alloc(), &code, &functions, &blocks, &edges)
 }
 
-/// A function that calls itself never returns, so what stands behind the call is not reached (row 9).
+/// A function that calls itself never returns, so what stands behind the call is not reached (row
+/// 9).
 #[test]
 fn endless_recursion(rt: HostRuntime) -> Result<(), Fail> {
     let call = Flow::Call {
@@ -74,6 +76,7 @@ fn endless_recursion(rt: HostRuntime) -> Result<(), Fail> {
     let blocks = [block(0, 4, EndKind::Call)];
     let edges = [edge(0, 0, EdgeKind::Call)];
     let code = Sample {
+        alloc: rt.alloc(),
         slots: &slots,
         targets: &[],
         seeds: &[0],
@@ -82,8 +85,8 @@ fn endless_recursion(rt: HostRuntime) -> Result<(), Fail> {
     expect(&rt, rt.alloc(), &code, &functions, &blocks, &edges)
 }
 
-/// A second function jumps to the entry of the first, from outside of its body. The jump of the first to
-/// its own entry is no tail call (row 17).
+/// A second function jumps to the entry of the first, from outside of its body. The jump of the
+/// first to its own entry is no tail call (row 17).
 #[test]
 fn tail_call(rt: HostRuntime) -> Result<(), Fail> {
     let branch = Flow::Branch {
@@ -118,6 +121,7 @@ fn tail_call(rt: HostRuntime) -> Result<(), Fail> {
         edge(12, 0, EdgeKind::Tail),
     ];
     let code = Sample {
+        alloc: rt.alloc(),
         slots: &slots,
         targets: &[],
         seeds: &[0, 12],

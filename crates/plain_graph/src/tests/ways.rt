@@ -38,6 +38,7 @@ fn branch_back(rt: HostRuntime) -> Result<(), Fail> {
         edge(4, 12, EdgeKind::Fall),
     ];
     let code = Sample {
+        alloc: rt.alloc(),
         slots: &slots,
         targets: &[],
         seeds: &[0],
@@ -77,6 +78,7 @@ fn two_streams(rt: HostRuntime) -> Result<(), Fail> {
         edge(4, 8, EdgeKind::Fall),
     ];
     let code = Sample {
+        alloc: rt.alloc(),
         slots: &slots,
         targets: &[],
         seeds: &[0],
@@ -104,6 +106,7 @@ fn through_registers(rt: HostRuntime) -> Result<(), Fail> {
     ];
     let edges = [edge(0, 4, EdgeKind::After)];
     let code = Sample {
+        alloc: rt.alloc(),
         slots: &slots,
         targets: &[],
         seeds: &[0],
@@ -123,6 +126,7 @@ fn cut_off(rt: HostRuntime) -> Result<(), Fail> {
     let blocks = [block(0, 2, EndKind::BranchOut), block(2, 4, EndKind::Jump)];
     let edges = [edge(0, 2, EdgeKind::Fall), edge(2, 2, EdgeKind::Jump)];
     let code = Sample {
+        alloc: rt.alloc(),
         slots: &slots,
         targets: &[],
         seeds: &[0],
@@ -131,12 +135,13 @@ fn cut_off(rt: HostRuntime) -> Result<(), Fail> {
     expect(&rt, rt.alloc(), &code, &functions, &blocks, &edges)
 }
 
-/// A jump through a table that was cut, two of whose entries are the same.
+/// A jump through a table without a bound test that was cut, two of whose entries are the same.
 #[test]
 fn table_jump(rt: HostRuntime) -> Result<(), Fail> {
     let table = Flow::Table {
         entries: 3,
         full: false,
+        is_open: true,
     };
     let slots = [
         Some((2, table)),
@@ -146,12 +151,13 @@ fn table_jump(rt: HostRuntime) -> Result<(), Fail> {
         Some((2, Flow::Stop)),
     ];
     let blocks = [
-        block(0, 2, EndKind::TableCut),
+        block(0, 2, EndKind::TableOpen),
         block(2, 4, EndKind::Return),
         block(4, 6, EndKind::Stop),
     ];
     let edges = [edge(0, 2, EdgeKind::Table), edge(0, 4, EdgeKind::Table)];
     let code = Sample {
+        alloc: rt.alloc(),
         slots: &slots,
         targets: &[4, 2, 4],
         seeds: &[0],

@@ -46,7 +46,7 @@ returns-in-IndirectCall-clause-follows g c =
 pub returns-in-Table-clause-follows : goal.returns-in-Table-clause-follows
 returns-in-Table-clause-follows g c =
     on_ok_weaker c.follow_table.result
-    (follows_by_flow _ _ _ (Table c.in-Table.entries c.in-Table.full) _ _ c.in-Table.ensures.flow (λ t f e. cc))
+    (follows_by_flow _ _ _ (Table c.in-Table.entries c.in-Table.full c.in-Table.is_open) _ _ c.in-Table.ensures.flow (λ t f e. cc))
     c.follow_table.ensures.adds
 
 pub returns-in-Return-clause-follows : goal.returns-in-Return-clause-follows

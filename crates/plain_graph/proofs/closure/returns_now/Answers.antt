@@ -47,4 +47,4 @@ returns-in-IndirectCall g c =
 pub returns-in-Table : goal.returns-in-Table
 returns-in-Table g c =
     chain c.table_returns.ensures
-    (returns_by_flow _ _ _ (Table c.in-Table.entries c.in-Table.full) c.in-Table.ensures.flow (λ t f e. cc) (λ h. h))
+    (returns_by_flow _ _ _ (Table c.in-Table.entries c.in-Table.full c.in-Table.is_open) c.in-Table.ensures.flow (λ t f e. cc) (λ h. h))

@@ -6,7 +6,7 @@ use Rattle.cfg_model.proofs.Program.Code.{table_entries}
 use Rattle.plain_graph.proofs.leaders.mark.Goals as goal
 
 pub mark_table-requires : goal.mark_table-requires
-mark_table-requires g c = (c.type_bounds.sync-C, table_entries (g.C.Chains.map c.args.code.now) c.args.k c.in-Table.entries c.in-Table.full c.in-Table.ensures.lawful c.in-Table.ensures.flow)
+mark_table-requires g c = (c.type_bounds.sync-C, table_entries (g.C.Chains.map c.args.code.now) c.args.k c.in-Table.entries c.in-Table.full c.in-Table.is_open c.in-Table.ensures.lawful c.in-Table.ensures.flow)
 
 pub returns-in-Straight : goal.returns-in-Straight
 returns-in-Straight g c =

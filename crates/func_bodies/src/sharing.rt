@@ -1,0 +1,132 @@
+//! The functions of a program, made by several threads.
+
+ghost use Rattle.std.specs.Prelude.{◌≡◌, ℕ, ◌<◌, ◌≤◌, IfOk, length, vec_len, slice_index_or, All};
+ghost use Rattle.std.specs.List.{AllZip, flat_map};
+ghost use Rattle.std.specs.Thread.{IsSync};
+ghost use Rattle.cfg_model.specs.Graph.Function.{IsFunction};
+ghost use Rattle.cfg_model.specs.Graph.Graph.{FunctionBefore};
+ghost use Rattle.cfg_model.specs.Builder.Kept.{IsClosed};
+ghost use Rattle.cfg_model.specs.Graph.Listing.{Lists};
+ghost use Rattle.finaliser.specs.Closed.{IsOutlineOf};
+ghost use Rattle.func_bodies.specs.Listed.{AreOrdered, HaveEachEntry};
+ghost use Rattle.func_bodies.specs.Inner.Bodies.{IsFunctionBy};
+ghost use Rattle.func_bodies.specs.Inner.Plans.{Serves};
+ghost use Rattle.func_bodies.specs.Inner.Parts.{AreMade, made_in};
+
+use crate::listing::{functions, functions_at, plan_of};
+use crate::memory::Memory;
+use crate::ways::Way;
+use cfg_model::{Block, Chains, Function, Functions};
+use core_state::State;
+use finaliser::Outline;
+use std::alloc::Global;
+use std::thread::{self, Threads};
+
+/// The most workers that functions are made by.
+pub const MOST_WORKERS: u32 = 64;
+
+/// The answer of [`functions`], made by so many workers, from 1 to 64. With one worker no thread is
+/// started. [`Memory`] where memory ran out.
+///
+/// The entries are cut into one part for each worker, with about as many blocks between the first
+/// and the last one of each. A worker needs four bytes for each block of the program, besides its
+/// functions.
+pub fn functions_by<R: Threads + Sync, C: Chains>(
+    rt: &R,
+    alloc: Global,
+    code: &C,
+    seeds: &[u64],
+    state: &State,
+    outline: &Outline,
+    workers: u32,
+) -> Result<Functions, Memory>
+    requires closed { IsClosed (C.map code.now) seeds.now state.now.maps }
+    requires outline { IsOutlineOf (C.map code.now) state.now.maps outline.now }
+    requires some { 1 ≤ workers }
+    requires most { workers ≤ MOST_WORKERS }
+    ensures exact { IfOk result (Lists FunctionBefore (IsFunction (C.map code.now) seeds.now)) }
+    ensures complete { IfOk result (HaveEachEntry (C.map code.now) seeds.now) }
+    ensures ordered { IfOk result AreOrdered }
+{
+    if workers == 1 {
+        return functions(alloc, code, seeds, state, outline);
+    }
+    let blocks = outline.blocks.as_slice();
+    let plan = plan_of(alloc, code, seeds, state, outline)?;
+    let parts = parts_of(alloc, &plan.entries, blocks, workers as usize)?;
+    let lists = made_by_part(rt, alloc, code, state, blocks, &plan.ways, parts)?;
+    let functions = joined(alloc, lists)?;
+    Ok(Functions::from_vec(functions))
+}
+
+/// The entries in parts that lie side by side, one for each worker at most, but for a part of those
+/// that lie behind all blocks.
+fn parts_of<'a>(
+    alloc: Global,
+    entries: &'a [u64],
+    blocks: &[Block],
+    workers: usize,
+) -> Result<Vec<&'a [u64]>, Memory>
+    requires { 0 < workers }
+    ensures { IfOk result (λ v. flat_map (λ part. part.now) v.items ≡ entries.now) }
+{
+    let mut parts = Vec::with_capacity(alloc, workers)?;
+    let mut rest = entries;
+    for share in blocks.chunks(blocks.len() / workers + 1) {
+        let count = entries_within(rest, share);
+        parts.push(&rest[..count])?;
+        rest = &rest[count..];
+    }
+    parts.push(rest)?;
+    Ok(parts)
+}
+
+/// How many of these rising entries lie at or before the last of these blocks.
+fn entries_within(entries: &[u64], blocks: &[Block]) -> usize
+    ensures { result ≤ length entries.now }
+{
+    match blocks.last() {
+        Some(last) => entries.partition_point(|entry| *entry <= last.start),
+        None => 0,
+    }
+}
+
+/// The functions of each part, made on a thread of its own, in the order of the parts.
+fn made_by_part<R: Threads + Sync, C: Chains>(
+    rt: &R,
+    alloc: Global,
+    code: &C,
+    state: &State,
+    blocks: &[Block],
+    ways: &[Way],
+    parts: Vec<&[u64]>,
+) -> Result<Vec<Result<Vec<Function>, Memory>>, Memory>
+    requires { All
+        (λ part. Serves (C.map code.now) state.now.maps blocks.now ways.now part.now) parts.items }
+    ensures as_many { IfOk result (λ v. vec_len v ≡ vec_len parts.entry) }
+    ensures each { IfOk result (λ v. (i : ℕ) (d : _) (e : _) → i < length parts.entry.items
+        → IfOk (slice_index_or v.items i e) (λ w.
+        AllZip (IsFunctionBy (C.map code.now) blocks.now ways.now)
+        (slice_index_or parts.entry.items i d).now w.items)) }
+{
+    let make = |part: &[u64]| -> Result<Vec<Function>, Memory>
+        requires { IsSync C.row
+            × Serves (C.map code.now) state.now.maps blocks.now ways.now part.now }
+        ensures { IfOk result
+            (λ v. AllZip (IsFunctionBy (C.map code.entry.now) blocks.entry.now ways.entry.now)
+            part.entry.now v.items) }
+    { functions_at(alloc, code, state, blocks, ways, part) };
+    Ok(thread::map_vec(rt, parts, &make)?)
+}
+
+/// All these lists, one after another, or the first of their errors.
+fn joined(alloc: Global, lists: Vec<Result<Vec<Function>, Memory>>) -> Result<Vec<Function>, Memory>
+    ensures all { IfOk result (λ v. All AreMade lists.items) }
+    ensures joined { IfOk result (λ v. v.items ≡ flat_map made_in lists.items) }
+{
+    let mut all = Vec::new(alloc);
+    for list in lists {
+        all.append(&mut list?)?;
+    }
+    Ok(all)
+}
