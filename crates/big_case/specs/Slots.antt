@@ -1,7 +1,8 @@
 -- The code of a large program of n functions: this project's profile. Slots 0 to n - 1 are the
 -- functions, as a binary tree: function i calls functions 2 i + 1 and 2 i + 2. Slot n returns and
 -- slot n + 1 loops without end.
-use Rattle.std.specs.Prelude.{ℕ, ◌+◌, ◌-◌, ◌*◌, ◌/◌, ◌%◌, ◌==◌, List, [], ◌∷◌, ◌++◌, length, map, replicate, if◌then◌else◌}
+use Rattle.std.specs.Prelude.{ℕ, ◌+◌, ◌-◌, ◌*◌, ◌/◌, ◌%◌, ◌==◌, List, [], ◌∷◌, ◌++◌, length, map}
+use Rattle.std.specs.Prelude.{replicate, if◌then◌else◌}
 use Rattle.std.specs.List.{flat_map, range_with_len}
 use Rattle.elf_maker.specs.Fields.{words}
 use Rattle.big_case.specs.Pair.{pair}

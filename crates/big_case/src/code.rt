@@ -1,6 +1,7 @@
 //! The code: a slot for each function, a slot that returns, and a slot that loops without end.
 
-ghost use Rattle.std.specs.Prelude.{◌≡◌, ◌*◌, ◌+◌, ◌-◌, ◌/◌, ◌%◌, ◌≤◌, ◌<◌, ◌++◌, [], ◌∷◌, length, OnOk, IfOk};
+ghost use Rattle.std.specs.Prelude.{◌≡◌, ◌*◌, ◌+◌, ◌-◌, ◌/◌, ◌%◌, ◌≤◌, ◌<◌, ◌++◌, [], ◌∷◌, length};
+ghost use Rattle.std.specs.Prelude.{OnOk, IfOk};
 ghost use Rattle.big_case.specs.Pair.{first_word, second_word};
 ghost use Rattle.big_case.specs.Places.{slot_at, table_at, callee};
 ghost use Rattle.big_case.specs.Slots.{function, slot_bytes, code_bytes};

@@ -13,6 +13,7 @@ fault_count n = min n most_faults
 abbrev pub one_more : ℕ → ℕ
 one_more n = min (n + 1) most_faults
 
--- the count rose in a call: it is greater at the end than at the start, or stands at the largest count at the end
+-- the count rose in a call: it is greater at the end than at the start, or stands at the largest
+-- count at the end
 abbrev pub Rose : ℕ → ℕ → Type 0
 Rose old new = (old < new) ⊎ (most_faults ≤ new)

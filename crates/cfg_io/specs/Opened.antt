@@ -1,7 +1,8 @@
 -- What an input has opened.
 use Rattle.std.specs.Prelude.{◌≢◌, ℕ, List, Bool, Option, Some, None, if◌then◌else◌}
 
--- nothing, or something and, where the input tells it, the path that was given to the successful open
+-- nothing, or something and, where the input tells it, the path that was given to the successful
+-- open
 pub data Opened : Type 0 where
   Nothing : Opened
   Something : Option (List ℕ) → Opened

@@ -1,4 +1,5 @@
--- Bytes that an input or a sink tells, `Some` of them, or does not tell, `None`. No call changes which.
+-- Bytes that an input or a sink tells, `Some` of them, or does not tell, `None`. No call changes
+-- which.
 use Rattle.std.specs.Prelude.{◌≡◌, ℕ, ◌≤◌, ◌<◌, List, ◌++◌, length, take, Option}
 use Rattle.std.specs.Option.{option_map}
 

@@ -8,8 +8,8 @@ use std::marker::Model;
 
 /// A sink that takes all that is written, keeps only the number of bytes, and never fails.
 ///
-/// Its count of faults is 0 at all times, so what writes to it has no failure to answer. It does not
-/// tell its bytes, and no call takes memory.
+/// Its count of faults is 0 at all times, so what writes to it has no failure to answer. It does
+/// not tell its bytes, and no call takes memory.
 #[derive(Drop)]
 pub struct CountSink {
     count: u64,

@@ -1,5 +1,6 @@
 //! What bytes are read from.
-ghost use Rattle.std.specs.Prelude.{◌≡◌, ◌↔◌, ℕ, ◌≤◌, ◌<◌, List, [], length, take, Bool, Option, IfSome, IfOk, OnOk, OnErr};
+ghost use Rattle.std.specs.Prelude.{◌≡◌, ◌↔◌, ℕ, ◌≤◌, ◌<◌, List, [], length, take, Bool, Option};
+ghost use Rattle.std.specs.Prelude.{IfSome, IfOk, OnOk, OnErr};
 ghost use Rattle.cfg_io.specs.Fault.{most_faults, Rose};
 ghost use Rattle.cfg_io.specs.Opened.{Opened, Nothing, Something, IsOpened, told_path};
 ghost use Rattle.cfg_io.specs.Told.{Takes};
@@ -36,8 +37,8 @@ pub trait Input {
         ensures never_falls { faults self.old ≤ faults self.new }
         ensures failed { OnErr result (Rose (faults self.old) (faults self.new)) };
 
-    /// Reads the next bytes into the front of `buf`, which has room for one at least, and answers how
-    /// many: 0 exactly at the end.
+    /// Reads the next bytes into the front of `buf`, which has room for one at least, and answers
+    /// how many: 0 exactly at the end.
     ///
     /// [`Failed`]: no byte was taken. What is opened stays opened after either answer.
     fn read(&mut self, buf: &mut [u8]) -> Result<usize, Failed>

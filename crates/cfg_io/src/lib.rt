@@ -1,9 +1,9 @@
 //! Reading a whole input and writing a whole output, with every failure counted.
 //!
-//! An [`Input`] is opened once and read from front to back; a [`Sink`] is written to. Each call that
-//! answers [`Failed`] has raised the object's count of faults, so that a caller's contract can say
-//! that a failure came from outside and was not made up. [`read_whole`] and [`write_whole`] go on
-//! until all is read or written, or a call fails.
+//! An [`Input`] is opened once and read from front to back; a [`Sink`] is written to. Each call
+//! that answers [`Failed`] has raised the object's count of faults, so that a caller's contract can
+//! say that a failure came from outside and was not made up. [`read_whole`] and [`write_whole`] go
+//! on until all is read or written, or a call fails.
 //!
 //! [`MemInput`] and [`MemSink`] are in memory and fail at the calls that they are told to;
 //! [`SafeInput`] and [`CountSink`] never fail, and so no call over them has a fault to answer;

@@ -1,10 +1,13 @@
 //! An input in memory.
-ghost use Rattle.std.specs.Prelude.{◌≡◌, ◌≢◌, ◌⊎◌, ◌↔◌, ◌≤◌, ◌<◌, [], ◌++◌, length, take, drop, min, true, false, Some, IfSome, IfOk, OnOk, OnErr, string_bytes};
+ghost use Rattle.std.specs.Prelude.{◌≡◌, ◌≢◌, ◌⊎◌, ◌↔◌, ◌≤◌, ◌<◌, [], ◌++◌, length, take, drop};
+ghost use Rattle.std.specs.Prelude.{min, true, false, Some, IfSome, IfOk, OnOk, OnErr};
+ghost use Rattle.std.specs.Prelude.{string_bytes};
 ghost use Rattle.cfg_io.specs.Fault.{fault_count, most_faults};
 ghost use Rattle.cfg_io.specs.Opened.{Nothing, IsOpened};
 ghost use Rattle.cfg_io.specs.Told.{Takes};
 ghost use Rattle.cfg_io.specs.Script.{FailsNext};
-ghost use Rattle.cfg_io.specs.MemInput.{MemInputState, opened_of, after_failed, after_open, after_read};
+ghost use Rattle.cfg_io.specs.MemInput.{MemInputState, opened_of, after_failed, after_open};
+ghost use Rattle.cfg_io.specs.MemInput.{after_read};
 ghost use Rattle.std.proofs.Math.Nat.{min-le_right};
 
 use crate::giving::give;
@@ -14,8 +17,8 @@ use std::marker::Model;
 
 /// An input that holds its bytes, for tests of what reads from an [`Input`].
 ///
-/// Its calls of `open` and `read` together are numbered from 1, without an end. It tells its path and
-/// its bytes, and no call takes memory.
+/// Its calls of `open` and `read` together are numbered from 1, without an end. It tells its path
+/// and its bytes, and no call takes memory.
 #[derive(Drop)]
 pub struct MemInput {
     name: String,
@@ -48,7 +51,8 @@ impl MemInput {
     /// An input with these bytes, of which it gives at most `most` per read, at least 1. Nothing is
     /// opened.
     ///
-    /// A call fails exactly where its number is in `failing`, or it is an `open` of another path than
+    /// A call fails exactly where its number is in `failing`, or it is an `open` of another path
+    /// than
     /// `name`.
     pub fn new(name: String, bytes: Vec<u8>, most: usize, failing: Vec<u64>) -> Self
         requires { 0 < most }

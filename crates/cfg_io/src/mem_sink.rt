@@ -1,5 +1,6 @@
 //! A sink in memory.
-ghost use Rattle.std.specs.Prelude.{◌≡◌, ◌⊎◌, ◌-◌, ◌≤◌, ◌<◌, [], length, take, min, Some, IfOk, OnOk, OnErr, vec_len, vec_capacity};
+ghost use Rattle.std.specs.Prelude.{◌≡◌, ◌⊎◌, ◌-◌, ◌≤◌, ◌<◌, [], length, take, min, Some, IfOk};
+ghost use Rattle.std.specs.Prelude.{OnOk, OnErr, vec_len, vec_capacity};
 ghost use Rattle.cfg_io.specs.Fault.{fault_count, most_faults};
 ghost use Rattle.cfg_io.specs.Script.{FailsNext};
 ghost use Rattle.cfg_io.specs.MemSink.{MemSinkState, after_failed, after_write};
@@ -89,7 +90,8 @@ impl Sink for MemSink {
 
         // It fails exactly where its number is in the list or no room is left.
         ensures fails { OnErr result
-            (FailsNext self.old.failing self.old.calls ⊎ (self.old.room ≤ length self.old.written)) }
+            (FailsNext self.old.failing self.old.calls
+            ⊎ (self.old.room ≤ length self.old.written)) }
         ensures ok_number { OnOk result (¬ FailsNext self.old.failing self.old.calls) }
         ensures ok_room { OnOk result (length self.old.written < self.old.room) }
 

@@ -1,5 +1,6 @@
 //! Reading an input to its end.
-ghost use Rattle.std.specs.Prelude.{◌≡◌, ◌+◌, ◌≤◌, ◌<◌, [], length, take, drop, IfSome, IfOk, IsErrOf, OnOk, OnErr, vec_len};
+ghost use Rattle.std.specs.Prelude.{◌≡◌, ◌+◌, ◌≤◌, ◌<◌, [], length, take, drop, IfSome, IfOk};
+ghost use Rattle.std.specs.Prelude.{IsErrOf, OnOk, OnErr, vec_len};
 ghost use Rattle.cfg_io.specs.Fault.{Rose};
 ghost use Rattle.cfg_io.specs.Opened.{IsOpened};
 ghost use Rattle.cfg_io.specs.Told.{Takes, TakesCount, TakesAtMost};

@@ -1,5 +1,6 @@
 //! An input in memory that never fails.
-ghost use Rattle.std.specs.Prelude.{◌≡◌, ◌↔◌, ◌≤◌, ◌<◌, [], ◌++◌, length, take, drop, min, false, Ok, Some, IfSome, IfOk, OnOk};
+ghost use Rattle.std.specs.Prelude.{◌≡◌, ◌↔◌, ◌≤◌, ◌<◌, [], ◌++◌, length, take, drop, min, false};
+ghost use Rattle.std.specs.Prelude.{Ok, Some, IfSome, IfOk, OnOk};
 ghost use Rattle.std.proofs.Common.{lit≤};
 ghost use Rattle.cfg_io.specs.Opened.{Nothing, IsOpened};
 ghost use Rattle.cfg_io.specs.Told.{Takes};
@@ -11,8 +12,8 @@ use std::marker::Model;
 
 /// An input that holds its bytes, opens by any path and never fails.
 ///
-/// Its count of faults is 0 at all times, so what reads from it has no failure to answer. It tells its
-/// bytes and not the path, and no call takes memory.
+/// Its count of faults is 0 at all times, so what reads from it has no failure to answer. It tells
+/// its bytes and not the path, and no call takes memory.
 #[derive(Drop)]
 pub struct SafeInput {
     bytes: Vec<u8>,

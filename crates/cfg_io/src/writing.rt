@@ -10,7 +10,8 @@ use crate::{Failed, Sink};
 /// [`Failed`]: a write failed. The bytes before it were appended, and not all of them.
 pub fn write_whole<O: Sink>(sink: &mut O, bytes: &[u8]) -> Result<(), Failed>
     ensures whole { OnOk result (Appends (O.written sink.old) bytes.now (O.written sink.new)) }
-    ensures prefix { OnErr result (AppendsPrefix (O.written sink.old) bytes.now (O.written sink.new)) }
+    ensures prefix { OnErr result
+        (AppendsPrefix (O.written sink.old) bytes.now (O.written sink.new)) }
     ensures failed { OnErr result (Rose (O.faults sink.old) (O.faults sink.new)) }
     ensures never_falls { O.faults sink.old ≤ O.faults sink.new }
 {

@@ -24,7 +24,7 @@ numbered-keeps P last (e ∷ es) n here all = elim (cases_Bool (eqb e.0 n)) [
 
 -- some code, of an even length, and not much
 abbrev is_right_code : List ℕ → Bool
-is_right_code code = ltb 0 (length code) && eqb (length code % 2) 0 && leb (length code) 100
+is_right_code code = ltb 0 (length code) && eqb (length code % 2) 0 && leb (length code) 700
 
 IsRightCode : List ℕ → Type 0
 IsRightCode code = is_right_code code ≡ true
@@ -37,15 +37,15 @@ row_code-right : (row part : ℕ) → IsRightCode (row_code row part)
 unfolding IsRightCode halves words row_code
 row_code-right row part =
     numbered-keeps IsRightCode row_17_code (code_table part) row refl
-    (refl, (refl, (refl, (refl, (refl, (refl, (refl, (refl, (refl, (refl, (refl, (refl, (row_16_code-right part, tt)))))))))))))
+    (refl, (refl, (refl, (refl, (refl, (refl, (refl, (refl, (refl, (refl, (refl, (refl, (row_16_code-right part, (refl, (refl, (refl, (refl, (refl, (refl, (refl, tt))))))))))))))))))))
 
-pub code-shape : (row part : ℕ) → (0 < length (row_code row part)) × (length (row_code row part) % 2 ≡ 0) × (length (row_code row part) ≤ 100)
+pub code-shape : (row part : ℕ) → (0 < length (row_code row part)) × (length (row_code row part) % 2 ≡ 0) × (length (row_code row part) ≤ 700)
 unfolding IsRightCode
 code-shape row part =
     let code = row_code row part in
-    let all = and_parts (ltb 0 (length code) && eqb (length code % 2) 0) (leb (length code) 100) (row_code-right row part) in
+    let all = and_parts (ltb 0 (length code) && eqb (length code % 2) 0) (leb (length code) 700) (row_code-right row part) in
     let first = and_parts (ltb 0 (length code)) (eqb (length code % 2) 0) all.0 in
-    (ltb-true 0 (length code) first.0, eqb-true (length code % 2) 0 first.1, leb-true (length code) 100 all.1)
+    (ltb-true 0 (length code) first.0, eqb-true (length code % 2) 0 first.1, leb-true (length code) 700 all.1)
 
 -- little read-only data
 IsRightData : List ℕ → Type 0
@@ -53,11 +53,11 @@ IsRightData xs = leb (length xs) 36 ≡ true
 
 pub rodata-shape : (row : ℕ) → length (row_rodata row) ≤ 36
 unfolding IsRightData words row_rodata
-rodata-shape row = leb-true (length (row_rodata row)) 36 (numbered-keeps IsRightData [] rodata_table row refl (refl, (refl, (refl, tt))))
+rodata-shape row = leb-true (length (row_rodata row)) 36 (numbered-keeps IsRightData [] rodata_table row refl (refl, (refl, (refl, (refl, (refl, (refl, (refl, tt))))))))
 
--- few symbols, with short names
+-- not many symbols, with short names
 abbrev is_right_symbols : List MadeSymbol → Bool
-is_right_symbols ss = have_whole_names ss && leb (length ss) 4 && leb (length (flat_map terminated_name ss)) 20
+is_right_symbols ss = have_whole_names ss && leb (length ss) 301 && leb (length (flat_map terminated_name ss)) 602
 
 IsRightSymbols : List MadeSymbol → Type 0
 IsRightSymbols ss = is_right_symbols ss ≡ true
@@ -69,15 +69,15 @@ row_5_symbols-right part = numbered-keeps IsRightSymbols row_5_last row_5_table 
 row_symbols-right : (row part : ℕ) → IsRightSymbols (row_symbols row part)
 unfolding IsRightSymbols row_symbols
 row_symbols-right row part =
-    numbered-keeps IsRightSymbols [] (symbols_table part) row refl (row_5_symbols-right part, (refl, (refl, (refl, tt))))
+    numbered-keeps IsRightSymbols [] (symbols_table part) row refl (row_5_symbols-right part, (refl, (refl, (refl, (refl, (refl, (refl, tt)))))))
 
-pub symbols-shape : (row part : ℕ) → (have_whole_names (row_symbols row part) ≡ true) × (length (row_symbols row part) ≤ 4) × (length (flat_map terminated_name (row_symbols row part)) ≤ 20)
+pub symbols-shape : (row part : ℕ) → (have_whole_names (row_symbols row part) ≡ true) × (length (row_symbols row part) ≤ 301) × (length (flat_map terminated_name (row_symbols row part)) ≤ 602)
 unfolding IsRightSymbols
 symbols-shape row part =
     let ss = row_symbols row part in
-    let all = and_parts (have_whole_names ss && leb (length ss) 4) (leb (length (flat_map terminated_name ss)) 20) (row_symbols-right row part) in
-    let first = and_parts (have_whole_names ss) (leb (length ss) 4) all.0 in
-    (first.0, leb-true (length ss) 4 first.1, leb-true (length (flat_map terminated_name ss)) 20 all.1)
+    let all = and_parts (have_whole_names ss && leb (length ss) 301) (leb (length (flat_map terminated_name ss)) 602) (row_symbols-right row part) in
+    let first = and_parts (have_whole_names ss) (leb (length ss) 301) all.0 in
+    (first.0, leb-true (length ss) 301 first.1, leb-true (length (flat_map terminated_name ss)) 602 all.1)
 
 -- the file is small
 pub file-shape : (row part : ℕ) → length (made_file (row_parts row part)) ≤ 67108864

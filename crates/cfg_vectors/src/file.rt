@@ -32,9 +32,9 @@ fn row_parts(alloc: Global, row: u32, part: u32) -> Result<Parts, Memory>
     })
 }
 
-/// The file of a row of `docs/ROWS.md`: row 1 or one of the rows 5 to 17. `part` says which of a
-/// row's files is wanted, from 0 on, in the order in which the row names them: rows 5 and 16 have
-/// four, the others one.
+/// The file of a row of `docs/ROWS.md`: row 1, or one of the rows 5 to 17 and 28 to 34. `part` says
+/// which of a row's files is wanted, from 0 on, in the order in which the row names them: rows 5
+/// and 16 have four, the others one.
 ///
 /// The only error is that memory ran out.
 pub fn row_file(alloc: Global, row: u32, part: u32) -> Result<Vec<u8>, Memory>

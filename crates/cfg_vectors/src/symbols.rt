@@ -1,7 +1,7 @@
 //! The symbols of the rows.
 
 ghost use Rattle.std.specs.Prelude.{◌≡◌, ◌≤◌, [], ◌∷◌, IfOk};
-ghost use Rattle.cfg_vectors.specs.Rows.{IsRow, row_symbols};
+ghost use Rattle.cfg_vectors.specs.Rows.{IsRow, each_halfword, row_symbols};
 
 use crate::memory::Memory;
 use elf_maker::{Bytes, MadeSymbol};
@@ -54,6 +54,17 @@ fn row_5_symbols(alloc: Global, part: u32) -> Result<Vec<MadeSymbol>, Memory>
     }
 }
 
+/// The symbols of row 31: one function `s` for each halfword of its code.
+fn row_31_symbols(alloc: Global) -> Result<Vec<MadeSymbol>, Memory>
+    ensures { IfOk result (λ ss. ss.items ≡ each_halfword 0x10000 301) }
+{
+    let mut symbols = Vec::new(alloc);
+    for i in 0..301u64 {
+        symbols.push(symbol(alloc, b"s", 0x10000 + 2 * i)?)?;
+    }
+    Ok(symbols)
+}
+
 /// The symbols of a row. Row 5 has others for each part.
 #[tactic(auto, unfolding(crate::specs::Rows::row_symbols))]
 pub(crate) fn row_symbols(alloc: Global, row: u32, part: u32) -> Result<Vec<MadeSymbol>, Memory>
@@ -62,9 +73,11 @@ pub(crate) fn row_symbols(alloc: Global, row: u32, part: u32) -> Result<Vec<Made
 {
     match row {
         5 => row_5_symbols(alloc, part),
-        7 => one_symbol(alloc, b"two", 0x10002),
+        7 | 28 => one_symbol(alloc, b"two", 0x10002),
         15 => one_symbol(alloc, b"b", 0x10028),
         17 => one_symbol(alloc, b"g", 0x1000C),
+        31 => row_31_symbols(alloc),
+        34 => one_symbol(alloc, b"b", 0x10020),
         _ => Ok(Vec::new(alloc)),
     }
 }

@@ -7,7 +7,7 @@ use super::*;
 use std::test::Fail;
 
 /// A row, a part, the length of their file, and the hash of its bytes.
-static CASES: [(u32, u32, usize, u64); 20] = [
+static CASES: [(u32, u32, usize, u64); 27] = [
     (1, 0, 264, 0xE532FABC1DF97F36),
     (5, 0, 528, 0x7293D68FBFD241F9),
     (5, 1, 448, 0x4EFE9D6B509BD2CB),
@@ -28,6 +28,13 @@ static CASES: [(u32, u32, usize, u64); 20] = [
     (16, 2, 264, 0xB05203FC28D6EDFA),
     (16, 3, 264, 0x6F70E56AD2EDA8FD),
     (17, 0, 456, 0xC128354C851ED736),
+    (28, 0, 464, 0x885F51C845164BED),
+    (29, 0, 336, 0xD531D764ED255389),
+    (30, 0, 280, 0x5E815B6F148121B7),
+    (31, 0, 8848, 0xCEF9CA7C9DF53CB6),
+    (32, 0, 304, 0xC0ACC7E2FF9C0EA9),
+    (33, 0, 312, 0x57A10EE702F73E2B),
+    (34, 0, 520, 0x5CB833612114C48E),
 ];
 
 /// Each byte added to 31 times what came before, modulo 2^64.
@@ -42,7 +49,7 @@ fn hash(bytes: &[u8]) -> u64 {
 fn is_row(row: u32, part: u32) -> bool
     ensures { IsTrue result → IsRow row part }
 {
-    let listed = row == 1 || (5 <= row && row <= 17);
+    let listed = row == 1 || (5 <= row && row <= 17) || (28 <= row && row <= 34);
     let parted = part == 0 || ((row == 5 || row == 16) && part <= 3);
     listed && parted
 }

@@ -15,7 +15,9 @@ bare_app = on_top (λ s. record s { disable_help_flag = true }) (new_app (codes 
 -- The command: three options that take a text, and FILE. Nothing is required, has a default or may
 -- be repeated.
 unfoldable pub cfg_app : App
-cfg_app = with_rule (with_rule (with_rule (with_rule bare_app (option_rule (codes "workers"))) (option_rule (codes "report"))) (option_rule (codes "make"))) (new_rule (codes "file"))
+cfg_app = with_rule (with_rule
+    (with_rule (with_rule bare_app (option_rule (codes "workers"))) (option_rule (codes "report")))
+    (option_rule (codes "make"))) (new_rule (codes "file"))
 
 -- Clap finds no fault in the words.
 unfoldable pub is_taken : List Text → Bool

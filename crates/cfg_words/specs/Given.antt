@@ -7,4 +7,5 @@ use Rattle.cfg_words.specs.Request.{Asked, request_with}
 -- The request of the texts.
 abbrev pub request_given : Given → Option Asked
 request_given given =
-    request_with (option_map (λ s. s.now) given.workers) (option_map (λ s. s.now) given.report) (option_map (λ s. s.now) given.make) (option_map (λ s. s.now) given.file)
+    request_with (option_map (λ s. s.now) given.workers) (option_map (λ s. s.now) given.report)
+    (option_map (λ s. s.now) given.make) (option_map (λ s. s.now) given.file)

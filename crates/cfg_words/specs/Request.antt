@@ -31,9 +31,12 @@ make_request None workers = None
 
 -- The request of the texts of `--workers`, `--report`, `--make` and FILE: exactly one of FILE and
 -- `--make` is there, and no `--report` beside `--make`. A size is 4 to 100,000.
-abbrev pub request_with : Option (List ℕ) → Option (List ℕ) → Option (List ℕ) → Option (List ℕ) → Option Asked
-request_with workers report None (Some path) = file_request path (workers_of workers) (report_kind_of report)
-request_with workers None (Some n) None = make_request (number_within 4 100000 n) (workers_of workers)
+abbrev pub request_with : Option (List ℕ) → Option (List ℕ) → Option (List ℕ) → Option (List ℕ)
+    → Option Asked
+request_with workers report None (Some path) = file_request path (workers_of workers)
+    (report_kind_of report)
+request_with workers None (Some n) None = make_request (number_within 4 100000 n)
+    (workers_of workers)
 request_with workers report None None = None
 request_with workers (Some word) (Some n) None = None
 request_with workers report (Some n) (Some path) = None
@@ -43,5 +46,6 @@ request_with workers report (Some n) (Some path) = None
 abbrev pub request_of : List (List ℕ) → Option Asked
 request_of words =
     if is_taken words
-    then request_with (text_of words (codes "workers")) (text_of words (codes "report")) (text_of words (codes "make")) (text_of words (codes "file"))
+    then request_with (text_of words (codes "workers")) (text_of words (codes "report"))
+    (text_of words (codes "make")) (text_of words (codes "file"))
     else None

@@ -1,6 +1,7 @@
 //! The words as one simple command of clap: three options that take a text, and a path.
 
-ghost use Rattle.std.specs.Prelude.{◌≡◌, ℕ, List, map, string_bytes, true, false, IfOk, IfErr, OnOk};
+ghost use Rattle.std.specs.Prelude.{◌≡◌, ℕ, List, map, string_bytes, true, false, IfOk, IfErr};
+ghost use Rattle.std.specs.Prelude.{OnOk};
 ghost use Rattle.clap.specs.Words.{app_of, found_of, first_value, with_rule};
 ghost use Rattle.cfg_words.specs.declared.error.WordsError.TheVariants.{Usage};
 ghost use Rattle.cfg_words.specs.Command.{option_rule, cfg_app, is_taken, text_of};
@@ -13,8 +14,10 @@ use std::alloc::{AllocError, Global};
 pub fn parsed<'a>(alloc: Global, words: &'a [String]) -> Result<ArgMatches<'a>, WordsError>
     ensures taken { OnOk result (is_taken (map (λ w. string_bytes w) words.entry.now) ≡ true) }
     ensures texts { IfOk result (λ m. (name : List ℕ)
-        → first_value (found_of m) name ≡ text_of (map (λ w. string_bytes w) words.entry.now) name) }
-    ensures usage { IfErr result (λ e. e ≡ Usage → is_taken (map (λ w. string_bytes w) words.entry.now) ≡ false) }
+        → first_value (found_of m) name
+        ≡ text_of (map (λ w. string_bytes w) words.entry.now) name) }
+    ensures usage { IfErr result
+        (λ e. e ≡ Usage → is_taken (map (λ w. string_bytes w) words.entry.now) ≡ false) }
 {
     let command = command(alloc)?;
     let matches = command.try_get_matches_from(words)?;
@@ -38,7 +41,8 @@ fn with_option<'a>(
     command: Command<'a>,
     name: &'a str,
 ) -> Result<Command<'a>, AllocError>
-    ensures { IfOk result (λ c. app_of c ≡ with_rule (app_of command.entry) (option_rule name.entry.now)) }
+    ensures { IfOk result
+        (λ c. app_of c ≡ with_rule (app_of command.entry) (option_rule name.entry.now)) }
 {
     command.arg(Arg::new(alloc, name).long(name))
 }

@@ -4,7 +4,8 @@ ghost use Rattle.std.specs.Prelude.{◌≡◌, Option};
 ghost use Rattle.std.specs.Option.{option_map};
 ghost use Rattle.std.specs.List.{list_all};
 ghost use Rattle.std.specs.Char.{is_ascii_digit};
-ghost use Rattle.cfg_words.specs.Value.{is_number, number_of, number_within, workers_of, kind_named, report_kind_of};
+ghost use Rattle.cfg_words.specs.Value.{is_number, number_of, number_within, workers_of};
+ghost use Rattle.cfg_words.specs.Value.{kind_named, report_kind_of};
 
 use graph_report::ReportKind;
 

@@ -22,8 +22,10 @@ use std::alloc::Global;
 /// - [`WordsError::Usage`]: the words are not of these forms, or a number is out of its range.
 /// - [`WordsError::Memory`]: memory ran out.
 pub fn request(alloc: Global, words: &[String]) -> Result<Request, WordsError>
-    ensures request { IfOk result (λ r. request_of (map (λ w. string_bytes w) words.now) ≡ Some (asked r)) }
-    ensures usage { IfErr result (λ e. e ≡ Usage → request_of (map (λ w. string_bytes w) words.now) ≡ None) }
+    ensures request { IfOk result
+        (λ r. request_of (map (λ w. string_bytes w) words.now) ≡ Some (asked r)) }
+    ensures usage { IfErr result
+        (λ e. e ≡ Usage → request_of (map (λ w. string_bytes w) words.now) ≡ None) }
 {
     let matches = parsed(alloc, words)?;
     let given = Given {
@@ -64,8 +66,12 @@ fn file_request(
     workers: u32,
     report: Option<&str>,
 ) -> Result<Request, WordsError>
-    ensures request { IfOk result (λ r. file_request path.now (Some workers) (report_kind_of (option_map (λ s. s.now) report.entry)) ≡ Some (asked r)) }
-    ensures usage { IfErr result (λ e. e ≡ Usage → file_request path.now (Some workers) (report_kind_of (option_map (λ s. s.now) report.entry)) ≡ None) }
+    ensures request { IfOk result
+        (λ r. file_request path.now (Some workers)
+        (report_kind_of (option_map (λ s. s.now) report.entry)) ≡ Some (asked r)) }
+    ensures usage { IfErr result
+        (λ e. e ≡ Usage → file_request path.now (Some workers)
+        (report_kind_of (option_map (λ s. s.now) report.entry)) ≡ None) }
 {
     let Some(kind) = report_kind(report) else {
         return Err(WordsError::Usage);
@@ -80,8 +86,10 @@ fn file_request(
 
 /// The request of the summary of a made program.
 fn make_request(n: &str, workers: u32) -> Result<Request, WordsError>
-    ensures request { IfOk result (λ r. make_request (number_within 4 100000 n.now) (Some workers) ≡ Some (asked r)) }
-    ensures usage { IfErr result (λ e. make_request (number_within 4 100000 n.now) (Some workers) ≡ None) }
+    ensures request { IfOk result
+        (λ r. make_request (number_within 4 100000 n.now) (Some workers) ≡ Some (asked r)) }
+    ensures usage { IfErr result
+        (λ e. make_request (number_within 4 100000 n.now) (Some workers) ≡ None) }
 {
     match number_within(n, 4, 100_000) {
         Some(n) => Ok(Request::Make { n, workers }),

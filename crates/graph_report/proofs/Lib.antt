@@ -1,2 +1,4 @@
 pub mod Digits
+pub mod Lefts
+pub mod Giving
 mod Worked

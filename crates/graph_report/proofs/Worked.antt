@@ -26,7 +26,7 @@ one_return = record {
 
 -- its whole report
 abbrev one_return_text : List ℕ
-one_return_text = codes "cfg-report 1\nentry 0000000000010000\nfunctions 1\nfunction 0000000000010000 may-return 1 -\nin 0000000000010000\nblocks 1\nblock 0000000000010000 0000000000010004 return\nedges 0\nend\n"
+one_return_text = codes "cfg-report 2\nentry 0000000000010000\nfunctions 1\nfunction 0000000000010000 may-return 1 -\nin 0000000000010000\nblocks 1\nblock 0000000000010000 0000000000010004 return\nedges 0\nend\n"
 
 one_return_graph : report_text reports.Graph nameless one_return ≡ one_return_text
 unfolding hex_digits digits
@@ -36,15 +36,15 @@ one_return_length : length one_return_text ≡ 177
 one_return_length = refl
 
 -- the other kinds of report show one section of it
-one_return_functions : report_text reports.Functions nameless one_return ≡ codes "cfg-report 1\nentry 0000000000010000\nfunctions 1\nfunction 0000000000010000 may-return 1 -\nin 0000000000010000\nend\n"
+one_return_functions : report_text reports.Functions nameless one_return ≡ codes "cfg-report 2\nentry 0000000000010000\nfunctions 1\nfunction 0000000000010000 may-return 1 -\nin 0000000000010000\nend\n"
 unfolding hex_digits digits
 one_return_functions = refl
 
-one_return_blocks : report_text reports.Blocks nameless one_return ≡ codes "cfg-report 1\nentry 0000000000010000\nblocks 1\nblock 0000000000010000 0000000000010004 return\nend\n"
+one_return_blocks : report_text reports.Blocks nameless one_return ≡ codes "cfg-report 2\nentry 0000000000010000\nblocks 1\nblock 0000000000010000 0000000000010004 return\nend\n"
 unfolding hex_digits digits
 one_return_blocks = refl
 
-one_return_edges : report_text reports.Edges nameless one_return ≡ codes "cfg-report 1\nentry 0000000000010000\nedges 0\nend\n"
+one_return_edges : report_text reports.Edges nameless one_return ≡ codes "cfg-report 2\nentry 0000000000010000\nedges 0\nend\n"
 unfolding hex_digits digits
 one_return_edges = refl
 
@@ -61,7 +61,7 @@ two_functions = record {
 abbrev two_names : Names
 two_names a = if a == 0x10008 then Some (codes "-") else Some (codes "_start")
 
-two_functions_graph : report_text reports.Graph two_names two_functions ≡ codes "cfg-report 1\nentry 0000000000010000\nfunctions 2\nfunction 0000000000010000 may-return 2 _start\nin 0000000000010000\nin 0000000000010004\nfunction 0000000000010008 no-return 1 \\x2d\nin 0000000000010008\nblocks 3\nblock 0000000000010000 0000000000010004 jump\nblock 0000000000010004 0000000000010008 return\nblock 0000000000010008 000000000001000c stop\nedges 1\nedge 0000000000010000 0000000000010004 jump\nend\n"
+two_functions_graph : report_text reports.Graph two_names two_functions ≡ codes "cfg-report 2\nentry 0000000000010000\nfunctions 2\nfunction 0000000000010000 may-return 2 _start\nin 0000000000010000\nin 0000000000010004\nfunction 0000000000010008 no-return 1 \\x2d\nin 0000000000010008\nblocks 3\nblock 0000000000010000 0000000000010004 jump\nblock 0000000000010004 0000000000010008 return\nblock 0000000000010008 000000000001000c stop\nedges 1\nedge 0000000000010000 0000000000010004 jump\nend\n"
 unfolding hex_digits digits
 two_functions_graph = refl
 

@@ -4,3 +4,5 @@ pub mod Words
 pub mod Line
 pub mod Report
 pub mod Summary
+pub mod Pieces
+pub mod Inner

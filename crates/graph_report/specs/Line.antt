@@ -14,7 +14,7 @@ line fields = join_with_byte 32 fields ++ codes "\n"
 
 -- The first line: what this text is, and in which version of the format.
 abbrev pub first_line : List ℕ
-first_line = line (codes "cfg-report" ∷ codes "1" ∷ [])
+first_line = line (codes "cfg-report" ∷ codes "2" ∷ [])
 
 -- Where the program starts.
 abbrev pub entry_line : ℕ → List ℕ
@@ -33,7 +33,8 @@ edges_line count = line (codes "edges" ∷ decimal count ∷ [])
 -- A function: its entry, whether it may return, how many blocks its body has, and its name.
 abbrev pub function_line : Names → Function → List ℕ
 function_line names f =
-    line (codes "function" ∷ address_digits f.entry ∷ status_word f.returns ∷ decimal (length f.body) ∷ name_field (names f.entry) ∷ [])
+    line (codes "function" ∷ address_digits f.entry ∷ status_word f.returns ∷ decimal
+    (length f.body) ∷ name_field (names f.entry) ∷ [])
 
 -- A block of the function above, by where it starts.
 abbrev pub in_line : ℕ → List ℕ

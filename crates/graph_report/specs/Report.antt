@@ -8,7 +8,8 @@ use Rattle.cfg_model.specs.declared.graph.Graph.{Graph}
 use Rattle.graph_report.specs.declared.kind.ReportKind.{ReportKind}
 use Rattle.graph_report.specs.declared.kind.ReportKind.TheVariants as reports
 use Rattle.graph_report.specs.Name.{Names}
-use Rattle.graph_report.specs.Line.{first_line, entry_line, functions_line, function_line, in_line, blocks_line, block_line, edges_line, edge_line, end_line}
+use Rattle.graph_report.specs.Line.{first_line, entry_line, functions_line, function_line, in_line}
+use Rattle.graph_report.specs.Line.{blocks_line, block_line, edges_line, edge_line, end_line}
 
 -- The two lines that every report begins with.
 abbrev pub heading : ℕ → List ℕ

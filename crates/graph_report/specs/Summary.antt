@@ -2,7 +2,8 @@
 use Rattle.std.specs.Prelude.{ℕ, not, List, ◌++◌, length, count_by}
 use Rattle.cfg_model.specs.declared.graph.Function.{Function}
 use Rattle.cfg_model.specs.declared.graph.Graph.{Graph}
-use Rattle.graph_report.specs.Line.{made_line, functions_line, blocks_line, edges_line, may_return_line, no_return_line}
+use Rattle.graph_report.specs.Line.{made_line, functions_line, blocks_line}
+use Rattle.graph_report.specs.Line.{edges_line, may_return_line, no_return_line}
 
 -- How many functions may return, and how many may not.
 abbrev pub may_return_count : List Function → ℕ

@@ -21,6 +21,7 @@ end_word ends.IndirectCall = codes "icall"
 end_word ends.Return = codes "return"
 end_word ends.Table = codes "table"
 end_word ends.TableCut = codes "table-cut"
+end_word ends.TableOpen = codes "table-open"
 end_word ends.Unknown = codes "unknown"
 end_word ends.Stop = codes "stop"
 

@@ -1,23 +1,25 @@
 //! The fields of a line: words, addresses and counts.
 
-ghost use Rattle.std.specs.Prelude.{◌≡◌, ◌<◌, ◌++◌, OnOk, codes, decimal};
+ghost use Rattle.std.specs.Prelude.{◌≡◌, ◌≤◌, ◌<◌, ◌+◌, ◌++◌, length, codes, decimal};
 ghost use Rattle.graph_report.specs.Number.{hex_digit, address_digits};
 ghost use Rattle.graph_report.specs.Words.{status_word, end_word, edge_word};
 
-use crate::memory::Memory;
+use crate::page::{PAGE_ROOM, Page};
 use cfg_model::{EdgeKind, EndKind};
 use itoa::Buffer;
 
 /// The word for whether a function may return.
 pub fn status_word(returns: bool) -> &'static [u8]
-    ensures { result.now ≡ status_word returns }
+    ensures word { result.now ≡ status_word returns }
+    ensures short { length result.now ≤ 10 }
 {
     if returns { b"may-return" } else { b"no-return" }
 }
 
 /// The word for what a block ends with.
 pub fn end_word(kind: EndKind) -> &'static [u8]
-    ensures { result.now ≡ end_word kind }
+    ensures word { result.now ≡ end_word kind }
+    ensures short { length result.now ≤ 10 }
 {
     match kind {
         EndKind::Fall => b"fall",
@@ -29,6 +31,7 @@ pub fn end_word(kind: EndKind) -> &'static [u8]
         EndKind::Return => b"return",
         EndKind::Table => b"table",
         EndKind::TableCut => b"table-cut",
+        EndKind::TableOpen => b"table-open",
         EndKind::Unknown => b"unknown",
         EndKind::Stop => b"stop",
     }
@@ -36,7 +39,8 @@ pub fn end_word(kind: EndKind) -> &'static [u8]
 
 /// The word for the kind of an edge.
 pub fn edge_word(kind: EdgeKind) -> &'static [u8]
-    ensures { result.now ≡ edge_word kind }
+    ensures word { result.now ≡ edge_word kind }
+    ensures short { length result.now ≤ 5 }
 {
     match kind {
         EdgeKind::Fall => b"fall",
@@ -72,55 +76,52 @@ fn address_digits(address: u64) -> [u8; 16]
     digits
 }
 
-/// Appends a text to the report.
-#[inline]
-pub fn push_text(out: &mut Vec<u8>, text: &[u8]) -> Result<(), Memory>
-    ensures { OnOk result (out.new.items ≡ out.old.items ++ text.now) }
+/// Appends a space and an address: 17 bytes.
+pub fn push_address(page: &mut Page, address: u64)
+    requires room { length page.old + 17 ≤ PAGE_ROOM }
+    ensures text { page.new ≡ page.old ++ (codes " " ++ address_digits address) }
+    ensures most { length page.new ≡ length page.old + 17 }
 {
-    out.extend_from_slice(text)?;
-    Ok(())
-}
-
-/// Appends a space and an address.
-pub fn push_address(out: &mut Vec<u8>, address: u64) -> Result<(), Memory>
-    ensures { OnOk result (out.new.items ≡ out.old.items ++ (codes " " ++ address_digits address)) }
-{
-    out.push(b' ')?;
-    out.extend_from_slice(&address_digits(address))?;
-    Ok(())
+    page.push(b" ");
+    page.push(&address_digits(address));
 }
 
 /// Appends a space and a word.
-pub fn push_field(out: &mut Vec<u8>, word: &[u8]) -> Result<(), Memory>
-    ensures { OnOk result (out.new.items ≡ out.old.items ++ (codes " " ++ word.now)) }
+pub fn push_field(page: &mut Page, word: &[u8])
+    requires room { length page.old + 1 + length word.now ≤ PAGE_ROOM }
+    ensures text { page.new ≡ page.old ++ (codes " " ++ word.now) }
+    ensures most { length page.new ≡ length page.old + 1 + length word.now }
 {
-    out.push(b' ')?;
-    out.extend_from_slice(word)?;
-    Ok(())
+    page.push(b" ");
+    page.push(word);
 }
 
-/// Appends a space and a count in decimal.
-pub fn push_number(out: &mut Vec<u8>, count: usize) -> Result<(), Memory>
-    ensures { OnOk result (out.new.items ≡ out.old.items ++ (codes " " ++ decimal count)) }
+/// Appends a space and a count in decimal: 21 bytes at most.
+pub fn push_number(page: &mut Page, count: usize)
+    requires room { length page.old + 21 ≤ PAGE_ROOM }
+    ensures text { page.new ≡ page.old ++ (codes " " ++ decimal count) }
+    ensures most { length page.new ≤ length page.old + 21 }
 {
     let mut buffer = Buffer::new();
-    push_field(out, buffer.format(count).as_bytes())
+    push_field(page, buffer.format(count).as_bytes());
 }
 
-/// Appends a space, a count in decimal, and the end of the line.
-pub fn push_count(out: &mut Vec<u8>, count: usize) -> Result<(), Memory>
-    ensures { OnOk result (out.new.items ≡ out.old.items ++ (codes " " ++ decimal count ++ codes "\n")) }
+/// Appends a space, a count in decimal, and the end of the line: 22 bytes at most.
+pub fn push_count(page: &mut Page, count: usize)
+    requires room { length page.old + 22 ≤ PAGE_ROOM }
+    ensures text { page.new ≡ page.old ++ (codes " " ++ decimal count ++ codes "\n") }
+    ensures most { length page.new ≤ length page.old + 22 }
 {
-    push_number(out, count)?;
-    out.push(b'\n')?;
-    Ok(())
+    push_number(page, count);
+    page.push(b"\n");
 }
 
 /// Appends a space, a word, and the end of the line.
-pub fn push_word(out: &mut Vec<u8>, word: &[u8]) -> Result<(), Memory>
-    ensures { OnOk result (out.new.items ≡ out.old.items ++ (codes " " ++ word.now ++ codes "\n")) }
+pub fn push_word(page: &mut Page, word: &[u8])
+    requires room { length page.old + 2 + length word.now ≤ PAGE_ROOM }
+    ensures text { page.new ≡ page.old ++ (codes " " ++ word.now ++ codes "\n") }
+    ensures most { length page.new ≡ length page.old + 2 + length word.now }
 {
-    push_field(out, word)?;
-    out.push(b'\n')?;
-    Ok(())
+    push_field(page, word);
+    page.push(b"\n");
 }

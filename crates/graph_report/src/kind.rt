@@ -1,5 +1,8 @@
 //! Which part of a graph a report shows.
 
+ghost use Rattle.std.specs.Prelude.{◌≡◌};
+ghost use Rattle.graph_report.specs.Inner.{has_functions, has_blocks, has_edges};
+
 /// Which part of a graph a report shows. Each report has the heading and the last line too.
 #[derive(Clone, Copy, Debug, PartialEq, Eq)]
 pub enum ReportKind {
@@ -11,4 +14,27 @@ pub enum ReportKind {
     Blocks,
     /// The edges.
     Edges,
+}
+
+impl ReportKind {
+    /// Whether it shows the functions.
+    pub(crate) fn has_functions(self) -> bool
+        ensures { result ≡ has_functions self }
+    {
+        matches!(self, ReportKind::Graph | ReportKind::Functions)
+    }
+
+    /// Whether it shows the blocks.
+    pub(crate) fn has_blocks(self) -> bool
+        ensures { result ≡ has_blocks self }
+    {
+        matches!(self, ReportKind::Graph | ReportKind::Blocks)
+    }
+
+    /// Whether it shows the edges.
+    pub(crate) fn has_edges(self) -> bool
+        ensures { result ≡ has_edges self }
+    {
+        matches!(self, ReportKind::Graph | ReportKind::Edges)
+    }
 }

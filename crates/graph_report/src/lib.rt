@@ -1,24 +1,24 @@
 //! The text of a report: a control-flow graph as lines that programs and people can read.
 //!
-//! - [`whole`]: the report of a graph, with the names that the file gives to its functions.
+//! - [`pieces`]: the report of a graph, piece by piece, with the names that the file gives to its
+//!   functions. [`whole`]: all of it at once.
 //! - [`made`]: the summary of the graph of a program that was made from a number.
 //! - [`kind`]: which part of a graph a report shows.
-//! - [`section`]: the heading and the three sections of a report.
-//! - [`line`]: each line form, appended to a text that grows.
-//! - [`field`]: the fields of a line: words, addresses and counts.
-//! - [`name`]: how a name becomes one field.
-//! - [`room`]: how long a text may get.
+//! - [`left`]: the three sections of a report and its last line, each from where it stands on.
+//! - [`line`]: each line form. [`field`]: the fields of a line. [`name`]: how a name becomes one.
+//! - [`page`]: the page that lines are put on.
 //! - `specs/`: the format, line by line, as definitions of its bytes.
 #![tactic(auto)]
 
 mod field;
 mod kind;
+mod left;
 mod line;
 mod made;
 mod memory;
 mod name;
-mod room;
-mod section;
+mod page;
+mod pieces;
 #[cfg(test)]
 mod tests;
 mod whole;
@@ -26,4 +26,5 @@ mod whole;
 pub use kind::ReportKind;
 pub use made::summary;
 pub use memory::Memory;
+pub use pieces::ReportPieces;
 pub use whole::report;

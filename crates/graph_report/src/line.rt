@@ -1,130 +1,171 @@
-//! Each line form, appended to a text that grows.
+//! Each line form, put on a page that has room for a line.
 
-ghost use Rattle.std.specs.Prelude.{◌≡◌, ◌++◌, OnOk};
+ghost use Rattle.std.specs.Prelude.{◌≡◌, ◌≤◌, ◌+◌, ◌++◌, Some, length};
 ghost use Rattle.std.specs.Option.{option_map};
-ghost use Rattle.graph_report.specs.Line.{first_line, entry_line, functions_line, function_line, in_line, blocks_line, block_line, edges_line, edge_line, made_line, may_return_line, no_return_line, end_line};
+ghost use Rattle.graph_report.specs.Line.{first_line, entry_line, functions_line, function_line};
+ghost use Rattle.graph_report.specs.Line.{in_line, blocks_line, block_line, edges_line, edge_line};
+ghost use Rattle.graph_report.specs.Line.{made_line, may_return_line, no_return_line, end_line};
+ghost use Rattle.graph_report.specs.Inner.{IsLine, name_left};
 
 use crate::field::{
-    edge_word, end_word, push_address, push_count, push_field, push_number, push_text, push_word,
-    status_word,
+    edge_word, end_word, push_address, push_count, push_field, push_number, push_word, status_word,
 };
-use crate::memory::Memory;
-use crate::name::push_name;
+use crate::name::{begin_name, push_byte};
+use crate::page::{LINE_ROOM, PAGE_ROOM, Page};
 use cfg_model::{Block, Edge, Function};
 
 /// Appends the line that says what the text is.
-pub fn push_first(out: &mut Vec<u8>) -> Result<(), Memory>
-    ensures { OnOk result (out.new.items ≡ out.old.items ++ first_line) }
+pub fn push_first(page: &mut Page)
+    requires room { length page.old + LINE_ROOM ≤ PAGE_ROOM }
+    ensures text { page.new ≡ page.old ++ first_line }
+    ensures line { IsLine page.old page.new }
 {
-    push_text(out, b"cfg-report 1\n")
+    page.push(b"cfg-report 2\n");
 }
 
 /// Appends the line of the address where the program starts.
-pub fn push_entry(out: &mut Vec<u8>, entry: u64) -> Result<(), Memory>
-    ensures { OnOk result (out.new.items ≡ out.old.items ++ entry_line entry) }
+pub fn push_entry(page: &mut Page, entry: u64)
+    requires room { length page.old + LINE_ROOM ≤ PAGE_ROOM }
+    ensures text { page.new ≡ page.old ++ entry_line entry }
+    ensures line { IsLine page.old page.new }
 {
-    push_text(out, b"entry")?;
-    push_address(out, entry)?;
-    push_text(out, b"\n")
+    page.push(b"entry");
+    push_address(page, entry);
+    page.push(b"\n");
 }
 
 /// Appends the line that says how many functions follow.
-pub fn push_function_count(out: &mut Vec<u8>, count: usize) -> Result<(), Memory>
-    ensures { OnOk result (out.new.items ≡ out.old.items ++ functions_line count) }
+pub fn push_function_count(page: &mut Page, count: usize)
+    requires room { length page.old + LINE_ROOM ≤ PAGE_ROOM }
+    ensures text { page.new ≡ page.old ++ functions_line count }
+    ensures line { IsLine page.old page.new }
 {
-    push_text(out, b"functions")?;
-    push_count(out, count)
+    page.push(b"functions");
+    push_count(page, count);
 }
 
-/// Appends the line of a function with this name.
-pub fn push_function(
-    out: &mut Vec<u8>,
-    function: &Function,
-    name: Option<&[u8]>,
-) -> Result<(), Memory>
-    ensures { OnOk result (out.new.items ≡ out.old.items ++ function_line (λ a. option_map (λ s. s.now) name.entry) function.now) }
+/// Appends the front of the line of a function with this name, and answers the bytes of the name
+/// that its rest is still to show.
+pub fn begin_function<'a>(page: &mut Page, function: &Function, name: Option<&'a [u8]>) -> &'a [u8]
+    requires room { length page.old + LINE_ROOM ≤ PAGE_ROOM }
+    ensures text { page.new ++ name_left (Some result.now) ≡ page.old ++ function_line
+        (λ a. option_map (λ s. s.now) name.entry) function.now }
+    ensures line { IsLine page.old page.new }
 {
-    push_text(out, b"function")?;
-    push_address(out, function.entry)?;
-    push_field(out, status_word(function.returns))?;
-    push_number(out, function.body.as_slice().len())?;
-    push_text(out, b" ")?;
-    push_name(out, name)?;
-    push_text(out, b"\n")
+    page.push(b"function");
+    push_address(page, function.entry);
+    push_field(page, status_word(function.returns));
+    push_number(page, function.body.as_slice().len());
+    page.push(b" ");
+    begin_name(page, name)
+}
+
+/// Appends the next byte of a function's name, or the end of its line where no byte is left, and
+/// answers what its rest is still to show.
+pub fn go_on_with_name<'a>(page: &mut Page, name: &'a [u8]) -> Option<&'a [u8]>
+    requires room { length page.old + LINE_ROOM ≤ PAGE_ROOM }
+    ensures moves { page.new ++ name_left (option_map (λ s. s.now) result) ≡ page.old ++ name_left
+        (Some name.now) }
+    ensures line { IsLine page.old page.new }
+{
+    let [byte, rest @ ..] = name else {
+        page.push(b"\n");
+        return None;
+    };
+    push_byte(page, *byte);
+    Some(rest)
 }
 
 /// Appends the line of a block of the function above, which starts at an address.
-pub fn push_in(out: &mut Vec<u8>, block: u64) -> Result<(), Memory>
-    ensures { OnOk result (out.new.items ≡ out.old.items ++ in_line block) }
+pub fn push_in(page: &mut Page, block: u64)
+    requires room { length page.old + LINE_ROOM ≤ PAGE_ROOM }
+    ensures text { page.new ≡ page.old ++ in_line block }
+    ensures line { IsLine page.old page.new }
 {
-    push_text(out, b"in")?;
-    push_address(out, block)?;
-    push_text(out, b"\n")
+    page.push(b"in");
+    push_address(page, block);
+    page.push(b"\n");
 }
 
 /// Appends the line that says how many blocks follow.
-pub fn push_block_count(out: &mut Vec<u8>, count: usize) -> Result<(), Memory>
-    ensures { OnOk result (out.new.items ≡ out.old.items ++ blocks_line count) }
+pub fn push_block_count(page: &mut Page, count: usize)
+    requires room { length page.old + LINE_ROOM ≤ PAGE_ROOM }
+    ensures text { page.new ≡ page.old ++ blocks_line count }
+    ensures line { IsLine page.old page.new }
 {
-    push_text(out, b"blocks")?;
-    push_count(out, count)
+    page.push(b"blocks");
+    push_count(page, count);
 }
 
 /// Appends the line of a block.
-pub fn push_block(out: &mut Vec<u8>, block: &Block) -> Result<(), Memory>
-    ensures { OnOk result (out.new.items ≡ out.old.items ++ block_line block.now) }
+pub fn push_block(page: &mut Page, block: &Block)
+    requires room { length page.old + LINE_ROOM ≤ PAGE_ROOM }
+    ensures text { page.new ≡ page.old ++ block_line block.now }
+    ensures line { IsLine page.old page.new }
 {
-    push_text(out, b"block")?;
-    push_address(out, block.start)?;
-    push_address(out, block.end)?;
-    push_word(out, end_word(block.kind))
+    page.push(b"block");
+    push_address(page, block.start);
+    push_address(page, block.end);
+    push_word(page, end_word(block.kind));
 }
 
 /// Appends the line that says how many edges follow.
-pub fn push_edge_count(out: &mut Vec<u8>, count: usize) -> Result<(), Memory>
-    ensures { OnOk result (out.new.items ≡ out.old.items ++ edges_line count) }
+pub fn push_edge_count(page: &mut Page, count: usize)
+    requires room { length page.old + LINE_ROOM ≤ PAGE_ROOM }
+    ensures text { page.new ≡ page.old ++ edges_line count }
+    ensures line { IsLine page.old page.new }
 {
-    push_text(out, b"edges")?;
-    push_count(out, count)
+    page.push(b"edges");
+    push_count(page, count);
 }
 
 /// Appends the line of an edge.
-pub fn push_edge(out: &mut Vec<u8>, edge: &Edge) -> Result<(), Memory>
-    ensures { OnOk result (out.new.items ≡ out.old.items ++ edge_line edge.now) }
+pub fn push_edge(page: &mut Page, edge: &Edge)
+    requires room { length page.old + LINE_ROOM ≤ PAGE_ROOM }
+    ensures text { page.new ≡ page.old ++ edge_line edge.now }
+    ensures line { IsLine page.old page.new }
 {
-    push_text(out, b"edge")?;
-    push_address(out, edge.from)?;
-    push_address(out, edge.to)?;
-    push_word(out, edge_word(edge.kind))
+    page.push(b"edge");
+    push_address(page, edge.from);
+    push_address(page, edge.to);
+    push_word(page, edge_word(edge.kind));
 }
 
 /// Appends the first line of the summary of the program that is made from `n`.
-pub fn push_made(out: &mut Vec<u8>, n: u32) -> Result<(), Memory>
-    ensures { OnOk result (out.new.items ≡ out.old.items ++ made_line n) }
+pub fn push_made(page: &mut Page, n: u32)
+    requires room { length page.old + LINE_ROOM ≤ PAGE_ROOM }
+    ensures text { page.new ≡ page.old ++ made_line n }
+    ensures line { IsLine page.old page.new }
 {
-    push_text(out, b"cfg-made")?;
-    push_count(out, n as usize)
+    page.push(b"cfg-made");
+    push_count(page, n as usize);
 }
 
 /// Appends the line that says how many functions may return.
-pub fn push_may_return_count(out: &mut Vec<u8>, count: usize) -> Result<(), Memory>
-    ensures { OnOk result (out.new.items ≡ out.old.items ++ may_return_line count) }
+pub fn push_may_return_count(page: &mut Page, count: usize)
+    requires room { length page.old + LINE_ROOM ≤ PAGE_ROOM }
+    ensures text { page.new ≡ page.old ++ may_return_line count }
+    ensures line { IsLine page.old page.new }
 {
-    push_text(out, b"may-return")?;
-    push_count(out, count)
+    page.push(b"may-return");
+    push_count(page, count);
 }
 
 /// Appends the line that says how many functions may not.
-pub fn push_no_return_count(out: &mut Vec<u8>, count: usize) -> Result<(), Memory>
-    ensures { OnOk result (out.new.items ≡ out.old.items ++ no_return_line count) }
+pub fn push_no_return_count(page: &mut Page, count: usize)
+    requires room { length page.old + LINE_ROOM ≤ PAGE_ROOM }
+    ensures text { page.new ≡ page.old ++ no_return_line count }
+    ensures line { IsLine page.old page.new }
 {
-    push_text(out, b"no-return")?;
-    push_count(out, count)
+    page.push(b"no-return");
+    push_count(page, count);
 }
 
 /// Appends the last line.
-pub fn push_end(out: &mut Vec<u8>) -> Result<(), Memory>
-    ensures { OnOk result (out.new.items ≡ out.old.items ++ end_line) }
+pub fn push_end(page: &mut Page)
+    requires room { length page.old + LINE_ROOM ≤ PAGE_ROOM }
+    ensures text { page.new ≡ page.old ++ end_line }
+    ensures line { IsLine page.old page.new }
 {
-    push_text(out, b"end\n")
+    page.push(b"end\n");
 }

@@ -8,25 +8,25 @@ use crate::line::{
     push_no_return_count,
 };
 use crate::memory::Memory;
-use crate::room::SUMMARY;
+use crate::page::Page;
 use cfg_model::{Function, Graph};
 use std::alloc::Global;
 
 /// The summary of `graph`, the graph of the program that is made from `n`, or want of memory: how
 /// many functions, blocks and edges it has, and how many functions may return and may not.
 ///
-/// It takes time linear in the number of functions. Room for the text is taken once.
+/// It takes time linear in the number of functions. The memory of the text is taken once.
 pub fn summary(alloc: Global, n: u32, graph: &Graph) -> Result<Vec<u8>, Memory>
     ensures text { IfOk result (λ v. v.items ≡ summary_text n graph.now) }
 {
-    let mut out = Vec::with_capacity(alloc, SUMMARY)?;
-    push_made(&mut out, n)?;
-    push_function_count(&mut out, graph.functions.as_slice().len())?;
-    push_block_count(&mut out, graph.blocks.as_slice().len())?;
-    push_edge_count(&mut out, graph.edges.as_slice().len())?;
-    push_may_return_count(&mut out, may_return_count(graph.functions.as_slice()))?;
-    push_no_return_count(&mut out, no_return_count(graph.functions.as_slice()))?;
-    Ok(out)
+    let mut page = Page::new(alloc)?;
+    push_made(&mut page, n);
+    push_function_count(&mut page, graph.functions.as_slice().len());
+    push_block_count(&mut page, graph.blocks.as_slice().len());
+    push_edge_count(&mut page, graph.edges.as_slice().len());
+    push_may_return_count(&mut page, may_return_count(graph.functions.as_slice()));
+    push_no_return_count(&mut page, no_return_count(graph.functions.as_slice()));
+    Ok(page.into_bytes())
 }
 
 /// How many of these functions may return.

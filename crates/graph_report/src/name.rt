@@ -1,50 +1,56 @@
 //! How a name becomes one field of its line.
 
-ghost use Rattle.std.specs.Prelude.{◌≡◌, ◌++◌, OnOk, Option};
+ghost use Rattle.std.specs.Prelude.{◌≡◌, ◌≤◌, ◌<◌, ◌+◌, ◌++◌, length, Option};
 ghost use Rattle.std.specs.List.{flat_map};
 ghost use Rattle.std.specs.Option.{option_map};
 ghost use Rattle.graph_report.specs.Name.{escaped_byte, name_byte, name_field};
 
-use crate::field::{hex_digit, push_text};
-use crate::memory::Memory;
+use crate::field::hex_digit;
+use crate::page::{PAGE_ROOM, Page};
 
-/// Appends the field of a name: a dash where there is none. A name's bytes outside of visible ASCII
-/// and its backslashes are escaped, and so is the name that is one dash.
-pub fn push_name(out: &mut Vec<u8>, name: Option<&[u8]>) -> Result<(), Memory>
-    ensures { OnOk result (out.new.items ≡ out.old.items ++ name_field (option_map (λ s. s.now) name.entry)) }
+/// Begins the field of a name, which is a dash where there is none, and answers the bytes of the
+/// name that are still to come. A name's bytes outside of visible ASCII and its backslashes are
+/// escaped, and so is the name that is one dash.
+pub fn begin_name<'a>(page: &mut Page, name: Option<&'a [u8]>) -> &'a [u8]
+    requires room { length page.old + 4 ≤ PAGE_ROOM }
+    ensures text { page.new ++ flat_map name_byte result.now ≡ page.old ++ name_field
+        (option_map (λ s. s.now) name.entry) }
+    ensures least { length page.old ≤ length page.new }
+    ensures most { length page.new ≤ length page.old + 4 }
 {
     match name {
-        None => push_text(out, b"-"),
-        Some(b"-") => push_escaped(out, b'-'),
-        Some(bytes) => push_bytes(out, bytes),
+        None => {
+            page.push(b"-");
+            b""
+        }
+        Some(b"-") => {
+            push_escaped(page, b'-');
+            b""
+        }
+        Some(bytes) => bytes,
     }
-}
-
-/// Appends the bytes of a name that is not one dash.
-fn push_bytes(out: &mut Vec<u8>, bytes: &[u8]) -> Result<(), Memory>
-    ensures { OnOk result (out.new.items ≡ out.old.items ++ flat_map name_byte bytes.now) }
-{
-    for byte in bytes {
-        push_byte(out, *byte)?;
-    }
-    Ok(())
 }
 
 /// Appends a byte of a name.
-fn push_byte(out: &mut Vec<u8>, byte: u8) -> Result<(), Memory>
-    ensures { OnOk result (out.new.items ≡ out.old.items ++ name_byte byte) }
+pub fn push_byte(page: &mut Page, byte: u8)
+    requires room { length page.old + 4 ≤ PAGE_ROOM }
+    ensures text { page.new ≡ page.old ++ name_byte byte }
+    ensures least { length page.old < length page.new }
+    ensures most { length page.new ≤ length page.old + 4 }
 {
     match byte {
-        b'\\' => push_text(out, b"\\\\"),
-        0x21..=0x7e => push_text(out, &[byte]),
-        _ => push_escaped(out, byte),
+        b'\\' => page.push(b"\\\\"),
+        0x21..=0x7e => page.push(&[byte]),
+        _ => push_escaped(page, byte),
     }
 }
 
 /// Appends a byte as a backslash, an x and two hexadecimal digits.
-fn push_escaped(out: &mut Vec<u8>, byte: u8) -> Result<(), Memory>
-    ensures { OnOk result (out.new.items ≡ out.old.items ++ escaped_byte byte) }
+fn push_escaped(page: &mut Page, byte: u8)
+    requires room { length page.old + 4 ≤ PAGE_ROOM }
+    ensures text { page.new ≡ page.old ++ escaped_byte byte }
+    ensures four { length page.new ≡ length page.old + 4 }
 {
-    push_text(out, b"\\x")?;
-    push_text(out, &[hex_digit(byte / 16), hex_digit(byte % 16)])
+    page.push(b"\\x");
+    page.push(&[hex_digit(byte / 16), hex_digit(byte % 16)]);
 }

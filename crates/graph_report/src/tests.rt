@@ -60,7 +60,7 @@ const NAMED_FUNCTIONS: [(u64, bool, &[u64]); 5] = [
 
 /// The parts of its reports.
 const HEADING: &str = "\
-    cfg-report 1\n\
+    cfg-report 2\n\
     entry 0000000000010000\n";
 
 const FUNCTIONS: &str = "\
@@ -173,5 +173,30 @@ fn summary_of_counts(rt: HostRuntime) -> Result<(), Fail> {
     let graph = named_graph(rt.alloc())?;
     let text = summary(rt.alloc(), 4_000_000_000, &graph)?;
     assert_eq!(rt; text.as_slice(), want.as_bytes());
+    Ok(())
+}
+
+#[test]
+fn pieces_of_a_long_report(rt: HostRuntime) -> Result<(), Fail> {
+    let mut rows = Vec::new(rt.alloc());
+    let mut want = String::from_str(rt.alloc(), HEADING)?;
+    want.push_str("blocks 240\n")?;
+    for _ in 0..40 {
+        rows.extend_from_slice(&NAMED_BLOCKS)?;
+        want.push_str(BLOCKS.strip_prefix("blocks 6\n").unwrap_or(""))?;
+    }
+    want.push_str("end\n")?;
+    let image = Image::parse(rt.alloc(), Vec::from_slice(rt.alloc(), &NAMED_FILE)?)?;
+    let seeds = seeds(rt.alloc(), &image)?;
+    let graph = graph_of(rt.alloc(), &rows, &[])?;
+    let mut pieces = ReportPieces::new(rt.alloc(), &image, &seeds, &graph, ReportKind::Blocks)?;
+    let mut left = want.as_bytes();
+    for count in [4096, 4096, 2899] {
+        assert!(rt; pieces.next_piece() == left.get(..count));
+        left = left.get(count..).unwrap_or(b"");
+    }
+    assert!(rt; left.is_empty());
+    assert!(rt; pieces.next_piece().is_none());
+    assert!(rt; pieces.next_piece().is_none());
     Ok(())
 }

@@ -1,0 +1,75 @@
+-- Words of private functions, which no public contract cites: what is left of a report.
+use Rattle.std.specs.Prelude.{ℕ, ◌+◌, ◌<◌, ◌≤◌, Bool, true, false, if◌then◌else◌}
+use Rattle.std.specs.Prelude.{List, [], ◌++◌, length, Option, Some, None, codes}
+use Rattle.std.specs.List.{flat_map}
+use Rattle.std.specs.Option.{option_map}
+use Rattle.graph_report.specs.declared.page.TheConstants.{LINE_ROOM}
+use Rattle.graph_report.specs.declared.kind.ReportKind.{ReportKind}
+use Rattle.graph_report.specs.declared.kind.ReportKind.TheVariants as reports
+use Rattle.graph_report.specs.declared.left.FunctionsLeft.{FunctionsLeft}
+use Rattle.graph_report.specs.declared.left.BlocksLeft.{BlocksLeft}
+use Rattle.graph_report.specs.declared.left.EdgesLeft.{EdgesLeft}
+use Rattle.graph_report.specs.declared.left.ReportLeft.{ReportLeft}
+use Rattle.graph_report.specs.Name.{Names, name_byte}
+use Rattle.graph_report.specs.Line.{functions_line, in_line, blocks_line}
+use Rattle.graph_report.specs.Line.{block_line, edges_line, edge_line, end_line}
+use Rattle.graph_report.specs.Report.{function_lines}
+
+-- The text grew, by a line at most.
+abbrev pub IsLine : List ℕ → List ℕ → Type 0
+IsLine old new = (length old < length new) × (length new ≤ length old + LINE_ROOM)
+
+-- Which sections a kind of report has.
+abbrev pub has_functions : ReportKind → Bool
+has_functions reports.Graph = true
+has_functions reports.Functions = true
+has_functions reports.Blocks = false
+has_functions reports.Edges = false
+
+abbrev pub has_blocks : ReportKind → Bool
+has_blocks reports.Graph = true
+has_blocks reports.Functions = false
+has_blocks reports.Blocks = true
+has_blocks reports.Edges = false
+
+abbrev pub has_edges : ReportKind → Bool
+has_edges reports.Graph = true
+has_edges reports.Functions = false
+has_edges reports.Blocks = false
+has_edges reports.Edges = true
+
+-- The rest of a function's line, from within its name; nothing where the line is whole.
+abbrev pub name_left : Option (List ℕ) → List ℕ
+name_left None = []
+name_left (Some name) = flat_map name_byte name ++ codes "\n"
+
+-- A line that stands in front of a section, unless it was given.
+abbrev pub count_left : Bool → List ℕ → List ℕ
+count_left begun line = if begun then [] else line
+
+-- The sections, from where they stand.
+abbrev pub functions_left : Names → FunctionsLeft → List ℕ
+functions_left names left =
+    count_left left.begun (functions_line (length left.functions.now))
+    ++ (name_left (option_map (λ s. s.now) left.name)
+    ++ (flat_map in_line left.body.now
+    ++ flat_map (function_lines names) left.functions.now))
+
+abbrev pub blocks_left : BlocksLeft → List ℕ
+blocks_left left =
+    count_left left.begun (blocks_line (length left.blocks.now)) ++ flat_map block_line
+    left.blocks.now
+
+abbrev pub edges_left : EdgesLeft → List ℕ
+edges_left left =
+    count_left left.begun (edges_line (length left.edges.now)) ++ flat_map edge_line left.edges.now
+
+-- The last line, unless it was given.
+abbrev pub end_left : Bool → List ℕ
+end_left ended = count_left ended end_line
+
+-- The report behind its heading.
+abbrev pub report_left : Names → ReportLeft → List ℕ
+report_left names left =
+    functions_left names left.functions
+    ++ (blocks_left left.blocks ++ (edges_left left.edges ++ end_left left.ended))

@@ -1,0 +1,245 @@
+//! What is left of a report: its sections, each from where it stands on.
+
+ghost use Rattle.std.specs.Prelude.{◌≡◌, ℕ, ◌+◌, ◌≤◌, [], ◌++◌, false, length};
+ghost use Rattle.std.specs.Prelude.{Option, IfSome, IsTrue, if◌then◌else◌};
+ghost use Rattle.std.specs.Option.{option_map};
+ghost use Rattle.elf_image.specs.ReadOnly.{span_bytes};
+ghost use Rattle.elf_image.specs.Seeds.{seed_name};
+ghost use Rattle.elf_symbols.specs.Seeds.{name_in, LiesIn};
+ghost use Rattle.graph_report.specs.Name.{Names};
+ghost use Rattle.graph_report.specs.Line.{end_line};
+ghost use Rattle.graph_report.specs.Report.{functions_section, blocks_section};
+ghost use Rattle.graph_report.specs.Report.{edges_section, sections};
+ghost use Rattle.graph_report.specs.Inner.{IsLine, functions_left, blocks_left};
+ghost use Rattle.graph_report.specs.Inner.{edges_left, end_left, report_left};
+
+use crate::kind::ReportKind;
+use crate::line::{
+    begin_function, go_on_with_name, push_block, push_block_count, push_edge, push_edge_count,
+    push_end, push_function_count, push_in,
+};
+use crate::page::{LINE_ROOM, PAGE_ROOM, Page};
+use cfg_model::{Block, Edge, Function, Graph};
+use elf_image::Image;
+use elf_symbols::Seeds;
+
+/// What is left of the section of the functions.
+#[derive(Drop)]
+pub struct FunctionsLeft<'a> {
+    /// Whether the line of their number was given.
+    begun: bool,
+    /// The bytes of a name that are still to come, where its line is not whole.
+    name: Option<&'a [u8]>,
+    /// The blocks of the last function that are still to come.
+    body: &'a [u64],
+    functions: &'a [Function],
+}
+
+impl<'a> FunctionsLeft<'a> {
+    /// The whole section, or nothing.
+    fn new(shown: bool, functions: &'a [Function]) -> FunctionsLeft<'a>
+        ensures { (names : Names) → functions_left names result
+            ≡ (if shown then functions_section names functions.now else []) }
+    {
+        FunctionsLeft {
+            begun: !shown,
+            name: None,
+            body: &[],
+            functions: if shown { functions } else { &[] },
+        }
+    }
+
+    /// Puts the next line on the page, or a part of it; `false` where nothing is left.
+    fn step(&mut self, image: &'a Image, seeds: &Seeds, page: &mut Page) -> bool
+        requires names { (a : ℕ) → option_map (span_bytes image.now) (name_in seeds.now a)
+            ≡ seed_name image.now a }
+        requires in_file { (a : ℕ) → IfSome (name_in seeds.now a) (LiesIn image.now) }
+        requires room { length page.old + LINE_ROOM ≤ PAGE_ROOM }
+        ensures moves { page.new ++ functions_left (seed_name image.now) self.new
+            ≡ page.old ++ functions_left (seed_name image.now) self.old }
+        ensures line { IsTrue result → IsLine page.old page.new }
+        ensures stays { result ≡ false → (page.new ≡ page.old) × (self.new ≡ self.old) }
+        ensures end { result ≡ false → functions_left (seed_name image.now) self.old ≡ [] }
+    {
+        if !self.begun {
+            self.begun = true;
+            push_function_count(page, self.functions.len());
+            return true;
+        }
+        if let Some(name) = self.name {
+            self.name = go_on_with_name(page, name);
+            return true;
+        }
+        if let [block, rest @ ..] = self.body {
+            push_in(page, *block);
+            self.body = rest;
+            return true;
+        }
+        let [function, rest @ ..] = self.functions else {
+            return false;
+        };
+        let name = name_at(image, seeds, function.entry);
+        self.name = Some(begin_function(page, function, name));
+        self.body = function.body.as_slice();
+        self.functions = rest;
+        true
+    }
+}
+
+/// The name of the function that begins at an address; `None` where it has none.
+fn name_at<'a>(image: &'a Image, seeds: &Seeds, entry: u64) -> Option<&'a [u8]>
+    requires names { (a : ℕ) → option_map (span_bytes image.now) (name_in seeds.now a)
+        ≡ seed_name image.now a }
+    requires in_file { (a : ℕ) → IfSome (name_in seeds.now a) (LiesIn image.now) }
+    ensures { option_map (λ name. name.now) result ≡ seed_name image.now entry }
+{
+    let span = seeds.name_of(entry)?;
+    Some(image.bytes(span))
+}
+
+/// What is left of the section of the blocks.
+#[derive(Drop)]
+pub struct BlocksLeft<'a> {
+    /// Whether the line of their number was given.
+    begun: bool,
+    blocks: &'a [Block],
+}
+
+impl<'a> BlocksLeft<'a> {
+    /// The whole section, or nothing.
+    fn new(shown: bool, blocks: &'a [Block]) -> BlocksLeft<'a>
+        ensures { blocks_left result ≡ (if shown then blocks_section blocks.now else []) }
+    {
+        BlocksLeft {
+            begun: !shown,
+            blocks: if shown { blocks } else { &[] },
+        }
+    }
+
+    /// Puts the next line on the page; `false` where none is left.
+    fn step(&mut self, page: &mut Page) -> bool
+        requires room { length page.old + LINE_ROOM ≤ PAGE_ROOM }
+        ensures moves { page.new ++ blocks_left self.new ≡ page.old ++ blocks_left self.old }
+        ensures line { IsTrue result → IsLine page.old page.new }
+        ensures stays { result ≡ false → (page.new ≡ page.old) × (self.new ≡ self.old) }
+        ensures end { result ≡ false → blocks_left self.old ≡ [] }
+    {
+        if !self.begun {
+            self.begun = true;
+            push_block_count(page, self.blocks.len());
+            return true;
+        }
+        let [block, rest @ ..] = self.blocks else {
+            return false;
+        };
+        push_block(page, block);
+        self.blocks = rest;
+        true
+    }
+}
+
+/// What is left of the section of the edges.
+#[derive(Drop)]
+pub struct EdgesLeft<'a> {
+    /// Whether the line of their number was given.
+    begun: bool,
+    edges: &'a [Edge],
+}
+
+impl<'a> EdgesLeft<'a> {
+    /// The whole section, or nothing.
+    fn new(shown: bool, edges: &'a [Edge]) -> EdgesLeft<'a>
+        ensures { edges_left result ≡ (if shown then edges_section edges.now else []) }
+    {
+        EdgesLeft {
+            begun: !shown,
+            edges: if shown { edges } else { &[] },
+        }
+    }
+
+    /// Puts the next line on the page; `false` where none is left.
+    fn step(&mut self, page: &mut Page) -> bool
+        requires room { length page.old + LINE_ROOM ≤ PAGE_ROOM }
+        ensures moves { page.new ++ edges_left self.new ≡ page.old ++ edges_left self.old }
+        ensures line { IsTrue result → IsLine page.old page.new }
+        ensures stays { result ≡ false → (page.new ≡ page.old) × (self.new ≡ self.old) }
+        ensures end { result ≡ false → edges_left self.old ≡ [] }
+    {
+        if !self.begun {
+            self.begun = true;
+            push_edge_count(page, self.edges.len());
+            return true;
+        }
+        let [edge, rest @ ..] = self.edges else {
+            return false;
+        };
+        push_edge(page, edge);
+        self.edges = rest;
+        true
+    }
+}
+
+/// What is left of a report behind its heading.
+#[derive(Drop)]
+pub struct ReportLeft<'a> {
+    functions: FunctionsLeft<'a>,
+    blocks: BlocksLeft<'a>,
+    edges: EdgesLeft<'a>,
+    /// Whether the last line was given.
+    ended: bool,
+}
+
+impl<'a> ReportLeft<'a> {
+    /// The sections of a kind of report, and the last line.
+    pub fn new(graph: &'a Graph, kind: ReportKind) -> ReportLeft<'a>
+        ensures { (names : Names)
+            → report_left names result ≡ sections kind names graph.now ++ end_line }
+    {
+        ReportLeft {
+            functions: FunctionsLeft::new(kind.has_functions(), graph.functions.as_slice()),
+            blocks: BlocksLeft::new(kind.has_blocks(), graph.blocks.as_slice()),
+            edges: EdgesLeft::new(kind.has_edges(), graph.edges.as_slice()),
+            ended: false,
+        }
+    }
+
+    /// Puts the next line on the page, or a part of it; `false` where nothing is left.
+    pub fn step(&mut self, image: &'a Image, seeds: &Seeds, page: &mut Page) -> bool
+        requires names { (a : ℕ) → option_map (span_bytes image.now) (name_in seeds.now a)
+            ≡ seed_name image.now a }
+        requires in_file { (a : ℕ) → IfSome (name_in seeds.now a) (LiesIn image.now) }
+        requires room { length page.old + LINE_ROOM ≤ PAGE_ROOM }
+        ensures moves { page.new ++ report_left (seed_name image.now) self.new
+            ≡ page.old ++ report_left (seed_name image.now) self.old }
+        ensures line { IsTrue result → IsLine page.old page.new }
+        ensures stays { result ≡ false → page.new ≡ page.old }
+        ensures end { result ≡ false → report_left (seed_name image.now) self.new ≡ [] }
+    {
+        if self.functions.step(image, seeds, page) {
+            return true;
+        }
+        if self.blocks.step(page) {
+            return true;
+        }
+        if self.edges.step(page) {
+            return true;
+        }
+        step_end(&mut self.ended, page)
+    }
+}
+
+/// Puts the last line on the page; `false` where it was given.
+fn step_end(ended: &mut bool, page: &mut Page) -> bool
+    requires room { length page.old + LINE_ROOM ≤ PAGE_ROOM }
+    ensures moves { page.new ++ end_left ended.new ≡ page.old ++ end_left ended.old }
+    ensures line { IsTrue result → IsLine page.old page.new }
+    ensures stays { result ≡ false → page.new ≡ page.old }
+    ensures end { result ≡ false → end_left ended.new ≡ [] }
+{
+    if *ended {
+        return false;
+    }
+    *ended = true;
+    push_end(page);
+    true
+}

@@ -1,0 +1,131 @@
+//! The text of a report, given out piece by piece.
+
+ghost use Rattle.std.specs.Prelude.{⊤, ◌≡◌, ℕ, ◌≤◌, ◌<◌, ◌+◌, [], ◌++◌};
+ghost use Rattle.std.specs.Prelude.{drop, length, Option, IfOk, IfSome};
+ghost use Rattle.std.specs.Option.{option_map};
+ghost use Rattle.std.specs.Borrow.{sem};
+ghost use mir.Syntax.{named};
+ghost use Rattle.elf_image.specs.ReadOnly.{span_bytes};
+ghost use Rattle.elf_image.specs.Seeds.{seed_name};
+ghost use Rattle.elf_symbols.specs.Seeds.{name_in, LiesIn};
+ghost use Rattle.graph_report.specs.Inner.{report_left};
+
+use crate::kind::ReportKind;
+use crate::left::ReportLeft;
+use crate::line::{push_entry, push_first};
+use crate::memory::Memory;
+use crate::page::{PAGE_ROOM, PIECE, Page};
+use cfg_model::Graph;
+use elf_image::Image;
+use elf_symbols::Seeds;
+use std::alloc::Global;
+use std::marker::Model;
+
+/// The text of a report of a graph, in pieces of 4,096 bytes but for a shorter last one.
+///
+/// It keeps its place in the lists of the graph and one page of text, whose memory it takes when it
+/// is made, and no more: never the whole text. Contracts see it as the bytes that are still to
+/// come.
+#[derive(Drop)]
+pub struct ReportPieces<'a> {
+    image: &'a Image,
+    seeds: &'a Seeds,
+    left: ReportLeft<'a>,
+    page: Page,
+    /// How many bytes at the front of the page were given out.
+    given: usize,
+}
+
+impl<'a> Model for ReportPieces<'a> {
+    ghost use Rattle.std.specs.Prelude.{◌≡◌, ℕ, ◌≤◌, List, ◌++◌, length, drop, IfSome};
+    ghost use Rattle.std.specs.Option.{option_map};
+    ghost use Rattle.elf_image.specs.ReadOnly.{span_bytes};
+    ghost use Rattle.elf_image.specs.Seeds.{seed_name};
+    ghost use Rattle.elf_symbols.specs.Seeds.{name_in, LiesIn};
+
+    ghost Value = { List ℕ };
+
+    ghost use Rattle.graph_report.specs.declared.page.TheConstants.{PAGE_ROOM};
+    ghost use Rattle.graph_report.specs.Inner.{report_left};
+
+    ghost view = { λ p. drop p.given p.page ++ report_left (seed_name p.image.now) p.left };
+
+    ghost invariant = { λ p. (p.given ≤ length p.page)
+        × (length p.page ≤ PAGE_ROOM)
+        × ((a : ℕ) → option_map (span_bytes p.image.now) (name_in p.seeds.now a)
+        ≡ seed_name p.image.now a)
+        × ((a : ℕ) → IfSome (name_in p.seeds.now a) (LiesIn p.image.now)) };
+}
+
+impl<'a> ReportPieces<'a> {
+    ghost use Rattle.graph_report.specs.contracts.pieces.ReportPieces.{the_row};
+    ghost use Rattle.graph_report.specs.Report.{report_text};
+    ghost use Rattle.graph_report.specs.Pieces.{GivesPiece};
+    ghost use mathlib.Core.Option.{none};
+    ghost use denote.Follow.{follows_so};
+
+    /// The text of a report of `graph`, of which nothing is given out yet, or want of memory.
+    ///
+    /// It has the parts that `kind` names, with functions, blocks and edges in the order of their
+    /// lists. A function has the name that `seeds`, those of the file `image`, have at its entry.
+    pub fn new(
+        alloc: Global,
+        image: &'a Image,
+        seeds: &'a Seeds,
+        graph: &'a Graph,
+        kind: ReportKind,
+    ) -> Result<ReportPieces<'a>, Memory>
+        requires names { (a : ℕ) → option_map (span_bytes image.now) (name_in seeds.now a)
+            ≡ seed_name image.now a }
+        requires in_file { (a : ℕ) → IfSome (name_in seeds.now a) (LiesIn image.now) }
+        ensures text { IfOk result
+            (λ pieces. pieces ≡ report_text kind (seed_name image.now) graph.now) }
+    {
+        let mut page = Page::new(alloc)?;
+        push_first(&mut page);
+        push_entry(&mut page, graph.entry);
+        Ok(ReportPieces {
+            image,
+            seeds,
+            left: ReportLeft::new(graph, kind),
+            page,
+            given: 0,
+        })
+    }
+
+    /// The next piece; `None` exactly where all was given out. It takes no memory. The time is
+    /// linear in the piece, but for a search among the seeds for each function.
+    pub fn next_piece(&mut self) -> Option<&[u8]>
+        ensures* piece { sem 𝓛 (follows_so (the_row (record { mir = named 1; lft = [] }))
+            (the_row (record { mir = named 1; lft = [] }))
+            self.entry.ghost_name none
+            (λ _ _. ⊤) (GivesPiece self.old (option_map (λ s. s.now) result))) }
+    {
+        self.page.drop_front(self.given);
+        fill(self.image, self.seeds, &mut self.left, &mut self.page);
+        let n = self.page.len().min(PIECE);
+        self.given = n;
+        if n == 0 {
+            return None;
+        }
+        Some(&self.page.bytes()[..n])
+    }
+}
+
+/// Puts lines on the page until a piece stands there or nothing is left.
+fn fill<'a>(image: &'a Image, seeds: &'a Seeds, left: &mut ReportLeft<'a>, page: &mut Page)
+    requires names { (a : ℕ) → option_map (span_bytes image.now) (name_in seeds.now a)
+        ≡ seed_name image.now a }
+    requires in_file { (a : ℕ) → IfSome (name_in seeds.now a) (LiesIn image.now) }
+    requires room { length page.old ≤ PAGE_ROOM }
+    ensures moves { page.new ++ report_left (seed_name image.now) left.new ≡ page.old ++ report_left
+        (seed_name image.now) left.old }
+    ensures room { length page.new ≤ PAGE_ROOM }
+    ensures filled { length page.new < PIECE → report_left (seed_name image.now) left.new ≡ [] }
+{
+    while page.len() < PIECE {
+        if !left.step(image, seeds, page) {
+            break;
+        }
+    }
+}
