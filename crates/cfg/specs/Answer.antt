@@ -29,15 +29,20 @@ usage_answer = record { status = statuses.Usage; output = []; error = refusal_li
 -- The file has this fault.
 abbrev pub malformed_answer : Fault → Answer
 malformed_answer fault =
-    record { status = statuses.Malformed; output = []; error = refusal_line (refusals.Malformed fault) }
+    record {
+      status = statuses.Malformed;
+      output = [];
+      error = refusal_line
+          (refusals.Malformed fault);
+    }
 
 -- This is the report or the summary.
 abbrev pub text_answer : List ℕ → Answer
 text_answer text = record { status = statuses.Done; output = text; error = [] }
 
--- The answer to what is asked for, over a file of these bytes: words that ask for nothing are refused;
--- of a file with a fault the first one is named; of any other the graph is reported; and of the graph
--- of a made program, for which the bytes do not count, there is the summary.
+-- The answer to what is asked for, over a file of these bytes: words that ask for nothing are
+-- refused; of a file with a fault the first one is named; of any other the graph is reported; and
+-- of the graph of a made program, for which the bytes do not count, there is the summary.
 pub data IsAnswer (bytes : List ℕ) : Option Asked → Answer → Type 0 where
   usage : IsAnswer bytes None usage_answer
   malformed : {path : List ℕ} {workers : ℕ} {kind : ReportKind} {fault : Fault}
@@ -45,6 +50,7 @@ pub data IsAnswer (bytes : List ℕ) : Option Asked → Answer → Type 0 where
       → IsAnswer bytes (Some (of_file path workers kind)) (malformed_answer fault)
   done : {path : List ℕ} {workers : ℕ} {kind : ReportKind} {graph : Graph}
       → first_fault bytes ≡ None → IsGraphOf bytes graph
-      → IsAnswer bytes (Some (of_file path workers kind)) (text_answer (report_text kind (seed_name bytes) graph))
+      → IsAnswer bytes (Some (of_file path workers kind))
+      (text_answer (report_text kind (seed_name bytes) graph))
   made : {n workers : ℕ} {graph : Graph} → IsGraphOf (made_file (big_parts n)) graph
       → IsAnswer bytes (Some (of_made n workers)) (text_answer (summary_text n graph))

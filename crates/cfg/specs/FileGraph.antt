@@ -29,8 +29,8 @@ AreCutsOf bytes cuts = AreCuts (extent_at bytes) (IsReachedUncut bytes) (cut_of 
 abbrev pub IsGraphUnder : List ℕ → Counts → Graph → Type 0
 IsGraphUnder bytes cuts graph = IsGraph (cut_program bytes cuts) (seeds bytes) (entry bytes) graph
 
--- The graph of the file: the least closure from its seeds under the cuts of its tables, as functions,
--- basic blocks and edges.
+-- The graph of the file: the least closure from its seeds under the cuts of its tables, as
+-- functions, basic blocks and edges.
 pub record IsGraphOf (bytes : List ℕ) (graph : Graph) : Type 0 where
   pub cuts : Counts
   pub are_cuts : AreCutsOf bytes cuts

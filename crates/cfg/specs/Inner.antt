@@ -1,5 +1,19 @@
 -- Words that no public clause cites: what the steps of a run tell one another.
-use Rattle.std.specs.Prelude.{◌≡◌, ℕ, List, Option, Some, None, IfSome, Result, Ok, Err}
+use Rattle.std.specs.Prelude.{◌≡◌, ℕ, List, Option, Some, None, IfSome, IfOk, Result, Ok, Err}
+use Rattle.std.proofs.Common.{Bor}
+use Rattle.cfg_model.specs.Program.Reach.{AreSeeds}
+use Rattle.cfg_model.specs.Builder.Kept.{IsClosed}
+use Rattle.cfg_model.specs.declared.graph.Function.{Function}
+use Rattle.cfg_model.specs.Program.Instructions.{InstructionMap}
+use Rattle.cfg_model.specs.Graph.Function.{IsFunction}
+use Rattle.cfg_model.specs.Graph.Graph.{FunctionBefore}
+use Rattle.cfg_model.specs.Graph.Listing.{Lists}
+use Rattle.code_view.specs.declared.code.Code.{Code}
+use Rattle.code_view.specs.FileCode.{program_of}
+use Rattle.core_state.specs.declared.state.State.{State}
+use Rattle.finaliser.specs.declared.outline.Outline.{Outline}
+use Rattle.finaliser.specs.Closed.{IsOutlineOf}
+use Rattle.func_bodies.specs.Listed.{AreOrdered, HaveEachEntry}
 use Rattle.elf_image.specs.declared.fault.Fault.TheVariants.{TooLarge}
 use Rattle.elf_image.specs.Faults.{first_fault}
 use Rattle.cfg_words.specs.Request.{Asked}
@@ -24,9 +38,9 @@ IsUnread rose refusals.ReadFault = rose
 IsUnread rose refusals.WriteFault = ⊥
 IsUnread rose refusals.Memory = Unit {0}
 
--- The refusal is true of what is asked for and of the bytes, where the input tells them: only a file
--- can be malformed or not be read, and a call of the input failed where it was not read. No step before
--- the writing answers that it failed.
+-- The refusal is true of what is asked for and of the bytes, where the input tells them: only a
+-- file can be malformed or not be read, and a call of the input failed where it was not read. No
+-- step before the writing answers that it failed.
 abbrev pub IsTrueOf : Option Asked → Option (List ℕ) → Type 0 → Refusal → Type 0
 IsTrueOf asked told rose refusals.Usage = asked ≡ None
 IsTrueOf asked told rose (refusals.Malformed fault) = IsForFile asked
@@ -52,3 +66,35 @@ IsOfFile (Err refusal) = IsMalformed refusal
 abbrev pub IsFaultless : {X : Type 0} → Result X Refusal → Type 0
 IsFaultless (Ok text) = Unit {0}
 IsFaultless (Err refusal) = ¬ IsMalformed refusal
+
+-- Whoever may be called of any program of a file and its seeds, and gives the closed state: by what
+-- it asks before a call, and what it says of its answer.
+abbrev pub Builds :
+    {E : Type 0} → (Bor Code → Bor (List ℕ) → Type 0)
+    → (Bor Code → Bor (List ℕ) → Result State E → Type 0) → Type 0
+Builds asks answers =
+    ((code : Bor Code) (seeds : Bor (List ℕ)) → AreSeeds (program_of code.now) seeds.now
+    → asks code seeds)
+    × ((code : Bor Code) (seeds : Bor (List ℕ)) (r : _) → answers code seeds r
+    → IfOk r (λ state. IsClosed (program_of code.now) seeds.now state.maps))
+
+-- An answer with the functions of a program, in order, wherever it is one.
+abbrev pub AnswersFunctions :
+    {E : Type 0} → InstructionMap → List ℕ → Result (List Function) E → Type 0
+AnswersFunctions map seeds r = IfOk r (Lists FunctionBefore (IsFunction map seeds))
+    × IfOk r (HaveEachEntry map seeds) × IfOk r AreOrdered
+
+-- Whoever may be called of any program of a file with its seeds, a closed state and the outline of
+-- this, and gives the functions: by what it asks and what it says, as above.
+abbrev pub Makes :
+    {E : Type 0} → (Bor Code → Bor (List ℕ) → Bor State → Bor Outline → Type 0)
+    → (Bor Code → Bor (List ℕ) → Bor State → Bor Outline → Result (List Function) E → Type 0)
+    → Type 0
+Makes asks answers =
+    ((code : Bor Code) (seeds : Bor (List ℕ)) (state : Bor State) (outline : Bor Outline)
+    → IsClosed (program_of code.now) seeds.now state.now.maps
+    → IsOutlineOf (program_of code.now) state.now.maps outline.now
+    → asks code seeds state outline)
+    × ((code : Bor Code) (seeds : Bor (List ℕ)) (state : Bor State) (outline : Bor Outline)
+    → (r : _) → answers code seeds state outline r
+    → AnswersFunctions (program_of code.now) seeds.now r)

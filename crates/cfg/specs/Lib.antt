@@ -6,4 +6,5 @@ pub mod Lines
 pub mod Answer
 pub mod Run
 pub mod Laws
+pub mod Text
 pub mod Inner

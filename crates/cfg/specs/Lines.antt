@@ -2,7 +2,8 @@
 use Rattle.std.specs.Prelude.{ℕ, List, [], ◌++◌, codes}
 use Rattle.elf_image.specs.FaultNames.{fault_name}
 use Rattle.cfg.specs.declared.refusal.Refusal.{Refusal}
-use Rattle.cfg.specs.declared.refusal.Refusal.TheVariants.{Usage, Malformed, ReadFault, WriteFault, Memory}
+use Rattle.cfg.specs.declared.refusal.Refusal.TheVariants.{Usage, Malformed, ReadFault}
+use Rattle.cfg.specs.declared.refusal.Refusal.TheVariants.{WriteFault, Memory}
 
 -- What the line says behind the program's name.
 abbrev pub text_of : Refusal → List ℕ

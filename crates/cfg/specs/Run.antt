@@ -40,7 +40,8 @@ HasRead asked statuses.Memory = ⊥
 -- A run that ended in this way gave the answer: its status is the answer's, and standard output and
 -- standard error took the texts of it.
 pub record Gives
-    (bytes : List ℕ) (asked : Option Asked) (end : Status) (Output Error : List ℕ → Type 0) : Type 0 where
+    (bytes : List ℕ) (asked : Option Asked) (end : Status)
+    (Output Error : List ℕ → Type 0) : Type 0 where
   pub answer : Answer
   pub is_answer : IsAnswer bytes asked answer
   pub status : end ≡ answer.status
@@ -48,7 +49,8 @@ pub record Gives
   pub error : Error answer.error
 
 -- A run whose writing failed: standard output grew by a part, from its front, of the text.
-pub record GivesPart (bytes : List ℕ) (asked : Option Asked) (old new : Option (List ℕ)) : Type 0 where
+pub record GivesPart (bytes : List ℕ) (asked : Option Asked)
+    (old new : Option (List ℕ)) : Type 0 where
   pub answer : Answer
   pub is_answer : IsAnswer bytes asked answer
   pub status : answer.status ≡ statuses.Done

@@ -1,7 +1,8 @@
 -- The exit status of each way to end.
 use Rattle.std.specs.Prelude.{ℕ}
 use Rattle.cfg.specs.declared.status.Status.{Status}
-use Rattle.cfg.specs.declared.status.Status.TheVariants.{Done, Usage, Malformed, ReadFault, WriteFault, Memory}
+use Rattle.cfg.specs.declared.status.Status.TheVariants.{Done, Usage, Malformed}
+use Rattle.cfg.specs.declared.status.Status.TheVariants.{ReadFault, WriteFault, Memory}
 
 abbrev pub number_of : Status → ℕ
 number_of Done = 0

@@ -1,28 +1,31 @@
 //! `cfg FILE`: the control-flow graph of a RISC-V executable.
 //!
 //! - `run`: a whole run over any input and any sinks, and what is proved of it.
-//! - `reading`: the bytes of the file. `answer`: from these to the text of the report. `graph`: the graph
-//!   of a file, under the cuts of its jump tables.
+//! - `reading`: the bytes of the file. `answer`: from these to the report.
+//! - `graph`: the graph of a file, under the cuts of its jump tables. `builder`: who builds it.
+//! - `text`: the text of an answer, written piece by piece.
+//! - `safe`: a run where neither the input nor standard output can fail.
 //! - `status`, `refusal`: how a run ends, and the line that tells it.
-//! - `gate`: where a test may hold workers, once there are any.
 #![tactic(auto)]
 
 mod answer;
-mod gate;
+mod builder;
 mod graph;
 mod laws;
 mod reading;
 mod refusal;
 mod run;
+mod safe;
 mod status;
 #[cfg(test)]
 mod tests;
+mod text;
 
-use crate::gate::OpenGate;
 use crate::refusal::Refusal;
 use crate::run::run;
 use crate::status::Status;
 use cfg_io::{FileInput, StdSink};
+use crew::OpenGate;
 use std::env;
 use std::io::{self, ErrorKind};
 use std::process::ExitCode;
@@ -35,6 +38,7 @@ fn main(rt: HostRuntime) -> ExitCode {
         Ok(words) => {
             let mut input = FileInput::new(rt);
             run(
+                &rt,
                 rt.alloc(),
                 &words,
                 &mut input,

@@ -1,6 +1,7 @@
 //! Reading the file that is asked for.
 
-ghost use Rattle.std.specs.Prelude.{◌≡◌, ◌+◌, ◌≤◌, ◌⊎◌, [], length, IfSome, IfOk, IfErr, IsErrOf, OnOk};
+ghost use Rattle.std.specs.Prelude.{◌≡◌, ◌+◌, ◌≤◌, ◌⊎◌, [], length};
+ghost use Rattle.std.specs.Prelude.{IfSome, IfOk, IfErr, IsErrOf, OnOk};
 ghost use Rattle.cfg_io.specs.Fault.{Rose};
 ghost use Rattle.cfg_io.specs.Opened.{Nothing, Something, told_path};
 ghost use Rattle.cfg_io.specs.Told.{Takes, TakesCount, TakesAtMost};

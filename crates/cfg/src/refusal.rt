@@ -34,6 +34,14 @@ impl From<ElfError> for Refusal {
     }
 }
 
+impl From<chain_index::Memory> for Refusal {
+    ghost from_gives = { λ _ r. r ≡ refusals.Memory };
+
+    fn from(_: chain_index::Memory) -> Self {
+        Refusal::Memory
+    }
+}
+
 impl From<code_view::Memory> for Refusal {
     ghost from_gives = { λ _ r. r ≡ refusals.Memory };
 
@@ -134,14 +142,17 @@ impl Refusal {
 
     /// Writes its line, without taking memory. Where a write fails, a part of the line went out.
     pub fn tell<E: Sink>(&self, err: &mut E)
-        ensures { Tells (E.written err.old) (E.written err.new) (Rose (E.faults err.old) (E.faults err.new)) (refusal_line self.now) }
+        ensures { Tells (E.written err.old) (E.written err.new)
+            (Rose (E.faults err.old) (E.faults err.new)) (refusal_line self.now) }
     {
         let _ = self.write_line(err);
     }
 
     fn write_line<E: Sink>(&self, err: &mut E) -> Result<(), Failed>
-        ensures whole { OnOk result (Appends (E.written err.old) (refusal_line self.now) (E.written err.new)) }
-        ensures prefix { OnErr result (AppendsPrefix (E.written err.old) (refusal_line self.now) (E.written err.new)) }
+        ensures whole { OnOk result
+            (Appends (E.written err.old) (refusal_line self.now) (E.written err.new)) }
+        ensures prefix { OnErr result
+            (AppendsPrefix (E.written err.old) (refusal_line self.now) (E.written err.new)) }
         ensures failed { OnErr result (Rose (E.faults err.old) (E.faults err.new)) }
     {
         write_whole(err, b"cfg: ")?;

@@ -1,7 +1,13 @@
 //! One whole run of the program, over any input and any two sinks.
 
-ghost use Rattle.std.specs.Prelude.{◌≡◌, ◌≢◌, ℕ, ◌+◌, ◌≤◌, ◌<◌, ◌⊎◌, List, [], Some, None, length, string_bytes, IfSome, IfOk, IfErr};
+ghost use Rattle.std.specs.Prelude.{◌≡◌, ◌≢◌, ℕ, ◌+◌, ◌≤◌, ◌<◌, ◌⊎◌, List, [], Some};
+ghost use Rattle.std.specs.Prelude.{None, length, string_bytes, IfSome, IfOk, IfErr};
+ghost use Rattle.std.specs.Thread.{IsSync};
 ghost use Rattle.cfg_io.specs.Fault.{Rose};
+ghost use Rattle.cfg_model.specs.Program.Reach.{AreSeeds};
+ghost use Rattle.cfg_model.specs.Builder.Kept.{IsClosed};
+ghost use Rattle.code_view.specs.FileCode.{program_of};
+ghost use Rattle.finaliser.specs.Closed.{IsOutlineOf};
 ghost use Rattle.cfg_io.specs.Opened.{Nothing};
 ghost use Rattle.cfg_io.specs.Told.{TakesCount, TakesAtMost};
 ghost use Rattle.cfg_words.specs.Request.{asked, of_file};
@@ -9,40 +15,58 @@ ghost use Rattle.cfg.specs.Words.{asked_by, IsForFile, CanBeMade};
 ghost use Rattle.cfg.specs.Answer.{IsAnswer, text_answer};
 ghost use Rattle.cfg.specs.Refusal.{status_of};
 ghost use Rattle.cfg.specs.Lines.{refusal_line};
-ghost use Rattle.cfg.specs.Inner.{IsTrueOf, IsOfFile, IsFaultless};
-ghost use Rattle.cfg.specs.Run.{Grows, Tells, IsDecided, HasRead, Gives, GivesPart, IsLineOf, OpenedFor};
+ghost use Rattle.cfg.specs.Text.{bytes_of};
+ghost use Rattle.cfg.specs.Inner.{AnswersFunctions, IsTrueOf, IsOfFile, IsFaultless};
+ghost use Rattle.cfg.specs.Run.{Grows, Tells, IsDecided, HasRead};
+ghost use Rattle.cfg.specs.Run.{Gives, GivesPart, IsLineOf, OpenedFor};
 
 use crate::answer::{report_of, summary_of};
-use crate::gate::Gate;
+use crate::builder::{Alone, Builder, Workers};
 use crate::reading::{FILE_LIMIT, read_file};
 use crate::refusal::Refusal;
 use crate::status::Status;
-use cfg_io::{Failed, Input, Sink, write_whole};
+use crate::text::{Text, Unwritten};
+use cfg_io::{Input, Sink};
+use cfg_model::Functions;
 use cfg_words::{Request, request};
+use code_view::Code;
+use core_state::State;
+use crew::{Gate, build};
+use finaliser::Outline;
+use func_bodies::functions_by;
 use graph_report::ReportKind;
 use std::alloc::Global;
+use std::marker::Sync;
+use std::sync::Wait;
+use std::thread::Threads;
 
 /// Runs the program: reads the file that `words` ask for from `input`, writes the report of its
-/// control-flow graph to `out`, and tells on `err` why it did not. Of a made program, for which nothing
-/// is read, it writes the summary.
+/// control-flow graph to `out`, and tells on `err` why it did not. Of a made program, for which
+/// nothing is read, it writes the summary.
 ///
-/// The clause `answer` is what the program is for: where the words and the bytes decide the end of a
-/// run, its status, standard output and standard error are exactly those of the answer to them. By
+/// The clause `answer` is what the program is for: where the words and the bytes decide the end of
+/// a run, its status, standard output and standard error are exactly those of the answer to them.
+/// By
 /// `complete` they do wherever neither the input nor standard output failed in this run and memory
 /// sufficed. The other clauses say what holds where something failed.
-pub fn run<I: Input, O: Sink, E: Sink, G: Gate>(
+///
+/// From two workers on, workers build the graph, and pass the gate before each operation: the run
+/// may wait then. For one it calls [`run_one`].
+pub fn run<R: Threads + Wait + Sync, I: Input, O: Sink, E: Sink, G: Gate>(
+    rt: &R,
     alloc: Global,
     words: &[String],
     input: &mut I,
     out: &mut O,
     err: &mut E,
-    _gate: &G,
+    gate: &G,
 ) -> Status
     requires { I.opened input.old ≡ Nothing }
 
     ensures answer { IfSome (I.rest input.old) (λ bytes. IsDecided result
         → Gives bytes (asked_by words.now) result (Grows (O.written out.old) (O.written out.new))
-        (Tells (E.written err.old) (E.written err.new) (Rose (E.faults err.old) (E.faults err.new)))) }
+        (Tells (E.written err.old) (E.written err.new)
+        (Rose (E.faults err.old) (E.faults err.new)))) }
     ensures complete { ¬ Rose (I.faults input.old) (I.faults input.new)
         → ¬ Rose (O.faults out.old) (O.faults out.new)
         → IsDecided result ⊎ (result ≡ Status.Memory) }
@@ -62,7 +86,8 @@ pub fn run<I: Input, O: Sink, E: Sink, G: Gate>(
     ensures silent { result ≢ Status.Done → result ≢ Status.WriteFault
         → O.written out.new ≡ O.written out.old }
     ensures error_line { (text : List ℕ) × IsLineOf result text
-        × Tells (E.written err.old) (E.written err.new) (Rose (E.faults err.old) (E.faults err.new)) text }
+        × Tells (E.written err.old) (E.written err.new)
+        (Rose (E.faults err.old) (E.faults err.new)) text }
 
     // What was done to the input.
     ensures opened { OpenedFor (asked_by words.now) (I.tells_path input.old) (I.opened input.new) }
@@ -76,10 +101,30 @@ pub fn run<I: Input, O: Sink, E: Sink, G: Gate>(
     ensures within_limit { result ≢ Status.Malformed
         → TakesAtMost (I.rest input.old) FILE_LIMIT (I.rest input.new) }
 {
-    match request(alloc, words) {
-        Ok(request) => run_one(alloc, &request, input, out, err),
-        Err(e) => refuse(Refusal::from(e), err),
+    let request = match request(alloc, words) {
+        Ok(request) => request,
+        Err(e) => return refuse(Refusal::from(e), err),
+    };
+    let count = workers_of(&request);
+    if 2 <= count && count <= 64 {
+        let state = |code: &Code, seeds: &[u64]| -> Result<State, core_state::Memory>
+            requires { IsSync R.row × IsSync G.row × (2 ≤ count) × (count ≤ 64)
+                × AreSeeds (program_of code.now) seeds.now }
+            ensures { IfOk result (λ state. IsClosed (program_of code.now) seeds.now state.maps) }
+        { build(rt, alloc, code, seeds, count, gate) };
+        let functions = |code: &Code, seeds: &[u64], state: &State, outline: &Outline| -> Result<
+            Functions,
+            func_bodies::Memory,
+        >
+            requires { IsSync R.row × (1 ≤ count) × (count ≤ 64)
+                × IsClosed (program_of code.now) seeds.now state.now.maps
+                × IsOutlineOf (program_of code.now) state.now.maps outline.now }
+            ensures { AnswersFunctions (program_of code.now) seeds.now result }
+        { functions_by(rt, alloc, code, seeds, state, outline, count) };
+        let by = Workers { state, functions };
+        return run_by(alloc, &by, &request, input, out, err);
     }
+    run_one(alloc, &request, input, out, err)
 }
 
 /// Answers a request on the caller's thread: it starts none, waits for nobody and returns.
@@ -96,8 +141,10 @@ pub fn run_one<I: Input, O: Sink, E: Sink>(
     requires size { CanBeMade (asked request.now) }
 
     ensures answer { IfSome (I.rest input.old) (λ bytes. IsDecided result
-        → Gives bytes (Some (asked request.now)) result (Grows (O.written out.old) (O.written out.new))
-        (Tells (E.written err.old) (E.written err.new) (Rose (E.faults err.old) (E.faults err.new)))) }
+        → Gives bytes (Some (asked request.now)) result
+        (Grows (O.written out.old) (O.written out.new))
+        (Tells (E.written err.old) (E.written err.new)
+        (Rose (E.faults err.old) (E.faults err.new)))) }
     ensures complete { ¬ Rose (I.faults input.old) (I.faults input.new)
         → ¬ Rose (O.faults out.old) (O.faults out.new)
         → IsDecided result ⊎ (result ≡ Status.Memory) }
@@ -113,9 +160,11 @@ pub fn run_one<I: Input, O: Sink, E: Sink>(
     ensures silent { result ≢ Status.Done → result ≢ Status.WriteFault
         → O.written out.new ≡ O.written out.old }
     ensures error_line { (text : List ℕ) × IsLineOf result text
-        × Tells (E.written err.old) (E.written err.new) (Rose (E.faults err.old) (E.faults err.new)) text }
+        × Tells (E.written err.old) (E.written err.new)
+        (Rose (E.faults err.old) (E.faults err.new)) text }
 
-    ensures opened { OpenedFor (Some (asked request.now)) (I.tells_path input.old) (I.opened input.new) }
+    ensures opened { OpenedFor (Some (asked request.now)) (I.tells_path input.old)
+        (I.opened input.new) }
     ensures untouched { ¬ IsForFile (Some (asked request.now))
         → (I.rest input.new ≡ I.rest input.old) × (I.faults input.new ≡ I.faults input.old) }
     ensures read_to_end { IfSome (I.rest input.old) (λ bytes. length bytes ≤ FILE_LIMIT
@@ -126,34 +175,104 @@ pub fn run_one<I: Input, O: Sink, E: Sink>(
     ensures within_limit { result ≢ Status.Malformed
         → TakesAtMost (I.rest input.old) FILE_LIMIT (I.rest input.new) }
 {
-    let text = match text_for(alloc, request, input) {
+    run_by(alloc, &Alone { alloc }, request, input, out, err)
+}
+
+// Answers a request with the graph that `by` builds. Its clauses are those of `run_one`.
+fn run_by<B: Builder, I: Input, O: Sink, E: Sink>(
+    alloc: Global,
+    by: &B,
+    request: &Request,
+    input: &mut I,
+    out: &mut O,
+    err: &mut E,
+) -> Status
+    requires build { B.ready by.now }
+    requires closed { I.opened input.old ≡ Nothing }
+    requires size { CanBeMade (asked request.now) }
+
+    ensures answer { IfSome (I.rest input.old) (λ bytes. IsDecided result
+        → Gives bytes (Some (asked request.now)) result
+        (Grows (O.written out.old) (O.written out.new))
+        (Tells (E.written err.old) (E.written err.new)
+        (Rose (E.faults err.old) (E.faults err.new)))) }
+    ensures complete { ¬ Rose (I.faults input.old) (I.faults input.new)
+        → ¬ Rose (O.faults out.old) (O.faults out.new)
+        → IsDecided result ⊎ (result ≡ Status.Memory) }
+
+    ensures no_usage { result ≢ Status.Usage }
+    ensures malformed { result ≡ Status.Malformed → IsForFile (Some (asked request.now)) }
+    ensures read_fault { result ≡ Status.ReadFault → IsForFile (Some (asked request.now))
+        × Rose (I.faults input.old) (I.faults input.new) }
+    ensures write_fault { result ≡ Status.WriteFault → Rose (O.faults out.old) (O.faults out.new) }
+
+    ensures cut_off { IfSome (I.rest input.old) (λ bytes. result ≡ Status.WriteFault
+        → GivesPart bytes (Some (asked request.now)) (O.written out.old) (O.written out.new)) }
+    ensures silent { result ≢ Status.Done → result ≢ Status.WriteFault
+        → O.written out.new ≡ O.written out.old }
+    ensures error_line { (text : List ℕ) × IsLineOf result text
+        × Tells (E.written err.old) (E.written err.new)
+        (Rose (E.faults err.old) (E.faults err.new)) text }
+
+    ensures opened { OpenedFor (Some (asked request.now)) (I.tells_path input.old)
+        (I.opened input.new) }
+    ensures untouched { ¬ IsForFile (Some (asked request.now))
+        → (I.rest input.new ≡ I.rest input.old) × (I.faults input.new ≡ I.faults input.old) }
+    ensures read_to_end { IfSome (I.rest input.old) (λ bytes. length bytes ≤ FILE_LIMIT
+        → HasRead (Some (asked request.now)) result → I.rest input.new ≡ Some []) }
+    ensures too_large { IfSome (I.rest input.old) (λ bytes. FILE_LIMIT < length bytes
+        → HasRead (Some (asked request.now)) result
+        → TakesCount (I.rest input.old) (FILE_LIMIT + 1) (I.rest input.new)) }
+    ensures within_limit { result ≢ Status.Malformed
+        → TakesAtMost (I.rest input.old) FILE_LIMIT (I.rest input.new) }
+{
+    let text = match text_for(alloc, by, request, input) {
         Ok(text) => text,
         Err(refusal) => return refuse(refusal, err),
     };
-    match write_whole(out, &text) {
+    match text.write(alloc, out) {
         Ok(()) => Status::Done,
-        Err(Failed) => refuse(Refusal::WriteFault, err),
+        Err(Unwritten::Failed) => refuse(Refusal::WriteFault, err),
+        Err(Unwritten::Memory) => refuse(Refusal::Memory, err),
+    }
+}
+
+// How many workers are asked for.
+fn workers_of(request: &Request) -> u32 {
+    match request {
+        Request::File { workers, .. } => *workers,
+        Request::Make { workers, .. } => *workers,
     }
 }
 
 // Ends a run that writes no whole text.
 fn refuse<E: Sink>(refusal: Refusal, err: &mut E) -> Status
     ensures status { result ≡ status_of refusal }
-    ensures line { Tells (E.written err.old) (E.written err.new) (Rose (E.faults err.old) (E.faults err.new)) (refusal_line refusal) }
+    ensures line { Tells (E.written err.old) (E.written err.new)
+        (Rose (E.faults err.old) (E.faults err.new)) (refusal_line refusal) }
 {
     refusal.tell(err);
     refusal.status()
 }
 
 // The text that is asked for: a report, or a summary.
-fn text_for<I: Input>(alloc: Global, request: &Request, input: &mut I) -> Result<Vec<u8>, Refusal>
+fn text_for<B: Builder, I: Input>(
+    alloc: Global,
+    by: &B,
+    request: &Request,
+    input: &mut I,
+) -> Result<Text, Refusal>
+    requires build { B.ready by.now }
     requires closed { I.opened input.old ≡ Nothing }
     requires size { CanBeMade (asked request.now) }
 
-    ensures done { IfOk result (λ text. IfSome (I.rest input.old) (λ bytes. IsAnswer bytes (Some (asked request.now)) (text_answer text.items))) }
-    ensures refused { IfErr result (IsTrueOf (Some (asked request.now)) (I.rest input.old) (Rose (I.faults input.old) (I.faults input.new))) }
+    ensures done { IfOk result (λ text. IfSome (I.rest input.old)
+        (λ bytes. IsAnswer bytes (Some (asked request.now)) (text_answer (bytes_of text)))) }
+    ensures refused { IfErr result (IsTrueOf (Some (asked request.now)) (I.rest input.old)
+        (Rose (I.faults input.old) (I.faults input.new))) }
 
-    ensures opened { OpenedFor (Some (asked request.now)) (I.tells_path input.old) (I.opened input.new) }
+    ensures opened { OpenedFor (Some (asked request.now)) (I.tells_path input.old)
+        (I.opened input.new) }
     ensures untouched { ¬ IsForFile (Some (asked request.now))
         → (I.rest input.new ≡ I.rest input.old) × (I.faults input.new ≡ I.faults input.old) }
     ensures read_to_end { IfSome (I.rest input.old) (λ bytes. length bytes ≤ FILE_LIMIT
@@ -169,27 +288,31 @@ fn text_for<I: Input>(alloc: Global, request: &Request, input: &mut I) -> Result
             path,
             workers: _,
             kind,
-        } => file_report(alloc, path.as_str(), *kind, input),
-        Request::Make { n, workers: _ } => summary_of(alloc, *n),
+        } => file_report(alloc, by, path.as_str(), *kind, input),
+        Request::Make { n, workers: _ } => summary_of(alloc, by, *n),
     }
 }
 
 // The report of the file at a path.
-fn file_report<I: Input>(
+fn file_report<B: Builder, I: Input>(
     alloc: Global,
+    by: &B,
     path: &str,
     kind: ReportKind,
     input: &mut I,
-) -> Result<Vec<u8>, Refusal>
-    requires { I.opened input.old ≡ Nothing }
+) -> Result<Text, Refusal>
+    requires build { B.ready by.now }
+    requires closed { I.opened input.old ≡ Nothing }
 
     ensures done { IfOk result (λ text. IfSome (I.rest input.old) (λ bytes. (workers : ℕ)
-        → IsAnswer bytes (Some (of_file path.now workers kind)) (text_answer text.items))) }
+        → IsAnswer bytes (Some (of_file path.now workers kind)) (text_answer (bytes_of text)))) }
     ensures refused { IfErr result (λ refusal. (workers : ℕ)
-        → IsTrueOf (Some (of_file path.now workers kind)) (I.rest input.old) (Rose (I.faults input.old) (I.faults input.new)) refusal) }
+        → IsTrueOf (Some (of_file path.now workers kind)) (I.rest input.old)
+        (Rose (I.faults input.old) (I.faults input.new)) refusal) }
 
     ensures opened { (workers : ℕ)
-        → OpenedFor (Some (of_file path.now workers kind)) (I.tells_path input.old) (I.opened input.new) }
+        → OpenedFor (Some (of_file path.now workers kind)) (I.tells_path input.old)
+        (I.opened input.new) }
     ensures read_to_end { IfSome (I.rest input.old) (λ bytes. length bytes ≤ FILE_LIMIT
         → IsOfFile result → I.rest input.new ≡ Some []) }
     ensures too_large { IfSome (I.rest input.old) (λ bytes. FILE_LIMIT < length bytes
@@ -198,5 +321,5 @@ fn file_report<I: Input>(
         → TakesAtMost (I.rest input.old) FILE_LIMIT (I.rest input.new) }
 {
     let bytes = read_file(alloc, path, input)?;
-    report_of(alloc, bytes, kind)
+    report_of(alloc, by, bytes, kind)
 }

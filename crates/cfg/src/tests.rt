@@ -4,17 +4,23 @@ ghost use Rattle.std.specs.Prelude.{◌≡◌, false, IfOk};
 
 mod float;
 mod linked;
+mod open_tables;
+mod refused;
+mod streams;
+mod workers;
 mod yardstick;
 
-use crate::gate::{Gate, OpenGate};
 use crate::run::run;
 use crate::status::Status;
 use cfg_io::{MemInput, MemSink};
 use cfg_vectors::row_file;
-use core_state::WorkKind;
+use crew::OpenGate;
 use std::alloc::{AllocError, Global};
+use std::marker::Sync;
 use std::process::Abort;
+use std::sync::Wait;
 use std::test::Fail;
+use std::thread::Threads;
 
 // A function of a row: `entry status name` and the starts of its blocks.
 type FunctionLines<'a> = (u64, &'a str, &'a str, &'a [u64]);
@@ -31,7 +37,7 @@ struct Expected<'a> {
 
 // The report, line by line as the format's document says.
 fn report_text(alloc: Global, row: &Expected) -> Result<String, AllocError> {
-    let mut text = String::from_str(alloc, "cfg-report 1\nentry 0000000000010000\n")?;
+    let mut text = String::from_str(alloc, "cfg-report 2\nentry 0000000000010000\n")?;
     push_functions(&mut text, row.functions)?;
     writeln!(text, "blocks {}", row.blocks.len())?;
     for (start, end, kind) in row.blocks {
@@ -65,16 +71,21 @@ struct Left {
 }
 
 // Runs the program on words behind its name, with ample memory and sinks that do not fail.
-fn run_on(alloc: Global, words: &[&str], mut input: MemInput) -> Result<Left, Fail>
+fn run_on<R: Threads + Wait + AllocGlobal + Sync>(
+    rt: &R,
+    words: &[&str],
+    mut input: MemInput,
+) -> Result<Left, Fail>
     requires { input.is_open ≡ false }
 {
+    let alloc = rt.alloc();
     let mut all = vec![in alloc; "cfg".to_string(alloc)?]?;
     for word in words {
         all.push(word.to_string(alloc)?)?;
     }
     let mut out = MemSink::new(alloc, 1_048_576, 1_048_576, Vec::new(alloc))?;
     let mut err = MemSink::new(alloc, 1_048_576, 1_048_576, Vec::new(alloc))?;
-    let status = run(alloc, &all, &mut input, &mut out, &mut err, &OpenGate);
+    let status = run(rt, alloc, &all, &mut input, &mut out, &mut err, &OpenGate);
     Ok(Left { status, out, err })
 }
 
@@ -85,28 +96,43 @@ fn file(alloc: Global, bytes: Vec<u8>) -> Result<MemInput, AllocError>
 }
 
 // The words and the file give this text, and nothing on standard error.
-fn prints(
-    rt: &(impl Abort + AllocGlobal),
+fn prints<R: Threads + Wait + Abort + AllocGlobal + Sync>(
+    rt: &R,
     words: &[&str],
     bytes: Vec<u8>,
     text: &str,
 ) -> Result<(), Fail> {
-    let left = run_on(rt.alloc(), words, file(rt.alloc(), bytes)?)?;
+    let left = run_on(rt, words, file(rt.alloc(), bytes)?)?;
     assert_eq!(rt; left.status, Status::Done);
     assert_eq!(rt; left.out.bytes(), text.as_bytes());
     assert_eq!(rt; left.err.bytes(), b"".as_slice());
     Ok(())
 }
 
-// The file gives the report of a row.
-fn reports(rt: &(impl Abort + AllocGlobal), bytes: Vec<u8>, row: &Expected) -> Result<(), Fail> {
+// The numbers of workers with which each row is run.
+const CREWS: [&str; 6] = ["1", "2", "3", "4", "8", "64"];
+
+// The file gives the report of a row, whatever number of workers builds it.
+fn reports<R: Threads + Wait + Abort + AllocGlobal + Sync>(
+    rt: &R,
+    bytes: Vec<u8>,
+    row: &Expected,
+) -> Result<(), Fail> {
     let text = report_text(rt.alloc(), row)?;
-    prints(rt, &["F"], bytes, text.as_str())
+    for workers in CREWS {
+        prints(
+            rt,
+            &["--workers", workers, "F"],
+            bytes.clone()?,
+            text.as_str(),
+        )?;
+    }
+    Ok(())
 }
 
 // The file gives this status and this line, and nothing on standard output.
-fn refuses(
-    rt: &(impl Abort + AllocGlobal),
+fn refuses<R: Threads + Wait + Abort + AllocGlobal + Sync>(
+    rt: &R,
     words: &[&str],
     input: MemInput,
     status: Status,
@@ -114,7 +140,7 @@ fn refuses(
 ) -> Result<(), Fail>
     requires { input.is_open ≡ false }
 {
-    let left = run_on(rt.alloc(), words, input)?;
+    let left = run_on(rt, words, input)?;
     assert_eq!(rt; left.status, status);
     assert_eq!(rt; left.out.bytes(), b"".as_slice());
     assert_eq!(rt; left.err.bytes(), line.as_bytes());
@@ -455,7 +481,7 @@ fn stop_and_tail_rows(rt: HostRuntime) -> Result<(), Fail> {
 #[test]
 fn report_kinds(rt: HostRuntime) -> Result<(), Fail> {
     let alloc = rt.alloc();
-    let head = "cfg-report 1\nentry 0000000000010000\n";
+    let head = "cfg-report 2\nentry 0000000000010000\n";
     let functions = "functions 1\nfunction 0000000000010000 may-return 1 -\nin 0000000000010000\n";
     let blocks = "blocks 1\nblock 0000000000010000 0000000000010004 return\n";
     let one = |kind: &str, sections: &str| -> Result<(), Fail> {
@@ -598,19 +624,14 @@ fn failing_reads_and_writes(rt: HostRuntime) -> Result<(), Fail> {
     let mut input = file(alloc, row_file(alloc, 1, 0)?)?;
     let mut out = MemSink::new(alloc, 1_048_576, 16, vec![in alloc; 3u64]?)?;
     let mut err = MemSink::new(alloc, 1_048_576, 1_048_576, vec![in alloc; 1u64]?)?;
-    let status = run(alloc, &words, &mut input, &mut out, &mut err, &OpenGate);
+    let status = run(
+        &rt, alloc, &words, &mut input, &mut out, &mut err, &OpenGate,
+    );
     assert_eq!(rt; status, Status::WriteFault);
     assert_eq!(rt;
         out.bytes(),
-        b"cfg-report 1\nentry 0000000000010".as_slice()
+        b"cfg-report 2\nentry 0000000000010".as_slice()
     );
     assert_eq!(rt; err.bytes(), b"".as_slice());
-    Ok(())
-}
-
-#[test]
-fn open_gate(rt: HostRuntime) -> Result<(), Fail> {
-    OpenGate.before(1, WorkKind::Parse, 0x10000);
-    assert_eq!(rt; OpenGate, OpenGate);
     Ok(())
 }

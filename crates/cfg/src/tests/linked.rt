@@ -1,4 +1,5 @@
-//! Row 18: a file that binutils linked, and in which one symbol was then made an undefined function.
+//! Row 18: a file that binutils linked, and in which one symbol was then made an undefined
+//! function.
 
 use super::{Expected, reports};
 use std::alloc::{AllocError, Global};

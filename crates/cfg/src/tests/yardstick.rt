@@ -5,10 +5,12 @@ ghost use Rattle.std.specs.List.Sorted.{IsStrictlyIncreasing};
 ghost use Rattle.elf_image.specs.Code.{is_code};
 ghost use Rattle.elf_image.specs.Header as header;
 
+use crate::builder::Alone;
 use crate::graph::graph_of;
 use alone::build_alone;
 use cfg_model::Graph;
 use cfg_vectors::row_file;
+use chain_index::ChainIndex;
 use code_view::{Code, Cuts};
 use elf_image::Image;
 use elf_symbols::seeds;
@@ -27,8 +29,8 @@ const CODE_AT: usize = 64;
 
 const WORDS: usize = 22;
 
-// What made programs consist of: straight instructions of two and four bytes, branches, jumps, calls,
-// calls and jumps through registers, returns and stops, with targets in and out of the code.
+// What made programs consist of: straight instructions of two and four bytes, branches, jumps,
+// calls, calls and jumps through registers, returns and stops, with targets in and out of the code.
 const PIECES: [u32; 31] = [
     0x0000_0013,
     0x0001_0001,
@@ -70,11 +72,12 @@ fn plain_graph_of(alloc: Global, image: &Image, seeds: &[u64]) -> Result<Graph, 
     requires code { All (λ a. IsTrue (is_code image.now a)) seeds.now }
     requires entry { Contains seeds.now (header.entry image.now) }
 {
+    let index = ChainIndex::new(alloc, image)?;
     let none = Cuts::none(alloc);
-    let uncut = Code::new(image, &none);
+    let uncut = Code::new(image, &index, &none);
     let state = build_alone(alloc, &uncut, seeds)?;
     let cuts = cuts(alloc, &uncut, &state)?;
-    let code = Code::new(image, &cuts);
+    let code = Code::new(image, &index, &cuts);
     let graph = plain_graph(alloc, &code, seeds, image.entry())?;
     Ok(graph)
 }
@@ -84,7 +87,7 @@ fn agrees(rt: &(impl Abort + AllocGlobal), file: Vec<u8>) -> Result<(), Fail> {
     let alloc = rt.alloc();
     let image = Image::parse(alloc, file)?;
     let seeds = seeds(alloc, &image)?;
-    let graph = graph_of(alloc, &image, seeds.addresses())?;
+    let graph = graph_of(alloc, &Alone { alloc }, &image, seeds.addresses())?;
     let plain = plain_graph_of(alloc, &image, seeds.addresses())?;
     let text = report(alloc, &image, &seeds, &graph, ReportKind::Graph)?;
     let other = report(alloc, &image, &seeds, &plain, ReportKind::Graph)?;
@@ -106,8 +109,8 @@ pub(super) fn put_word(file: &mut [u8], at: usize, word: u32) {
     }
 }
 
-// The file of row 15, which has two tables and two seeds, with some words of its code replaced and the
-// program's start moved, as a number says.
+// The file of row 15, which has two tables and two seeds, with some words of its code replaced and
+// the program's start moved, as a number says.
 fn made_file(alloc: Global, number: u64) -> Result<Vec<u8>, Fail> {
     let mut file = row_file(alloc, 15, 0)?;
     let mut random = next(number);
@@ -146,7 +149,14 @@ fn rows_agree(rt: HostRuntime) -> Result<(), Fail> {
     agrees(&rt, row_file(alloc, 16, 1)?)?;
     agrees(&rt, row_file(alloc, 16, 2)?)?;
     agrees(&rt, row_file(alloc, 16, 3)?)?;
-    agrees(&rt, row_file(alloc, 17, 0)?)
+    agrees(&rt, row_file(alloc, 17, 0)?)?;
+    agrees(&rt, row_file(alloc, 28, 0)?)?;
+    agrees(&rt, row_file(alloc, 29, 0)?)?;
+    agrees(&rt, row_file(alloc, 30, 0)?)?;
+    agrees(&rt, row_file(alloc, 31, 0)?)?;
+    agrees(&rt, row_file(alloc, 32, 0)?)?;
+    agrees(&rt, row_file(alloc, 33, 0)?)?;
+    agrees(&rt, row_file(alloc, 34, 0)?)
 }
 
 #[test]

@@ -8,13 +8,13 @@ use Rattle.cfg.specs.FileGraph.{IsGraphOf}
 use Rattle.cfg.proofs.answer.report_of.Goals as goal
 
 pub returns-clause-done : goal.returns-clause-done
-returns-clause-done c = λ path workers.
+returns-clause-done g c = λ path workers.
     let bytes = c.args.bytes.items in
     let kind = c.args.kind in
     let graph = c.in_ok-graph.graph in
     let asked = Some (of_file path workers kind) in
     let same : c.in_ok-image.image ≡ bytes = c.in_ok-image.ensures.ok in
-    subst (λ (text : List ℕ). IsAnswer bytes asked (text_answer text)) (sym c.in_ok-report.ensures.text)
+    subst (λ (text : List ℕ). IsAnswer bytes asked (text_answer text)) (sym c.new.ensures)
     (subst (λ (b : List ℕ). IsAnswer bytes asked (text_answer (report_text kind (seed_name b) graph))) (sym same)
     (IsAnswer.done {graph = graph}
     (subst (λ (b : List ℕ). first_fault b ≡ None) same c.in_ok-seeds.ensures.accepted)

@@ -5,7 +5,7 @@ use Rattle.cfg.specs.FileGraph.{IsGraphOf}
 use Rattle.cfg.proofs.answer.summary_of.Goals as goal
 
 pub returns-clause-done : goal.returns-clause-done
-returns-clause-done c = λ bytes workers.
+returns-clause-done g c = λ bytes workers.
     let graph = c.in_ok-graph.graph in
     subst (λ (text : List ℕ). IsAnswer bytes (Some (of_made c.args.n workers)) (text_answer text)) (sym c.in_ok-summary.ensures.text)
     (IsAnswer.made {graph = graph}

@@ -6,11 +6,11 @@ use Rattle.cfg.specs.FileGraph.{AreCutsOf, cut_program}
 use Rattle.cfg.proofs.UnderCuts.{cuts-of, graph-under, if_ok_map}
 use Rattle.cfg.proofs.graph.graph_of.Goals as goal
 
-pub new-uncut-requires : goal.new-uncut-requires
-new-uncut-requires c = none-fits c.args.image.now _ c.none-none.ensures
+pub new-uncut-requires-clause-cuts : goal.new-uncut-requires-clause-cuts
+new-uncut-requires-clause-cuts g c = none-fits c.args.image.now _ c.none-none.ensures
 
 pub returns-then-is_empty-clause-graph : goal.returns-then-is_empty-clause-graph
-returns-then-is_empty-clause-graph c =
+returns-then-is_empty-clause-graph g c =
     let bytes = c.args.image.now in
     let are = cuts-of bytes c.new-uncut.result.bytes c.args.seeds.now c.new-uncut.result.cuts c.in_ok-cuts.cuts
     c.new-uncut.ensures.bytes (c.new-uncut.ensures.cuts ∙ c.none-none.ensures) c.requires.all
@@ -25,7 +25,7 @@ returns-then-is_empty-clause-graph c =
     c.graph_from.ensures.graph
 
 pub returns-clause-graph : goal.returns-clause-graph
-returns-clause-graph c =
+returns-clause-graph g c =
     let bytes = c.args.image.now in
     let are = cuts-of bytes c.new-uncut.result.bytes c.args.seeds.now c.new-uncut.result.cuts c.in_ok-cuts.cuts
     c.new-uncut.ensures.bytes (c.new-uncut.ensures.cuts ∙ c.none-none.ensures) c.requires.all

@@ -21,11 +21,20 @@ returns-in-Err-clause-answer g c =
     subst (λ (s : Status). IfSome told (λ bytes. IsDecided s → Gives bytes (asked_by words) s (Grows out out) Error)) (sym c.refuse.ensures.status)
     (decided-true (asked_by words) told ⊥ c.from.result out Error true_of c.refuse.ensures.line)
 
+pub run_by-requires-clause-size : goal.run_by-requires-clause-size
+run_by-requires-clause-size g c = can-be-made (map (λ w. string_bytes w) c.args.words.now) (asked c.in-Ok.request) c.in-Ok.ensures.request
+
 pub run_one-requires-clause-size : goal.run_one-requires-clause-size
 run_one-requires-clause-size g c = can-be-made (map (λ w. string_bytes w) c.args.words.now) (asked c.in-Ok.request) c.in-Ok.ensures.request
 
-pub returns-in-Ok-clause-too_large : goal.returns-in-Ok-clause-too_large
-returns-in-Ok-clause-too_large g c =
+pub returns-then-count-le64-clause-too_large : goal.returns-then-count-le64-clause-too_large
+returns-then-count-le64-clause-too_large g c =
+    if_some_map (g.I.Input.rest c.args.input.now)
+    (λ bytes (taken : _) more read. taken more (subst (λ (o : Option Asked). HasRead o c.run_by.result) c.in-Ok.ensures.request read))
+    c.run_by.ensures.too_large
+
+pub returns-clause-too_large : goal.returns-clause-too_large
+returns-clause-too_large g c =
     if_some_map (g.I.Input.rest c.args.input.now)
     (λ bytes (taken : _) more read. taken more (subst (λ (o : Option Asked). HasRead o c.run_one.result) c.in-Ok.ensures.request read))
     c.run_one.ensures.too_large

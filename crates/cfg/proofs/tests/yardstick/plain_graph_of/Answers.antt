@@ -1,5 +1,5 @@
 use Rattle.code_view.proofs.Views.{none-fits}
 use Rattle.cfg.proofs.tests.yardstick.plain_graph_of.Goals as goal
 
-pub new-uncut-requires : goal.new-uncut-requires
-new-uncut-requires c = none-fits c.args.image.now _ c.none-none.ensures
+pub new-uncut-requires-clause-cuts : goal.new-uncut-requires-clause-cuts
+new-uncut-requires-clause-cuts c = none-fits c.args.image.now _ c.none-none.ensures

@@ -6,7 +6,7 @@ use Rattle.cfg.specs.declared.status.Status.{Status}
 use Rattle.cfg.specs.Lines.{refusal_line}
 use Rattle.cfg.specs.Run.{Grows, Tells, IsDecided, HasRead, Gives, IsLineOf}
 use Rattle.cfg.proofs.Endings.{decided-true, read-refused, line-of, if_some_map}
-use Rattle.cfg.proofs.run.run_one.Goals as goal
+use Rattle.cfg.proofs.run.run_by.Goals as goal
 
 pub returns-in-Err-clause-answer : goal.returns-in-Err-clause-answer
 returns-in-Err-clause-answer g c =

@@ -1,0 +1,119 @@
+//! Workers on files: what they leave to be finished, and gates that slow them down.
+
+ghost use Rattle.std.specs.Prelude.{◌≤◌};
+
+use crate::run::run;
+use crate::status::Status;
+use crate::tests::file;
+use big_case::big_file;
+use cfg_io::MemSink;
+use cfg_vectors::row_file;
+use chain_index::ChainIndex;
+use code_view::{Code, Cuts};
+use core_state::WorkKind;
+use crew::{Gate, OpenGate, work};
+use elf_image::Image;
+use elf_symbols::seeds;
+use std::alloc::Global;
+use std::hint;
+use std::marker::Sync;
+use std::process::Abort;
+use std::sync::Wait;
+use std::test::Fail;
+use std::thread::Threads;
+
+// Workers leave nothing to do in the state of the program of a file without cuts.
+fn leave_nothing<R: Threads + Wait + Abort + Sync>(
+    rt: &R,
+    alloc: Global,
+    file: Vec<u8>,
+    workers: u32,
+) -> Result<(), Fail>
+    requires { (2 ≤ workers) × (workers ≤ 64) }
+{
+    let image = Image::parse(alloc, file)?;
+    let seeds = seeds(alloc, &image)?;
+    let index = ChainIndex::new(alloc, &image)?;
+    let none = Cuts::none(alloc);
+    let code = Code::new(&image, &index, &none);
+    let state = work(rt, alloc, &code, seeds.addresses(), workers, &OpenGate)?;
+    assert!(rt;
+        state.left(&code, seeds.addresses()).is_none(),
+        "work is left"
+    );
+    Ok(())
+}
+
+// Row 26, its last part: a crew that leaves its work to be finished fails it.
+#[test]
+fn workers_leave_nothing(rt: HostRuntime) -> Result<(), Fail> {
+    let alloc = rt.alloc();
+    leave_nothing(&rt, alloc, row_file(alloc, 5, 0)?, 2)?;
+    leave_nothing(&rt, alloc, big_file(alloc, 5000)?, 4)
+}
+
+// Lets each worker go slower than the one before it.
+struct Slope;
+
+impl Gate for Slope {
+    fn before(&self, worker: u32, _kind: WorkKind, _key: u64) {
+        for _ in 0..1000 * (worker as u64 % 64) {
+            hint::spin_loop();
+        }
+    }
+}
+
+// Rows in which starts are displaced, tables are cut or lead into their own pattern, calls go round
+// in a ring, and streams overlap.
+const ROWS: [u32; 9] = [7, 8, 13, 15, 17, 28, 29, 30, 31];
+
+// Workers give the report of a row that one worker gives, whether a gate holds them up or not.
+#[test]
+fn workers_agree(rt: HostRuntime) -> Result<(), Fail> {
+    for row in ROWS {
+        let bytes = row_file(rt.alloc(), row, 0)?;
+        agree(&rt, row, &bytes)?;
+    }
+    Ok(())
+}
+
+// The same for the file of this row.
+fn agree<R: Threads + Wait + Abort + AllocGlobal + Sync>(
+    rt: &R,
+    row: u32,
+    bytes: &[u8],
+) -> Result<(), Fail> {
+    let alloc = rt.alloc();
+    let alone = run_with(rt, "1", Vec::from_slice(alloc, bytes)?, &OpenGate)?;
+    for workers in ["2", "3", "4", "64"] {
+        let fast = run_with(rt, workers, Vec::from_slice(alloc, bytes)?, &OpenGate)?;
+        assert_eq!(rt; fast.bytes(), alone.bytes(), "row {row}, {workers} workers");
+        let slow = run_with(rt, workers, Vec::from_slice(alloc, bytes)?, &Slope)?;
+        assert_eq!(rt;
+            slow.bytes(),
+            alone.bytes(),
+            "row {row}, {workers} slow workers"
+        );
+    }
+    Ok(())
+}
+
+// What a run with so many workers, who pass this gate, writes.
+fn run_with<R: Threads + Wait + Abort + AllocGlobal + Sync, G: Gate>(
+    rt: &R,
+    workers: &str,
+    bytes: Vec<u8>,
+    gate: &G,
+) -> Result<MemSink, Fail> {
+    let alloc = rt.alloc();
+    let mut words = Vec::new(alloc);
+    for word in ["cfg", "--workers", workers, "F"] {
+        words.push(word.to_string(alloc)?)?;
+    }
+    let mut input = file(alloc, bytes)?;
+    let mut out = MemSink::new(alloc, 1_048_576, 1_048_576, Vec::new(alloc))?;
+    let mut err = MemSink::new(alloc, 1_048_576, 1_048_576, Vec::new(alloc))?;
+    let status = run(rt, alloc, &words, &mut input, &mut out, &mut err, gate);
+    assert_eq!(rt; status, Status::Done);
+    Ok(out)
+}
