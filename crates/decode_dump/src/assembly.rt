@@ -1,6 +1,6 @@
 //! Instructions as an assembler writes them: base mnemonics, registers by number, offsets of jumps
-//! and branches relative to the instruction. Of a float instruction it is the integer registers that it
-//! writes and reads, x0 for none.
+//! and branches relative to the instruction. Of a float instruction it is the integer registers
+//! that it writes and reads, x0 for none.
 
 use rv_decode::{
     AtomicKind, BranchKind, CsrKind, ImmKind, ImmWKind, Insn, LoadKind, RegKind, RegWKind,

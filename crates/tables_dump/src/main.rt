@@ -1,0 +1,70 @@
+//! Prints the jump tables of a file, for a comparison with those that a compiler wrote.
+//!
+//! The one argument names the file. Each even address of code at which a jump with a table stands
+//! gets a line, in the order of the sections: the address of the jump as sixteen hexadecimal
+//! digits, the same of the table, the size of an entry, how many entries count, how many may count,
+//! `bounded` or
+//! `open`, and the target of each entry. A file that is not read here gets the single line
+//! `fault NAME`.
+#![tactic(auto)]
+
+ghost use Rattle.jump_table.specs.Table.{IsTableOf};
+
+use anyhow::{Context, Result, bail};
+use elf_image::{ElfError, Image};
+use jump_table::{Table, entry_target, find_table};
+use std::io::{self, BufWriter, Write};
+use std::{env, fs};
+
+fn main(rt: HostRuntime) -> Result<()> {
+    let alloc = rt.alloc();
+    let mut words = env::args(&rt)?.skip(1);
+    let (Some(path), None) = (words.next(), words.next()) else {
+        bail!("usage: tables_dump FILE");
+    };
+    let bytes = fs::read(&rt, path.as_str()).context("the file could not be read")?;
+    let mut out = BufWriter::new(alloc, io::writer(&rt))?;
+    match Image::parse(alloc, bytes) {
+        Ok(image) => write_tables(&mut out, &image)?,
+        Err(ElfError::Malformed(fault)) => writeln!(out, "fault {}", fault.name())?,
+        Err(ElfError::Memory) => bail!("out of memory"),
+    }
+    out.flush()?;
+    Ok(())
+}
+
+fn write_tables<W: Write>(out: &mut W, image: &Image) -> Result<()> {
+    for i in 0..image.section_count() {
+        let section = image.section(i);
+        for parcel in 0..section.size / 2 {
+            let Some(jump) = section.address.checked_add(2 * parcel) else {
+                break;
+            };
+            if image.section_start(jump) != Some(section.address) {
+                continue;
+            }
+            if image.is_code(jump) {
+                if let Some(table) = find_table(image, jump) {
+                    write_table(out, image, jump, &table)?;
+                }
+            }
+        }
+    }
+    Ok(())
+}
+
+fn write_table<W: Write>(out: &mut W, image: &Image, jump: u64, table: &Table) -> Result<()>
+    requires { IsTableOf image.now table.now }
+{
+    let form = if table.is_open { "open" } else { "bounded" };
+    write!(
+        out,
+        "{jump:016x} {:016x} {} {} {} {form}",
+        table.base, table.width, table.count, table.bound
+    )?;
+    for i in 0..table.count {
+        write!(out, " {:016x}", entry_target(image, table, i))?;
+    }
+    writeln!(out)?;
+    Ok(())
+}
