@@ -23,11 +23,14 @@ import sys
 from typing import BinaryIO, Callable, Dict, Iterator, List, NamedTuple, NoReturn, Optional, Set, Tuple, Union
 
 TOP = os.path.dirname(os.path.dirname(os.path.abspath(__file__)))
-FIRST_LINE = b"cfg-report 1\n"
+FIRST_LINE = b"cfg-report 2\n"
 
 BLOCK_KINDS = (
-    "fall", "branch", "branch-out", "jump", "call", "icall", "return", "table", "table-cut", "unknown", "stop",
+    "fall", "branch", "branch-out", "jump", "call", "icall", "return", "table", "table-cut", "table-open", "unknown",
+    "stop",
 )
+# Those that end with a jump through a jump table.
+TABLE_KINDS = ("table", "table-cut", "table-open")
 # In the order in which a report has the edges of one block to one other.
 EDGE_KINDS = ("fall", "taken", "jump", "tail", "call", "after", "table")
 REPORT_KINDS = ("graph", "functions", "blocks", "edges")
@@ -41,8 +44,7 @@ EDGES_OF: Dict[str, Callable[[List[str]], bool]] = {
     "call": lambda kinds: sorted(kinds) in (["call"], ["after", "call"]),
     "icall": lambda kinds: kinds in ([], ["after"]),
     "return": lambda kinds: not kinds,
-    "table": lambda kinds: set(kinds) == {"table"},
-    "table-cut": lambda kinds: set(kinds) == {"table"},
+    **{kind: lambda kinds: set(kinds) == {"table"} for kind in TABLE_KINDS},
     "unknown": lambda kinds: not kinds,
     "stop": lambda kinds: not kinds,
 }
@@ -252,8 +254,8 @@ class Reader:
             if not first:
                 self.fail("the report is empty")
             if first.startswith(b"cfg-report "):
-                self.fail("a report of another version than 1")
-            self.fail("this is no report of cfg, which begins with a line `cfg-report 1`")
+                self.fail("a report of another version than 2")
+            self.fail("this is no report of cfg, which begins with a line `cfg-report 2`")
         line = self._next()
         found = _ENTRY(line)
         return Heading(int(found[1], 16)) if found else self.fail(_wrong_line("entry", line))

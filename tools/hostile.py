@@ -9,7 +9,7 @@ from __future__ import annotations
 import random
 import re
 import struct
-from typing import Callable, Dict, List, NamedTuple, Sequence
+from typing import Callable, Dict, List, NamedTuple, Optional, Sequence
 
 NULL, PROGBITS, SYMTAB, STRTAB, NOBITS = 0, 1, 2, 3, 8
 WRITE, ALLOC, EXECINSTR = 1, 2, 4
@@ -178,20 +178,25 @@ def busy_code(rng: random.Random, count: int, reach: int) -> Halves:
     return halves
 
 
-def table_jump(bound: int, base: int, away: int) -> Halves:
-    """A bound test, whose other way is `away`, and a jump through the table at `base`."""
-    halves = immediate(0x13, 0, 15, 0, bound) + branch(6, 15, 10, away) + upper(0x37, 14, (base + 0x800) >> 12)
-    halves += immediate(0x13, 0, 14, 14, base) + immediate(0x13, 1, 10, 10, 2) + add(10, 10, 14)
-    return halves + immediate(0x03, 2, 15, 10, 0) + add(15, 15, 14) + immediate(0x67, 0, 0, 15, 0)
+def table_jump(bound: Optional[int], base: int, away: int, wide: bool = False) -> Halves:
+    """A jump through the table at `base`, of entries of eight bytes where it is `wide`, behind a bound test, if there is a
+    bound, whose other way is `away`."""
+    halves = [] if bound is None else immediate(0x13, 0, 15, 0, bound) + branch(6, 15, 10, away)
+    halves += upper(0x37, 14, (base + 0x800) >> 12) + immediate(0x13, 0, 14, 14, base)
+    halves += immediate(0x13, 1, 10, 10, 3 if wide else 2) + add(10, 10, 14)
+    return halves + immediate(0x03, 3 if wide else 2, 15, 10, 0) + add(15, 15, 14) + immediate(0x67, 0, 0, 15, 0)
 
 
-# ADDI and BLTU as `table_jump` has them.
+# ADDI and BLTU, and the jump, as `table_jump` has them.
 _BOUND = re.compile(rb"(?=\x93\x07(..)\x63)", re.DOTALL)
+_JUMP = b"\x67\x80\x07\x00"
+_OPEN = 1024
 
 
 def table_entries(file: bytes) -> int:
     """How many entries the jump tables of a file may have together, at the most."""
-    return sum(1 + (int.from_bytes(found[1], "little") >> 4) % 2048 for found in _BOUND.finditer(file))
+    bounded = sum(1 + (int.from_bytes(found[1], "little") >> 4) % 2048 for found in _BOUND.finditer(file))
+    return bounded + _OPEN * file.count(_JUMP)
 
 
 # ---- shapes
@@ -239,7 +244,7 @@ def program_headers(rng: random.Random) -> bytes:
     headers = b"".join(struct.pack("<I52x", rng.choice((0, 1, 2, 3, 6))) for _ in range(4))
     file = bytearray(file_with(RETURN, data=headers))
     place = rng.choice((66, 66, 0, len(file) - 56, len(file), TOP_ADDRESS - rng.randrange(200), rng.randrange(1 << 64)))
-    struct.pack_into("<Q", file, 32, place)
+    struct.pack_into("<Q", file, 32, place % TOP_ADDRESS)
     struct.pack_into("<HH", file, 54, rng.choice((56, 56, 56, 0, 57)), rng.choice((0, 1, 2, 4, 5, 0xFFFF)))
     return bytes(file)
 
@@ -374,11 +379,16 @@ def jump_tables(rng: random.Random) -> bytes:
     if rng.random() < 0.2:
         bases[0] = rng.choice((CODE_AT, DATA_AT + 2, DATA_AT + 4 * size - 4, DATA_AT + 4 * size))
     halves: Halves = []
+    wide = rng.choice((0, 0, 0.5, 1))
     for base in bases:
         away = rng.choice((36, 40, 44, near(rng, 20)))
-        halves += table_jump(rng.choice((0, 1, 3, 7, 60, 2047)), base, away) + RETURN * rng.randrange(4)
+        bound = rng.choice((0, 1, 3, 7, 60, 2047, None, None))
+        halves += table_jump(bound, base, away, rng.random() < wide) + RETURN * rng.randrange(4)
     halves += rng.choice((RETURN * 8, busy_code(rng, 20, 30)))
-    data = struct.pack(f"<{size}I", *entries(rng, size, rng.choice(bases), 2 * len(halves)))
+    words = entries(rng, size, rng.choice(bases), 2 * len(halves))
+    if rng.random() < wide:
+        words[1::2] = [0xFFFFFFFF if word >> 31 else 0 for word in words[::2]]
+    data = struct.pack(f"<{size}I", *words)
     symbols = [Symbol(CODE_AT + 2 * place) for place in range(len(halves)) if rng.random() < 0.05]
     return file_with(halves, symbols, data=data)
 
@@ -389,7 +399,7 @@ def wide_tables(rng: random.Random) -> bytes:
     step = rng.choice((0, 0, 4, 4096))
     halves: Halves = []
     for place in range(count):
-        halves += table_jump(2047, DATA_AT + step * place, 40) + RETURN
+        halves += table_jump(rng.choice((2047, 2047, None)), DATA_AT + step * place, 40) + RETURN
     targets = rng.choice((entries(rng, 1, DATA_AT, 2 * len(halves)), entries(rng, 50, DATA_AT, 2 * len(halves))))
     data = struct.pack(f"<{size}I", *rng.choices(targets, k=size)) * max(1, step * count // (4 * size))
     return file_with(halves, some_symbols(rng, halves, rng.choice((0, 100))), data=data)

@@ -56,6 +56,15 @@ ROWS: Dict[int, Row] = {
     17: Row("10000 may-return -: 10000 10004 10008, 1000c may-return g: 1000c",
             "10000 10004 branch, 10004 10008 jump, 10008 1000c return, 1000c 10010 jump",
             "10000 10004 fall, 10000 10008 taken, 10004 10000 jump, 1000c 10000 tail", "00050463 FFDFF06F 00008067 FF5FF06F"),
+    32: Row("10000 may-return -: 10000 10018 1001c", "10000 10018 table-open, 10018 1001c return, 1001c 10020 return",
+            "10000 10018 table, 10000 1001c table",
+            "00020737 00251513 00E50533 00052783 00E787B3 00078067 00008067 00008067"),
+    33: Row("10000 may-return -: 10000 10008 1001c 10020 10024",
+            "10000 10008 branch, 10008 1001c table, 1001c 10020 return, 10020 10024 return, 10024 10028 return",
+            "10000 10008 fall, 10000 10024 taken, 10008 1001c table, 10008 10020 table"),
+    34: Row("10000 may-return -: 10000 10018, 10020 may-return b: 10020 1003c",
+            "10000 10018 table-open, 10018 1001c return, 10020 1003c table-open, 1003c 10040 return",
+            "10000 10018 table, 10020 1003c table"),
 }
 
 
@@ -88,7 +97,7 @@ def lines(number: int, kind: str = "graph") -> List[str]:
     row = ROWS[number]
     functions, blocks, edges = sections(row)
     parts = {"functions": [functions], "blocks": [blocks], "edges": [edges]}.get(kind, [functions, blocks, edges])
-    return ["cfg-report 1", f"entry {int(row.entry, 16):016x}", *(line for part in parts for line in part), "end"]
+    return ["cfg-report 2", f"entry {int(row.entry, 16):016x}", *(line for part in parts for line in part), "end"]
 
 
 def report(number: int, kind: str = "graph") -> bytes:

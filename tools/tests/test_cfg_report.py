@@ -58,7 +58,7 @@ class Whole(unittest.TestCase):
     def test_a_stream_is_not_kept(self) -> None:
         count = 20_000
         blocks = (b"block %016x %016x return\n" % (place, place + 2) for place in range(0, 2 * count, 2))
-        head = [b"cfg-report 1\n", b"entry %016x\n" % 0, b"blocks %d\n" % count]
+        head = [b"cfg-report 2\n", b"entry %016x\n" % 0, b"blocks %d\n" % count]
 
         class Lines(io.RawIOBase):
             def __init__(self) -> None:
@@ -85,10 +85,10 @@ class Page(unittest.TestCase):
     def test_examples_of_the_page(self) -> None:
         page = (rows.TOOLS.parent / "docs" / "REPORT.md").read_text(encoding="utf-8")
         shown = [part.encode() for part in re.findall(r"^```\n(.*?)^```$", page, re.DOTALL | re.MULTILINE)]
-        heading = b"cfg-report 1\nentry 0000000000010000\n"
+        heading = b"cfg-report 2\nentry 0000000000010000\n"
         reports = [part for part in shown if part.startswith(b"cfg-report")]
         reports += [heading + part + b"end\n" for part in shown if part.startswith(b"functions")]
-        self.assertEqual(reports, [rows.report(number) for number in (1, 6, 12, 15)])
+        self.assertEqual(reports, [rows.report(number) for number in (1, 6, 12, 33, 15, 34)])
 
 
 class Names(unittest.TestCase):
@@ -141,8 +141,8 @@ class Broken(unittest.TestCase):
 
     def test_what_is_said(self) -> None:
         for old, new, line, why in (
-            (b"cfg-report 1", b"cfg-report 2", 1, "another version"),
-            (b"cfg-report 1", b"\x7fELF", 1, "no report of cfg"),
+            (b"cfg-report 2", b"cfg-report 1", 1, "another version"),
+            (b"cfg-report 2", b"\x7fELF", 1, "no report of cfg"),
             (b"entry 0", b"entry ", 2, "no address of sixteen"),
             (b"entry 0000000000010000", b"entry 0000000000010004", 7, "no function starts at the program's entry, 10004"),
             (b"functions 1", b"functions 01", 3, "`01` is no count"),

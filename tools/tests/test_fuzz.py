@@ -47,7 +47,10 @@ class Maker(unittest.TestCase):
         jump = hostile.table_jump(7, 0x20000, 36)
         wanted = "00700793 02A7E263 00020737 00070713 00251513 00E50533 00052783 00E787B3 00078067"
         self.assertEqual(jump, [half for word in wanted.split() for half in hostile.word(int(word, 16))])
-        self.assertEqual(hostile.table_entries(hostile.file_with(jump * 3)), 3 * 8)
+        self.assertEqual(hostile.table_entries(hostile.file_with(jump * 3)), 3 * (8 + 1024))
+        jump = hostile.table_jump(None, 0x20000, 36, wide=True)
+        wanted = "00020737 00070713 00351513 00E50533 00053783 00E787B3 00078067"
+        self.assertEqual(jump, [half for word in wanted.split() for half in hostile.word(int(word, 16))])
 
     def test_a_file_without_a_fault(self) -> None:
         with tempfile.NamedTemporaryFile() as file:

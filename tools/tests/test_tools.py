@@ -134,7 +134,7 @@ class Summary(InFolder):
             said = self.said("summary", self.row(number))
             for word in ("function", "block", "edge"):
                 self.assertIn(f"{word}s {text.count(chr(10) + word + ' ')}", said)
-            for kind in ("unknown", "icall", "table-cut", "branch-out", "stop"):
+            for kind in ("unknown", "icall", "table-cut", "table-open", "branch-out", "stop"):
                 count = text.count(f" {kind}\n")
                 self.assertEqual(any(line == f"    {kind} {count}" for line in said), count > 0)
 
@@ -157,7 +157,7 @@ class Summary(InFolder):
 class Json(InFolder):
     def test_objects(self) -> None:
         found = [json.loads(line) for line in self.said("to_json", self.row(17))]
-        self.assertEqual(found[0], {"record": "report", "version": 1, "entry": "0000000000010000"})
+        self.assertEqual(found[0], {"record": "report", "version": 2, "entry": "0000000000010000"})
         self.assertEqual(found[2], {"record": "function", "entry": "000000000001000c", "may_return": True, "name": "g", "blocks": ["000000000001000c"]})
         self.assertEqual(found[3], {"record": "block", "start": "0000000000010000", "end": "0000000000010004", "kind": "branch"})
         self.assertEqual(found[-2], {"record": "edge", "from": "000000000001000c", "to": "0000000000010000", "kind": "tail"})
@@ -249,6 +249,8 @@ class Unresolved(InFolder):
                 self.assertEqual(self.said("unresolved", "--last", "0", self.elf(number), self.row(number))[:len(lines)], lines)
         said = self.said("unresolved", "--last", "1", self.elf(15), self.row(15))
         self.assertRegex(said[0], r"^1001c table-cut in behind start: fewer entries .* \| .*j(al)?r\s.*x15")
+        said = self.said("unresolved", "--last", "1", self.elf(32), self.row(32))
+        self.assertRegex(said[0], r"^10014 table-open in behind start: a table without a bound test: .* \| .*j(al)?r\s.*x15")
 
 
 class Elfs(InFolder):
@@ -278,12 +280,13 @@ class Elfs(InFolder):
         self.assertTrue(registers.is_fixed(run("lui x14,0x11", "addi x14,x14,568"), "x14"))
         self.assertFalse(registers.is_fixed(run("ld x14,0(x2)", "addi x14,x14,568"), "x14"))
         why = unresolved.Reasons.why_table
+        address = ("lui x14,0x11", "addi x14,x14,568")
         for texts, what in (
-            (switch, "without a bound test"),
-            (("addi x13,x0,6", "bltu x13,x10,100", *switch), "not calculated all between"),
-            (("addi x13,x0,6", "addi x9,x9,1", "bltu x13,x10,100", *switch), "bound is not set right before"),
+            (switch, "address is not set right before the jump (4-byte entries)"),
+            ((*address, "bltu x13,x10,100", *switch), "address is not set right before the jump"),
+            ((*address, *switch), "first entry does not lead to code"),
         ):
-            self.assertIn(what, str(why(None, run(*texts))))
+            self.assertIn(what, str(why(None, 4, run(*texts)[:-1])))
 
 
 if __name__ == "__main__":

@@ -1,0 +1,142 @@
+#!/usr/bin/env python3
+"""Makes bare ELF files that are legal and unpleasant to a builder of control-flow graphs, each for a size.
+
+    tools/contrived.py SHAPE N FILE
+
+Each shape is one function of this module, and what it costs to read grows as fast as N: a builder that takes time
+linear in its input takes four times as long where N is four times as great. The program is only read, never run.
+"""
+
+from __future__ import annotations
+
+import struct
+import sys
+from typing import Callable, Dict, List, Sequence
+
+sys.dont_write_bytecode = True
+
+from hostile import (
+    BREAK, CODE_AT, DATA_AT, NOP, RETURN, Halves, Symbol, branch, far, file_of, file_with, jump, sections_of,
+    short_jump, table_jump,
+)
+
+# A branch of four bytes over a jump of four: a way to the next such pair, and one to where the jump leads.
+STEP = 8
+
+
+def symbols_at(places: Sequence[int]) -> List[Symbol]:
+    """Function symbols at these places, each the number of a halfword."""
+    return [Symbol(CODE_AT + 2 * place) for place in places]
+
+
+def branches_to(targets: Sequence[int]) -> Halves:
+    """Code that branches to these places, by the number of a halfword from its own start, one behind the other.
+
+    Each target is found by a jump of its own, behind which the next one is found."""
+    halves: Halves = []
+    for number, target in enumerate(targets):
+        at = STEP * number
+        halves += branch(1, 10, 11, STEP) + jump(0, 2 * target - (at + 4))
+    return halves + RETURN
+
+
+def run_found_by(order: Callable[[Sequence[int]], Sequence[int]], n: int) -> bytes:
+    """A run of N instructions that go straight on, each the target of a branch, in this order."""
+    front = n * STEP // 2 + 1
+    return file_with(branches_to(order(range(front, front + n))) + NOP * n + RETURN)
+
+
+def symbols(n: int) -> bytes:
+    """A run with a symbol at each instruction."""
+    return file_with(NOP * n + RETURN, symbols_at(range(n)))
+
+
+def symbols_on_lines(n: int) -> bytes:
+    """A run of which every 32nd instruction has a symbol, at a multiple of 64 bytes."""
+    return file_with(NOP * n + RETURN, symbols_at(range(0, n, 32)))
+
+
+def rising(n: int) -> bytes:
+    """A run whose instructions are found one behind the other."""
+    return run_found_by(list, n)
+
+
+def falling(n: int) -> bytes:
+    """A run whose instructions are found one in front of the other."""
+    return run_found_by(lambda places: list(places)[::-1], n)
+
+
+def last_then_rising(n: int) -> bytes:
+    """A run of which the last instruction is found first, and then the others one behind the other."""
+    return run_found_by(lambda places: [places[-1], *places[:-1]], n)
+
+
+def one_callee(n: int) -> bytes:
+    """N calls of one function, which returns."""
+    halves: Halves = []
+    for place in range(n):
+        halves += jump(1, 4 * (n - place) + 2)
+    return file_with(halves + RETURN + RETURN)
+
+
+def one_callee_that_stays(n: int) -> bytes:
+    """N calls, each found by a branch, of one function that never returns."""
+    halves: Halves = []
+    for place in range(n):
+        halves += branch(1, 10, 11, STEP) + jump(1, STEP * (n - place) - 4 + 2)
+    return file_with(halves + RETURN + short_jump(0))
+
+
+def call_chain(n: int) -> bytes:
+    """N functions, each of which calls the next one."""
+    return file_with((jump(1, 6) + RETURN) * n + RETURN)
+
+
+def branches_to_one(n: int) -> bytes:
+    """N branches to one end."""
+    return file_with(branches_to([n * STEP // 2 + 1] * n) + RETURN)
+
+
+def one_table(n: int) -> bytes:
+    """A table of 1,024 entries, through which N / 128 places jump."""
+    jumps, entries = max(1, n // 128), 1024
+    length = 2 * len(table_jump(0, 0, 0))
+    halves: Halves = []
+    for _ in range(jumps):
+        halves += table_jump(entries - 1, DATA_AT, length - 4)
+    front = jumps * length
+    data = struct.pack(f"<{entries}I", *((CODE_AT + front + 2 * place - DATA_AT) % (1 << 32) for place in range(entries)))
+    return file_with(halves + RETURN * entries, data=data)
+
+
+def streams(n: int) -> bytes:
+    """N halfwords each of which begins an instruction of four bytes, so that two streams overlap up to the end, with a
+    symbol at each."""
+    return file_with([0x0013] * n + NOP * 2 + RETURN, symbols_at(range(n)))
+
+
+def streams_that_meet(n: int) -> bytes:
+    """Two streams that overlap and meet again, N / 16 times, with a symbol at each of their halfwords."""
+    count = max(1, n // 16)
+    return file_with(([0x0013] * 13 + NOP * 3) * count + RETURN, symbols_at(range(16 * count)))
+
+
+SHAPES: Dict[str, Callable[[int], bytes]] = {
+    shape.__name__: shape for shape in (
+        symbols, symbols_on_lines, rising, falling, last_then_rising, one_callee, one_callee_that_stays, call_chain,
+        branches_to_one, one_table, streams, streams_that_meet,
+    )
+}
+
+
+def main() -> int:
+    if len(sys.argv) != 4 or sys.argv[1] not in SHAPES or not sys.argv[2].isdigit() or int(sys.argv[2]) < 1:
+        print(f"usage: tools/contrived.py SHAPE N FILE, with SHAPE one of {', '.join(SHAPES)}", file=sys.stderr)
+        return 2
+    with open(sys.argv[3], "wb") as file:
+        file.write(SHAPES[sys.argv[1]](int(sys.argv[2])))
+    return 0
+
+
+if __name__ == "__main__":
+    sys.exit(main())
