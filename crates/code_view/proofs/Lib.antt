@@ -2,3 +2,5 @@ pub mod Counts
 pub mod Lawful
 pub mod Views
 pub mod ChainEnds
+pub mod RegisterJumps
+pub mod EndLengths

@@ -1,5 +1,7 @@
 pub mod Cuts
 pub mod Flow
+pub mod RegisterJump
 pub mod Program
 pub mod FileCode
 pub mod Inner
+pub mod JumpWord

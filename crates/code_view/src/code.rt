@@ -2,7 +2,9 @@
 
 use crate::cuts::Cuts;
 use crate::flow::{call_flow, in_code, jump_flow, straight_flow, table_flow};
+use crate::jump_word::is_jump_word;
 use crate::kept::kept_targets;
+use crate::register_jump::is_register_jump;
 use cfg_model::{Chains, Flow, Memory};
 use chain_index::ChainIndex;
 use elf_image::Image;
@@ -39,14 +41,18 @@ impl<'a> Model for Code<'a> {
 }
 
 impl<'a> Code<'a> {
-    ghost use Rattle.std.specs.Prelude.{◌≡◌, IsTrue};
-    ghost use Rattle.elf_image.specs.Code.{is_code};
+    ghost use Rattle.std.specs.Prelude.{◌≡◌, true, false, None, IsTrue};
+    ghost use Rattle.std.specs.Option.{option_map_or};
+    ghost use Rattle.elf_image.specs.Code.{is_code, half_at};
+    ghost use Rattle.rv_flow.specs.Placed.{placed_at};
     ghost use Rattle.jump_table.specs.Table.{table_at};
     ghost use Rattle.code_view.specs.Cuts.{cut_of, CutsFit};
     ghost use Rattle.code_view.specs.Flow.{flow_by};
     ghost use Rattle.code_view.specs.Program.{program_under};
     ghost use Rattle.code_view.specs.FileCode.{program_of};
-    ghost use Rattle.cfg_model.specs.Program.Instructions.{flow_at};
+    ghost use Rattle.code_view.specs.RegisterJump.{is_register_jump_at};
+    ghost use Rattle.code_view.specs.JumpWord.{is_jump_word};
+    ghost use Rattle.cfg_model.specs.Program.Instructions.{flow_at, IsLawful};
 
     /// The code of `image`, whose chains end as `index` says, under `cuts`, each of which is one of
     /// a table of that image: at least 1, and at most as many as the table has entries.
@@ -58,6 +64,7 @@ impl<'a> Code<'a> {
         ensures bytes { result.bytes ≡ image.now }
         ensures cuts { result.cuts ≡ cuts.now }
     {
+        prove!(image.is_code(image.entry()));
         Code { image, index, cuts }
     }
 
@@ -70,6 +77,20 @@ impl<'a> Code<'a> {
         find_table(self.image, j)
     }
 
+    /// Whether the instruction at the code address `a` is a jump through a register that links to
+    /// x0, told by its first halfword: no other instruction has a jump table. It decodes nothing.
+    pub fn jumps_by_register(&self, a: u64) -> bool
+        requires { IsTrue (is_code self.now.bytes a) }
+        ensures form { result ≡ is_register_jump_at self.now.bytes a }
+        ensures none { result ≡ false → table_at self.now.bytes a ≡ None }
+        ensures lawful { IsLawful (program_of self.now) }
+    {
+        match self.image.half_at(a) {
+            Some(half) => is_register_jump(half),
+            None => false,
+        }
+    }
+
     /// The flow of the instruction at `a`, which is decoded.
     fn decoded_flow(&self, a: u64) -> Flow
         requires { IsTrue (is_code self.now.bytes a) }
@@ -78,6 +99,31 @@ impl<'a> Code<'a> {
         let placed = insn_at(self.image, a);
         let behind = a + u64::from(placed.length);
         self.flow_by(a, behind, flow_of(self.image, a, placed.insn))
+    }
+
+    /// The length of the instruction at `a`. It is decoded only where its first halfword does not
+    /// tell its length: what is no instruction has the length 2.
+    fn end_length(&self, a: u64) -> u8
+        requires { IsTrue (is_code self.now.bytes a) }
+        ensures { result ≡ (placed_at self.now.bytes a).length }
+    {
+        match self.image.half_at(a) {
+            Some(half) if half & 0b11 != 0b11 => 2,
+            Some(half) if is_jump_word(half) => self.jump_length(a),
+            _ => insn_at(self.image, a).length,
+        }
+    }
+
+    /// The length of a jump, a call or a branch of 32 bits at `a`, where its word is there.
+    fn jump_length(&self, a: u64) -> u8
+        requires code { IsTrue (is_code self.now.bytes a) }
+        requires jump { option_map_or is_jump_word (half_at self.now.bytes a) false ≡ true }
+        ensures { result ≡ (placed_at self.now.bytes a).length }
+    {
+        match self.image.word_at(a) {
+            Some(_) => 4,
+            None => 2,
+        }
     }
 
     /// The flow of the instruction at `a`, which alone has the flow `raw`; `behind` is the address
@@ -116,30 +162,24 @@ impl<'a> Chains for Code<'a> {
 
     // Only what ends its chain is decoded.
     fn flow(&self, a: u64) -> Flow {
-        prove!(self.image.is_code(a));
         match self.index.next(a) {
             Some(next) => Flow::Straight { next },
             None => self.decoded_flow(a),
         }
     }
 
-    // So is what ends its chain here: its low bits alone do not tell the length of what is no
-    // instruction.
     fn length(&self, a: u64) -> u8 {
-        prove!(self.image.is_code(a));
         match self.index.next(a) {
             Some(next) => (next - a) as u8,
-            None => insn_at(self.image, a).length,
+            None => self.end_length(a),
         }
     }
 
     fn target(&self, a: u64, i: u32) -> u64 {
-        prove!(self.image.is_code(a));
         target_of(self.image, a, i)
     }
 
     fn targets(&self, a: u64) -> Result<Vec<u64>, Memory> {
-        prove!(self.image.is_code(a));
         match self.table(a) {
             Some(table) => kept_targets(self.cuts.alloc(), self.image, self.cuts.count(a), table),
             None => Ok(Vec::new(self.cuts.alloc())),
@@ -147,7 +187,6 @@ impl<'a> Chains for Code<'a> {
     }
 
     fn term(&self, a: u64) -> u64 {
-        prove!(self.image.is_code(a));
         self.index.term(a)
     }
 }

@@ -7,8 +7,10 @@
 mod code;
 mod cuts;
 mod flow;
+mod jump_word;
 mod kept;
 mod memory;
+mod register_jump;
 
 pub use code::Code;
 pub use cuts::Cuts;

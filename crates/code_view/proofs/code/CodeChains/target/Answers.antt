@@ -4,8 +4,11 @@ use Rattle.jump_table.specs.declared.table.Table.{Table}
 use Rattle.jump_table.specs.Table.{table_at, table_targets}
 use Rattle.jump_table.proofs.Targets.{there}
 use Rattle.code_view.specs.FileCode.{FileCode}
-use Rattle.code_view.proofs.Views.{lawful-view, kept-view}
+use Rattle.code_view.proofs.Views.{lawful-view, target-view, kept-view}
 use Rattle.code_view.proofs.code.CodeChains.target.Goals as goal
+
+pub target_of-requires-clause-code : goal.target_of-requires-clause-code
+target_of-requires-clause-code c = target-view _ _ _ c.self.view_is c.args.a c.args.i c.requires
 
 pub target_of-requires-clause-entry : goal.target_of-requires-clause-entry
 target_of-requires-clause-entry c =
@@ -22,4 +25,4 @@ returns-clause-target c =
     ∙ there (table_at bytes c.args.a) kept.table (λ (t : Table). slice_get (table_targets bytes t) c.args.i ≡ Some c.target_of.result) is c.target_of.ensures
 
 pub returns-clause-lawful : goal.returns-clause-lawful
-returns-clause-lawful c = lawful-view _ _ c.is_code.ensures.image c.self.invariant.cuts _ c.self.view_is
+returns-clause-lawful c = lawful-view _ _ c.self.invariant.accepted c.self.invariant.cuts _ c.self.view_is

@@ -8,6 +8,9 @@ use Rattle.code_view.proofs.Lawful.{code_of, kept_of_table, targets-of-table, ta
 use Rattle.code_view.proofs.Views.{lawful-view}
 use Rattle.code_view.proofs.code.CodeChains.targets.Goals as goal
 
+pub table-requires : goal.table-requires
+table-requires c = code_of c.args.self.now.bytes (cut_of c.args.self.now.cuts) c.args.a c.requires
+
 pub kept_targets-requires-clause-within : goal.kept_targets-requires-clause-within
 kept_targets-requires-clause-within c =
     let table = c.in-Some.table in
@@ -29,7 +32,7 @@ returns-in-Some-clause-targets c =
     c.kept_targets.ensures
 
 pub returns-in-Some-clause-lawful : goal.returns-in-Some-clause-lawful
-returns-in-Some-clause-lawful c = lawful-view _ _ c.is_code.ensures.image c.self.invariant.cuts _ c.self.view_is
+returns-in-Some-clause-lawful c = lawful-view _ _ c.self.invariant.accepted c.self.invariant.cuts _ c.self.view_is
 
 pub returns-in-None-clause-targets : goal.returns-in-None-clause-targets
 returns-in-None-clause-targets c =
@@ -40,4 +43,4 @@ returns-in-None-clause-targets c =
     ∙ sym (targets-of-table code.bytes (cut_of code.cuts) a (code_of code.bytes (cut_of code.cuts) a c.requires))
 
 pub returns-in-None-clause-lawful : goal.returns-in-None-clause-lawful
-returns-in-None-clause-lawful c = lawful-view _ _ c.is_code.ensures.image c.self.invariant.cuts _ c.self.view_is
+returns-in-None-clause-lawful c = lawful-view _ _ c.self.invariant.accepted c.self.invariant.cuts _ c.self.view_is

@@ -23,4 +23,4 @@ returns-clause-term c =
     (c.self.invariant.index ∙ ap (λ (f : FileCode). f.bytes) c.self.view_is) c.term.ensures)
 
 pub returns-clause-lawful : goal.returns-clause-lawful
-returns-clause-lawful c = lawful-view _ _ c.is_code.ensures.image c.self.invariant.cuts _ c.self.view_is
+returns-clause-lawful c = lawful-view _ _ c.self.invariant.accepted c.self.invariant.cuts _ c.self.view_is
