@@ -27,3 +27,4 @@ pub mod LinesKept
 pub mod LinesJoined
 pub mod ChunksJoined
 pub mod KeysAfter
+pub mod InPlace

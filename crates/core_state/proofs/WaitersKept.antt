@@ -1,6 +1,6 @@
--- Waiters in place, in a row and in a crowd, seen as one map.
-use Rattle.std.proofs.Common.{◌≡◌, ◌≢◌, ℕ, suc, ◌+◌, ◌<◌, ◌≤◌, Bool, cond, true, false, not, refl, List, [], ◌∷◌, ◌++◌, length, get_or, set, take, subst, sym, ap, ◌∙◌}
-use Rattle.std.specs.Prelude.{Option, Some, None, IsSome, is_some, IfSome, IfNone, MatchOption, ◌⊎◌}
+-- Waiters in a row and in a crowd, seen as one map.
+use Rattle.std.proofs.Common.{◌≡◌, ◌≢◌, ℕ, ◌+◌, ◌<◌, ◌≤◌, Bool, cond, true, false, refl, List, [], ◌∷◌, ◌++◌, length, get_or, set, take, subst, sym, ap, ◌∙◌}
+use Rattle.std.specs.Prelude.{Option, Some, None, is_some, IfSome, IfNone, ◌⊎◌}
 use mathlib.Core.Logic.{inl, inr}
 use Rattle.std.specs.Option.{option_or}
 use Rattle.std.specs.declared.cmp.Ordering.{Ordering}
@@ -16,7 +16,7 @@ use Rattle.cfg_model.specs.Builder.Waiter.{waiter_cmp}
 use Rattle.cfg_model.proofs.Builder.WaiterOrder.{waiter_cmp_total, exact_waiters}
 use Rattle.core_state.specs.Least.{IsLeastBy}
 use Rattle.core_state.specs.inner.Pairs.{AreApart, IsFirstAt, over}
-use Rattle.core_state.specs.inner.Waiting.{WaiterMap, front, AreAway, AwaitsTelling, with_waiter, with_told, lesser_by}
+use Rattle.core_state.specs.inner.Waiting.{WaiterMap, AreAway, AwaitsTelling, with_waiter, with_told, lesser_by}
 use Rattle.core_state.proofs.SeenSet.{is_equal}
 use Rattle.core_state.proofs.Seen.{not_there}
 use Rattle.core_state.proofs.WaiterChanges.{least_as}
@@ -24,13 +24,6 @@ use Rattle.core_state.proofs.PairsInRow.{get_over, find_push, apart_push, find_s
 
 abbrev pub Row : Type 0
 Row = List (Waiter × Bool)
-
-pub slice_is : (o : Option (Waiter × Bool)) (xs : Row) → MatchOption o (xs ≡ []) (λ x. xs ≡ x ∷ []) → xs ≡ front o []
-slice_is None xs e = e
-slice_is (Some x) xs e = e
-
-some_is_true : {A : Type 0} (o : Option A) → IsSome o → is_some o ≡ true
-some_is_true o is = is
 
 -- what a search found, and what it did not
 pub found_some : (row : Row) (w : Waiter) (r : Option ℕ) → IfSome r (IsFirstAt waiter_cmp row w) → is_some r ≡ true → is_some (find waiter_cmp w row) ≡ true
@@ -41,52 +34,29 @@ pub found_none : (row : Row) (w : Waiter) (r : Option ℕ) → IfNone r (find wa
 found_none row w None none e = none
 found_none row w (Some i) none e = cc e
 
-find_front : (o : Option (Waiter × Bool)) (few : Row) (w : Waiter) → find waiter_cmp w (front o few) ≡ option_or (find waiter_cmp w (front o [])) (find waiter_cmp w few)
-find_front None few w = refl
-find_front (Some e) few w = first (eq_by_cmp waiter_cmp w e.0) e.1 (find waiter_cmp w few)
-  where
-    first : (b : Bool) (x : Bool) (t : Option Bool) → cond b (Some x) t ≡ option_or (cond b (Some x) None) t
-    first true x t = refl
-    first false x t = refl
-
-pub front_push : (o : Option (Waiter × Bool)) (few : Row) (e : Waiter × Bool) → front o (few ++ e ∷ []) ≡ front o few ++ e ∷ []
-front_push None few e = refl
-front_push (Some f) few e = refl
-
 or_none : (s t : Option Bool) → is_some (option_or s t) ≡ false → (s ≡ None) × (t ≡ None)
 or_none None None e = (refl, refl)
 or_none None (Some y) e = cc e
 or_none (Some x) t e = cc e
 
-module _ (o : Option (Waiter × Bool)) (few : Row) (crowd m : WaiterMap) (seen : over (front o few) crowd ≡ m) (w : Waiter) where
-  there : maps.get m w ≡ option_or (find waiter_cmp w (front o few)) (maps.get crowd w)
-  there = sym (ap (λ n. maps.get n w) seen) ∙ get_over waiter_cmp_total (front o few) crowd w
+module _ (row : Row) (crowd m : WaiterMap) (seen : over row crowd ≡ m) (w : Waiter) where
+  pub there : maps.get m w ≡ option_or (find waiter_cmp w row) (maps.get crowd w)
+  there = sym (ap (λ n. maps.get n w) seen) ∙ get_over waiter_cmp_total row crowd w
 
-  pub has_first : is_some (find waiter_cmp w (front o [])) ≡ true → true ≡ maps.contains_key m w
-  has_first is = sym (ap is_some (there ∙ ap (λ p. option_or p (maps.get crowd w)) (find_front o few w)) ∙ some (find waiter_cmp w (front o [])) _ _ is)
-    where
-      some : (s t u : Option Bool) → is_some s ≡ true → is_some (option_or (option_or s t) u) ≡ true
-      some None t u is = cc is
-      some (Some x) t u is = refl
-
-  pub has_few : find waiter_cmp w (front o []) ≡ None → is_some (find waiter_cmp w few) ≡ true → true ≡ maps.contains_key m w
-  has_few none is =
-      sym (ap is_some (there ∙ ap (λ p. option_or p (maps.get crowd w)) (find_front o few w ∙ ap (λ p. option_or p (find waiter_cmp w few)) none)) ∙ some (find waiter_cmp w few) _ is)
+  pub has_row : is_some (find waiter_cmp w row) ≡ true → true ≡ maps.contains_key m w
+  has_row is = sym (ap is_some there ∙ some (find waiter_cmp w row) _ is)
     where
       some : (s t : Option Bool) → is_some s ≡ true → is_some (option_or s t) ≡ true
       some None t is = cc is
       some (Some x) t is = refl
 
-  pub front_none : find waiter_cmp w (front o []) ≡ None → find waiter_cmp w few ≡ None → find waiter_cmp w (front o few) ≡ None
-  front_none first none = find_front o few w ∙ ap (λ p. option_or p (find waiter_cmp w few)) first ∙ none
+  pub has_crowd : find waiter_cmp w row ≡ None → maps.contains_key crowd w ≡ maps.contains_key m w
+  has_crowd none = sym (ap is_some (there ∙ ap (λ p. option_or p (maps.get crowd w)) none))
 
-  pub has_crowd : find waiter_cmp w (front o []) ≡ None → find waiter_cmp w few ≡ None → maps.contains_key crowd w ≡ maps.contains_key m w
-  has_crowd first none = sym (ap is_some (there ∙ ap (λ p. option_or p (maps.get crowd w)) (front_none first none)))
-
-  pub nowhere : maps.contains_key m w ≡ false → (find waiter_cmp w (front o few) ≡ None) × (maps.get crowd w ≡ None)
+  pub nowhere : maps.contains_key m w ≡ false → (find waiter_cmp w row ≡ None) × (maps.get crowd w ≡ None)
   nowhere none = or_none _ _ (sym (ap is_some there) ∙ none)
 
-at_key : (q w : Waiter) (b : Bool) → eq_by_cmp waiter_cmp q w ≡ b → (q ≡ w) ⊎ (b ≡ false)
+pub at_key : (q w : Waiter) (b : Bool) → eq_by_cmp waiter_cmp q w ≡ b → (q ≡ w) ⊎ (b ≡ false)
 at_key q w true e = inl (exact_waiters q w (is_equal (waiter_cmp q w) e))
 at_key q w false e = inr refl
 
@@ -141,30 +111,6 @@ module _ (row : Row) (crowd m : WaiterMap) (seen : over row crowd ≡ m) (w : Wa
     pub waits_marked : maps.contains_key m w ≡ true
     waits_marked = ap is_some (sym (ap (λ n. maps.get n w) seen) ∙ get_over waiter_cmp_total row crowd w ∙ ap (λ p. option_or p (maps.get crowd w)) (found_at row w i first))
 
--- the first place of a waiter in the row, with the one in place in front of it
-pub front_place : (o : Option (Waiter × Bool)) (few : Row) (w : Waiter) (told : Bool) → find waiter_cmp w (front o []) ≡ None → (i : ℕ) → IsFirstAt waiter_cmp few w i
-    → (j : ℕ) × IsFirstAt waiter_cmp (front o few) w j × (front o (set few i (w, told)) ≡ set (front o few) j (w, told))
-front_place None few w told none i first = (i, first, refl)
-front_place (Some e) few w told none i first =
-    (suc i, record { pair = first.pair; at = first.at; is = first.is; first = behind_e (eq_by_cmp waiter_cmp w e.0) (find waiter_cmp w (take i few)) none first.first }, refl)
-  where
-    behind_e : (b : Bool) (o : Option Bool) → cond b (Some e.1) None ≡ None → o ≡ None → cond b (Some e.1) o ≡ None
-    behind_e true o none is = cc none
-    behind_e false o none is = is
-
--- the one in place is the first of all
-pub first_place : (o : Option (Waiter × Bool)) (few : Row) (w : Waiter) → is_some (find waiter_cmp w (front o [])) ≡ true → (told : Bool)
-    → IsFirstAt waiter_cmp (front o few) w 0 × (front (Some (w, told)) few ≡ set (front o few) 0 (w, told))
-first_place None few w is told = cc is
-first_place (Some e) few w is told = (record { pair = e; at = refl; is = tie (waiter_cmp w e.0) is; first = refl }, refl)
-  where
-    tie : (r : Ordering) → is_some (cond (is_eq r) (Some e.1) None) ≡ true → r ≡ Equal
-    tie r is = is_equal r (only (is_eq r) is)
-      where
-        only : (b : Bool) → is_some (cond b (Some e.1) None) ≡ true → b ≡ true
-        only true is = refl
-        only false is = cc is
-
 pub told_where : (m : WaiterMap) (w : Waiter) → maps.contains_key m w ≡ true → maps.insert m w true ≡ with_told m w
 told_where m w had = rw had
 
@@ -186,21 +132,6 @@ module _ (row : Row) (crowd m : WaiterMap) (seen : over row crowd ≡ m) (w : Wa
 
   pub away_told : AreAway row crowd → AreAway row (with_told crowd w)
   away_told away = away_by away (maps.contains_key crowd w)
-
--- the place in front is free
-pub nothing_in_place : (o : Option (Waiter × Bool)) (b : Bool) → is_some o ≡ not b → b ≡ true → o ≡ None
-nothing_in_place None b e is = refl
-nothing_in_place (Some x) b e is = cc (e ∙ ap not is)
-
-pub parted : (o : Option (Waiter × Bool)) (few : Row) (crowd : WaiterMap) (w : Waiter) → o ≡ None → find waiter_cmp w (front o few) ≡ None → maps.get crowd w ≡ None
-    → AreApart waiter_cmp (front o few) × AreAway (front o few) crowd → ((find waiter_cmp w few ≡ None) × AreApart waiter_cmp few) × AreAway ((w, false) ∷ few) crowd
-parted None few crowd w e none out kept = ((none, kept.0), away_put crowd w false few ((w, false) ∷ few) (λ q. refl) out kept.1)
-parted (Some x) few crowd w e none out kept = cc e
-
-pub row_with : (o : Option (Waiter × Bool)) (few : Row) (crowd : WaiterMap) (new : Row) (e : Waiter × Bool) → new ≡ few ++ e ∷ []
-    → AreApart waiter_cmp (front o few ++ e ∷ []) × AreAway (front o few ++ e ∷ []) crowd → AreApart waiter_cmp (front o new) × AreAway (front o new) crowd
-row_with o few crowd new e is kept =
-    subst (λ (row : Row). AreApart waiter_cmp row × AreAway row crowd) (sym (ap (front o) is ∙ front_push o few e)) kept
 
 le_by : (x y z : Waiter) (r s : Ordering) → waiter_cmp x y ≡ r → waiter_cmp y z ≡ s → r ≢ Greater → s ≢ Greater → waiter_cmp x z ≢ Greater
 le_by x y z Less Less e f p q g = cc (sym (waiter_cmp_total.trans x y z e f) ∙ g)
@@ -282,39 +213,24 @@ pub whole_row : (row : Row) (n : ℕ) → length row ≤ n → (least : Option W
     → IsLeastBy waiter_cmp (λ w. find waiter_cmp w row ≡ Some false) least
 whole_row row n all least is_least = subst (λ (r : Row). IsLeastBy waiter_cmp (λ w. find waiter_cmp w r ≡ Some false) least) (take_all n row all) is_least
 
--- the least untold one of all three
-pub least_of_all : (o : Option (Waiter × Bool)) (few : Row) (crowd m : WaiterMap) → over (front o few) crowd ≡ m → AreApart waiter_cmp (front o few) → AreAway (front o few) crowd
-    → (a b c : Option Waiter) → IsLeastBy waiter_cmp (λ w. find waiter_cmp w (front o []) ≡ Some false) a → IsLeastBy waiter_cmp (λ w. find waiter_cmp w few ≡ Some false) b
-    → IsLeastBy waiter_cmp (AwaitsTelling crowd) c → IsLeastBy waiter_cmp (AwaitsTelling m) (lesser_by waiter_cmp (lesser_by waiter_cmp a b) c)
-least_of_all o few crowd m seen apart away a b c p q r =
-    least_as (λ w. (UntoldIn (front o []) w ⊎ UntoldIn few w) ⊎ AwaitsTelling crowd w) (AwaitsTelling m) (lesser_by waiter_cmp (lesser_by waiter_cmp a b) c)
-    (λ w h. elim h [ inl e ↦ elim e [ inl f ↦ in_place w f | inr f ↦ there o few crowd m seen w ∙ ap (λ p. option_or p (maps.get crowd w)) (in_row o w apart f) ] | inr f ↦ in_crowd w f ])
-    (λ w h. by_row w (find waiter_cmp w (front o [])) (find waiter_cmp w few) (maps.get crowd w) refl refl refl (sym (read w) ∙ h))
-    (least_of_both (λ w. UntoldIn (front o []) w ⊎ UntoldIn few w) (AwaitsTelling crowd) (lesser_by waiter_cmp a b) c (least_of_both (UntoldIn (front o [])) (UntoldIn few) a b p q) r)
+-- the least untold one of a row and a crowd
+pub least_of_all : (row : Row) (crowd m : WaiterMap) → over row crowd ≡ m → AreAway row crowd
+    → (a b : Option Waiter) → IsLeastBy waiter_cmp (λ w. find waiter_cmp w row ≡ Some false) a → IsLeastBy waiter_cmp (AwaitsTelling crowd) b
+    → IsLeastBy waiter_cmp (AwaitsTelling m) (lesser_by waiter_cmp a b)
+least_of_all row crowd m seen away a b p q =
+    least_as (λ w. UntoldIn row w ⊎ AwaitsTelling crowd w) (AwaitsTelling m) (lesser_by waiter_cmp a b)
+    (λ w h. elim h [ inl f ↦ there row crowd m seen w ∙ ap (λ s. option_or s (maps.get crowd w)) f | inr f ↦ in_crowd w f ])
+    (λ w h. by_row w (find waiter_cmp w row) (maps.get crowd w) refl refl (sym (there row crowd m seen w) ∙ h))
+    (least_of_both (UntoldIn row) (AwaitsTelling crowd) a b p q)
   where
-    read : (w : Waiter) → maps.get m w ≡ option_or (option_or (find waiter_cmp w (front o [])) (find waiter_cmp w few)) (maps.get crowd w)
-    read w = there o few crowd m seen w ∙ ap (λ p. option_or p (maps.get crowd w)) (find_front o few w)
-
-    in_place : (w : Waiter) → find waiter_cmp w (front o []) ≡ Some false → AwaitsTelling m w
-    in_place w f = read w ∙ ap (λ s. option_or (option_or s (find waiter_cmp w few)) (maps.get crowd w)) f
-
-    in_row : (o : Option (Waiter × Bool)) (w : Waiter) → AreApart waiter_cmp (front o few) → find waiter_cmp w few ≡ Some false → find waiter_cmp w (front o few) ≡ Some false
-    in_row None w apart f = f
-    in_row (Some e) w apart f = by_key (at_key w e.0 (eq_by_cmp waiter_cmp w e.0) refl)
-      where
-        by_key : (w ≡ e.0) ⊎ (eq_by_cmp waiter_cmp w e.0 ≡ false) → find waiter_cmp w (e ∷ few) ≡ Some false
-        by_key (inl same) = cc (sym apart.0 ∙ ap (λ v. find waiter_cmp v few) (sym same) ∙ f)
-        by_key (inr other) = ap (λ b. cond b (Some e.1) (find waiter_cmp w few)) other ∙ f
-
     in_crowd : (w : Waiter) → AwaitsTelling crowd w → AwaitsTelling m w
-    in_crowd w f = behind (find waiter_cmp w (front o few)) refl
+    in_crowd w f = behind (find waiter_cmp w row) refl
       where
-        behind : (s : Option Bool) → find waiter_cmp w (front o few) ≡ s → AwaitsTelling m w
-        behind None e = there o few crowd m seen w ∙ ap (λ p. option_or p (maps.get crowd w)) e ∙ f
+        behind : (s : Option Bool) → find waiter_cmp w row ≡ s → AwaitsTelling m w
+        behind None e = there row crowd m seen w ∙ ap (λ p. option_or p (maps.get crowd w)) e ∙ f
         behind (Some x) e = cc (sym (away w (ap is_some e)) ∙ f)
 
-    by_row : (w : Waiter) (s t u : Option Bool) → find waiter_cmp w (front o []) ≡ s → find waiter_cmp w few ≡ t → maps.get crowd w ≡ u → option_or (option_or s t) u ≡ Some false
-        → ((find waiter_cmp w (front o []) ≡ Some false) ⊎ (find waiter_cmp w few ≡ Some false)) ⊎ AwaitsTelling crowd w
-    by_row w (Some x) t u e f g h = inl (inl (e ∙ h))
-    by_row w None (Some y) u e f g h = inl (inr (f ∙ h))
-    by_row w None None u e f g h = inr (g ∙ h)
+    by_row : (w : Waiter) (s t : Option Bool) → find waiter_cmp w row ≡ s → maps.get crowd w ≡ t → option_or s t ≡ Some false
+        → (find waiter_cmp w row ≡ Some false) ⊎ AwaitsTelling crowd w
+    by_row w (Some x) t e f h = inl (e ∙ h)
+    by_row w None t e f h = inr (f ∙ h)

@@ -6,3 +6,4 @@ pub mod Lent
 pub mod Grouped
 pub mod Walk
 pub mod Remaining
+pub mod InPlace

@@ -27,12 +27,16 @@ mod maps;
 pub mod memory;
 mod pairs;
 pub mod place;
+mod row;
+mod several;
 pub mod starts;
 pub mod state;
 mod state_place;
 pub mod terms;
 #[cfg(test)]
 mod tests;
+#[cfg(test)]
+mod waiter_tests;
 mod waiters;
 mod walk;
 

@@ -23,6 +23,7 @@ use crate::walk::Keys;
 use cfg_model::Waiter;
 use std::alloc::Global;
 use std::marker::Model;
+use std::mem::size_of;
 
 /// The terminators in one shard, by their address.
 #[derive(Drop)]
@@ -168,6 +169,9 @@ struct Terminator {
     returned: bool,
     waiters: Waiters,
 }
+
+/// Every block has one or two terminators, so each is kept small.
+const _: () = prove!(size_of::<Terminator>() == 32);
 
 impl Model for Terminator {
     ghost use Rattle.cfg_model.specs.Builder.State.{TerminatorEntry};

@@ -1,60 +1,85 @@
 //! Who waits for the return of a terminator.
 
-ghost use Rattle.std.specs.Prelude.{◌≡◌, ◌↔◌, false, Some, None, IsTrue};
-ghost use Rattle.std.specs.Prelude.{IsSome, OnOk, OnErr, IfOk, IfSome, IfNone};
+ghost use Rattle.std.specs.Prelude.{◌≡◌, ◌↔◌, [], ◌∷◌, false, Some, IsTrue};
+ghost use Rattle.std.specs.Prelude.{IsSome, OnOk, OnErr, IfOk};
+ghost use Rattle.std.specs.Ordering.{eq_by_cmp};
 ghost use Rattle.std.specs.FinMap as maps;
 ghost use Rattle.std.specs.FinMap.{find};
 ghost use Rattle.cfg_model.specs.Builder.Waiter.{waiter_cmp};
 ghost use Rattle.core_state.specs.Least.{IsLeastBy};
-ghost use Rattle.core_state.specs.inner.Pairs.{AreApart, IsFirstAt};
-ghost use Rattle.core_state.specs.inner.Waiting.{AwaitsTelling, with_waiter, with_told, lesser_by};
+ghost use Rattle.core_state.specs.inner.Waiting.{AwaitsTelling, with_waiter, with_told};
+ghost use Rattle.core_state.specs.inner.InPlace.{in_place, elsewhere, pair_of, told_if};
+ghost use Rattle.core_state.specs.inner.Pairs.{AreApart, over};
 
-use crate::crowd::Crowd;
 use crate::memory::Memory;
-use crate::pairs::place_of;
-use cfg_model::Waiter;
+use crate::row::lesser;
+use crate::several::Several;
+use cfg_model::{WaitKind, Waiter};
 use std::alloc::Global;
 use std::marker::Model;
 
-/// How many waiters stand in a row behind the first one, to be looked at one by one.
-const FEW: usize = 24;
-
-/// Waiters, each with whether it was told. Most terminators have one or two: the first waiter is
-/// kept in place, the next ones in a row, and only those that come after them in order. So one
-/// waiter takes no memory of its own, and many take time logarithmic in their number each.
+/// Waiters, each with whether it was told. Most terminators have none, one or two, which stand in
+/// place and take no memory of their own.
 #[derive(Drop)]
 pub(crate) struct Waiters {
-    first: Option<(Waiter, bool)>,
-    few: Vec<(Waiter, bool)>,
-    crowd: Crowd,
+    alloc: Global,
+    kept: Kept,
+}
+
+/// How waiters are kept. Notes stand beside notes, so that two waiters take no more than 24 bytes.
+#[derive(Drop)]
+enum Kept {
+    /// No waiter.
+    Nobody,
+    /// One waiter, in place.
+    One {
+        note: Note,
+        terminator: u64,
+    },
+    /// Two waiters, in place.
+    Two {
+        first_note: Note,
+        second_note: Note,
+        first: u64,
+        second: u64,
+    },
+    /// Three waiters or more, elsewhere.
+    Several(Box<Several>),
+}
+
+/// What is kept of a waiter in place beside the address of its terminator.
+#[derive(Clone, Copy)]
+struct Note {
+    kind: WaitKind,
+    told: bool,
 }
 
 impl Model for Waiters {
     ghost use Rattle.std.specs.FinMap as maps;
     ghost use Rattle.std.specs.Coded.{coded_bool};
     ghost use Rattle.cfg_model.specs.Builder.Waiter.{coded_waiter, waiter_cmp};
-    ghost use Rattle.core_state.specs.inner.Pairs.{AreApart, over};
-    ghost use Rattle.core_state.specs.inner.Waiting.{WaiterMap, front, AreAway};
+    ghost use Rattle.core_state.specs.inner.Waiting.{WaiterMap};
 
     ghost Value = { WaiterMap };
 
     ghost coded = { maps.code coded_waiter coded_bool };
 
-    ghost view = { λ s. over (front s.first s.few.items) s.crowd };
+    ghost use Rattle.core_state.specs.inner.Pairs.{AreApart, over};
+    ghost use Rattle.core_state.specs.inner.InPlace.{in_place, elsewhere};
 
-    ghost invariant = { λ s. AreApart waiter_cmp (front s.first s.few.items)
-        × AreAway (front s.first s.few.items) s.crowd };
+    ghost view = { λ s. over (in_place s.kept) (elsewhere s.kept) };
+
+    ghost invariant = { λ s. AreApart waiter_cmp (in_place s.kept) };
 }
 
 impl Waiters {
-    /// No waiters. It takes no memory before a second one is added.
+    /// No waiters. It takes no memory before a third one is added.
     pub(crate) fn new(alloc: Global) -> Self
         ensures { result ≡ maps.empty }
     {
         Waiters {
-            first: None,
-            few: Vec::new(alloc),
-            crowd: Crowd::new(alloc),
+            alloc,
+            kept: Kept::Nobody,
         }
     }
 
@@ -62,13 +87,17 @@ impl Waiters {
     fn has(&self, w: Waiter) -> bool
         ensures { result ≡ maps.contains_key self.now w }
     {
-        if spot(self.first.as_slice(), w).is_some() {
-            return true;
+        match &self.kept {
+            Kept::Nobody => false,
+            Kept::One { note, terminator } => note.is_of(*terminator, w),
+            Kept::Two {
+                first_note,
+                second_note,
+                first,
+                second,
+            } => first_note.is_of(*first, w) || second_note.is_of(*second, w),
+            Kept::Several(several) => several.has(w),
         }
-        if spot(self.few.as_slice(), w).is_some() {
-            return true;
-        }
-        self.crowd.has(w)
     }
 
     /// Makes `w` wait, untold, where it does not wait yet. Answers whether it is new.
@@ -80,29 +109,54 @@ impl Waiters {
         if self.has(w) {
             return Ok(false);
         }
-        if self.first.is_none() {
-            self.first = Some((w, false));
-            return Ok(true);
-        }
-        if self.few.len() < FEW {
-            self.few.push((w, false))?;
-            return Ok(true);
-        }
-        self.crowd.add(w)?;
+        self.add(w)?;
         Ok(true)
+    }
+
+    /// Adds `w`, untold.
+    fn add(&mut self, w: Waiter) -> Result<(), Memory>
+        requires { maps.contains_key self.old w ≡ false }
+        ensures added { OnOk result (self.new ≡ maps.insert self.old w false) }
+        ensures unchanged { OnErr result (self.new ≡ self.old) }
+    {
+        match &mut self.kept {
+            Kept::Nobody => self.kept = one(w),
+            Kept::One { note, terminator } => {
+                let first = note.pair(*terminator);
+                self.kept = two(first, w);
+            }
+            Kept::Two {
+                first_note,
+                second_note,
+                first,
+                second,
+            } => {
+                let first = first_note.pair(*first);
+                let second = second_note.pair(*second);
+                self.kept = three(self.alloc, first, second, w)?;
+            }
+            Kept::Several(several) => several.add(w)?,
+        }
+        Ok(())
     }
 
     /// Notes that `w` was told, where it waits.
     pub(crate) fn tell(&mut self, w: Waiter)
         ensures { self.new ≡ with_told self.old w }
     {
-        if spot(self.first.as_slice(), w).is_some() {
-            self.first = Some((w, true));
-            return;
-        }
-        match spot(self.few.as_slice(), w) {
-            Some(place) => self.few[place] = (w, true),
-            None => self.crowd.tell(w),
+        match &mut self.kept {
+            Kept::Nobody => {}
+            Kept::One { note, terminator } => note.tell(*terminator, w),
+            Kept::Two {
+                first_note,
+                second_note,
+                first,
+                second,
+            } => {
+                first_note.tell(*first, w);
+                second_note.tell(*second, w);
+            }
+            Kept::Several(several) => several.tell(w),
         }
     }
 
@@ -110,41 +164,103 @@ impl Waiters {
     pub(crate) fn next_untold(&self) -> Option<Waiter>
         ensures { IsLeastBy waiter_cmp (AwaitsTelling self.now) result }
     {
-        let first = untold_among(self.first.as_slice());
-        let few = untold_among(self.few.as_slice());
-        lesser(lesser(first, few), self.crowd.next_untold())
-    }
-}
-
-/// The first place of `w` in a row.
-fn spot(row: &[(Waiter, bool)], w: Waiter) -> Option<usize>
-    ensures some { IfSome result (IsFirstAt waiter_cmp row.now w) }
-    ensures none { IfNone result (find waiter_cmp w row.now ≡ None) }
-{
-    place_of(row, &w)
-}
-
-/// The least untold waiter of a row.
-fn untold_among(row: &[(Waiter, bool)]) -> Option<Waiter>
-    requires { AreApart waiter_cmp row.now }
-    ensures { IsLeastBy waiter_cmp (λ w. find waiter_cmp w row.now ≡ Some false) result }
-{
-    let mut least = None;
-    for (w, told) in row {
-        if !*told {
-            least = lesser(least, Some(*w));
+        match &self.kept {
+            Kept::Nobody => None,
+            Kept::One { note, terminator } => note.untold(*terminator),
+            Kept::Two {
+                first_note,
+                second_note,
+                first,
+                second,
+            } => lesser(first_note.untold(*first), second_note.untold(*second)),
+            Kept::Several(several) => several.next_untold(),
         }
     }
-    least
 }
 
-/// The lesser of two waiters, either of which may be none.
-fn lesser(v: Option<Waiter>, w: Option<Waiter>) -> Option<Waiter>
-    ensures { result ≡ lesser_by waiter_cmp v w }
-{
-    match (v, w) {
-        (Some(v), Some(w)) => { if v.cmp(&w).is_gt() { Some(w) } else { Some(v) } }
-        (Some(v), None) => Some(v),
-        (None, w) => w,
+impl Note {
+    /// What is noted of a waiter of this kind.
+    fn new(kind: WaitKind, told: bool) -> Self
+        ensures { result ≡ record { kind = kind; told = told } }
+    {
+        Note { kind, told }
     }
+
+    /// The waiter at the terminator of which this is noted, and whether it was told.
+    fn pair(&self, terminator: u64) -> (Waiter, bool)
+        ensures { result ≡ pair_of self.now terminator }
+    {
+        let w = Waiter {
+            terminator,
+            kind: self.kind,
+        };
+        (w, self.told)
+    }
+
+    /// Whether this is noted of `w`.
+    fn is_of(&self, terminator: u64, w: Waiter) -> bool
+        ensures { result ≡ eq_by_cmp waiter_cmp w (pair_of self.now terminator).0 }
+    {
+        w.cmp(&self.pair(terminator).0).is_eq()
+    }
+
+    /// Notes that `w` was told, where this is noted of it.
+    fn tell(&mut self, terminator: u64, w: Waiter)
+        ensures { pair_of self.new terminator ≡ told_if w (pair_of self.old terminator) }
+    {
+        if self.is_of(terminator, w) {
+            self.told = true;
+        }
+    }
+
+    /// The waiter of which this is noted, where it was not told.
+    fn untold(&self, terminator: u64) -> Option<Waiter>
+        ensures { IsLeastBy waiter_cmp
+            (λ w. find waiter_cmp w (pair_of self.now terminator ∷ []) ≡ Some false) result }
+    {
+        if self.told {
+            return None;
+        }
+        Some(self.pair(terminator).0)
+    }
+}
+
+/// One waiter, untold.
+fn one(w: Waiter) -> Kept
+    ensures here { in_place result ≡ (w, false) ∷ [] }
+    ensures all { elsewhere result ≡ maps.empty }
+{
+    Kept::One {
+        note: Note::new(w.kind, false),
+        terminator: w.terminator,
+    }
+}
+
+/// A waiter, and one behind it that is untold.
+fn two(first: (Waiter, bool), w: Waiter) -> Kept
+    ensures here { in_place result ≡ first ∷ (w, false) ∷ [] }
+    ensures all { elsewhere result ≡ maps.empty }
+{
+    Kept::Two {
+        first_note: Note::new(first.0.kind, first.1),
+        second_note: Note::new(w.kind, false),
+        first: first.0.terminator,
+        second: w.terminator,
+    }
+}
+
+/// Two waiters, and one behind them that is untold.
+fn three(
+    alloc: Global,
+    first: (Waiter, bool),
+    second: (Waiter, bool),
+    w: Waiter,
+) -> Result<Kept, Memory>
+    requires { AreApart waiter_cmp (first ∷ second ∷ (w, false) ∷ []) }
+    ensures here { IfOk result (λ kept. in_place kept ≡ []) }
+    ensures all { IfOk result (λ kept.
+        elsewhere kept ≡ over (first ∷ second ∷ (w, false) ∷ []) maps.empty) }
+{
+    let several = Several::new(alloc, [first, second, (w, false)])?;
+    Ok(Kept::Several(Box::new(alloc, several)?))
 }

@@ -1,5 +1,5 @@
--- How waiters are kept: one in place, a few in a row, and the others in order.
-use Rattle.std.specs.Prelude.{◌≡◌, Bool, true, false, List, ◌∷◌, Option}
+-- Waiters as a map: which change they make, and which of them is the next.
+use Rattle.std.specs.Prelude.{◌≡◌, Bool, true, false, List, Option}
 use Rattle.std.specs.Prelude.{Some, None, IsSome, if◌then◌else◌}
 use Rattle.std.specs.declared.cmp.Ordering.{Ordering}
 use Rattle.std.specs.Ordering.{is_gt}
@@ -11,11 +11,6 @@ use Rattle.cfg_model.specs.Builder.Waiter.{waiter_cmp}
 -- The waiters, true for one that was told.
 abbrev pub WaiterMap : Type 0
 WaiterMap = maps.FinMap waiter_cmp Bool
-
--- The pair in place, if there is one, and behind it those in the row.
-abbrev pub front : {A : Type 0} → Option A → List A → List A
-front None es = es
-front (Some e) es = e ∷ es
 
 -- No waiter of these pairs is in the crowd.
 abbrev pub AreAway : List (Waiter × Bool) → WaiterMap → Type 0

@@ -1,18 +1,28 @@
-use Rattle.std.proofs.Common.{sym, ap, subst, ◌≡◌, ◌∙◌}
-use Rattle.std.proofs.Common.{false}
-use Rattle.std.specs.Prelude.{Some}
-use Rattle.std.specs.FinMap.{find}
+use Rattle.std.proofs.Common.{[], ◌∷◌, sym, subst}
+use Rattle.std.specs.Prelude.{Option, None}
+use Rattle.cfg_model.specs.declared.state.Waiter.{Waiter}
 use Rattle.cfg_model.specs.Builder.Waiter.{waiter_cmp}
 use Rattle.core_state.specs.Least.{IsLeastBy}
+use Rattle.core_state.specs.inner.InPlace.{pair_of}
 use Rattle.core_state.specs.inner.Waiting.{AwaitsTelling, lesser_by}
-use Rattle.core_state.proofs.WaitersKept.{Row, least_of_all, slice_is}
+use Rattle.core_state.proofs.InPlace.{seen_as, apart_as, least_in_place, least_of_two}
 use Rattle.core_state.proofs.waiters.Waiters.next_untold.Goals as goal
 
-pub returns : goal.returns
-returns c =
-    subst (λ o. IsLeastBy waiter_cmp (AwaitsTelling c.args.self.now) o) (sym (c.lesser-2.ensures ∙ ap (λ o. lesser_by waiter_cmp o c.next_untold.result) c.lesser.ensures))
-    (least_of_all c.self.inside.first c.self.inside.few.items c.self.inside.crowd c.args.self.now c.self.view_is c.self.invariant.0 c.self.invariant.1
-    c.untold_among-first.result c.untold_among-few.result c.next_untold.result
-    (subst (λ (row : Row). IsLeastBy waiter_cmp (λ w. find waiter_cmp w row ≡ Some false) c.untold_among-first.result) (slice_is c.self.inside.first c.as_slice.result.now c.as_slice.ensures) c.untold_among-first.ensures)
-    (subst (λ (row : Row). IsLeastBy waiter_cmp (λ w. find waiter_cmp w row ≡ Some false) c.untold_among-few.result) c.as_slice-2.ensures.value c.untold_among-few.ensures)
-    c.next_untold.ensures)
+pub returns-in-Nobody : goal.returns-in-Nobody
+returns-in-Nobody c =
+    least_in_place [] c.args.self.now (seen_as _ _ c.in-Nobody.is c.args.self.now c.self.view_is) None (λ w h. cc h)
+
+pub returns-in-One : goal.returns-in-One
+returns-in-One c =
+    least_in_place (pair_of c.in-One.note c.in-One.terminator ∷ []) c.args.self.now (seen_as _ _ c.in-One.is c.args.self.now c.self.view_is)
+    c.untold.result c.untold.ensures
+
+pub returns-in-Two : goal.returns-in-Two
+returns-in-Two c =
+    let first = pair_of c.in-Two.first_note c.in-Two.first in
+    let second = pair_of c.in-Two.second_note c.in-Two.second in
+    subst (λ (o : Option Waiter). IsLeastBy waiter_cmp (AwaitsTelling c.args.self.now) o) (sym c.lesser.ensures)
+    (least_in_place (first ∷ second ∷ []) c.args.self.now (seen_as _ _ c.in-Two.is c.args.self.now c.self.view_is)
+    (lesser_by waiter_cmp c.untold-in-Two.result c.untold-in-Two-2.result)
+    (least_of_two first second (apart_as _ _ c.in-Two.is c.self.invariant) c.untold-in-Two.result c.untold-in-Two-2.result
+    c.untold-in-Two.ensures c.untold-in-Two-2.ensures))

@@ -5,8 +5,8 @@ use Rattle.std.specs.FinMap.{find}
 use Rattle.cfg_model.specs.Builder.Waiter.{waiter_cmp}
 use Rattle.core_state.specs.Least.{IsLeastBy}
 use Rattle.core_state.proofs.WaitersKept.{none_yet, whole_row, passed_told, passed_untold}
-use Rattle.core_state.proofs.waiters.untold_among.Goals as goal
-use Rattle.core_state.proofs.waiters.untold_among.Goals.{then-not-told, else-not-told}
+use Rattle.core_state.proofs.row.untold_among.Goals as goal
+use Rattle.core_state.proofs.row.untold_among.Goals.{then-not-told, else-not-told}
 
 pub loop-w-init : goal.loop-w-init
 loop-w-init c = none_yet c.args.row.now

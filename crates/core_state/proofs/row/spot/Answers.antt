@@ -3,7 +3,7 @@ use Rattle.std.specs.Prelude.{IfSome, IfNone, None}
 use Rattle.std.specs.FinMap.{find}
 use Rattle.core_state.specs.inner.Pairs.{IsFirstAt}
 use Rattle.core_state.proofs.DerivedOrder.{derived_order}
-use Rattle.core_state.proofs.waiters.spot.Goals as goal
+use Rattle.core_state.proofs.row.spot.Goals as goal
 
 pub returns-clause-some : goal.returns-clause-some
 returns-clause-some c = subst (λ R. IfSome c.place_of.result (IsFirstAt R c.args.row.now c.args.w)) derived_order c.place_of.ensures.some
