@@ -1,6 +1,6 @@
 -- What is known of a kept state is known of addresses of 64 bits; and what less there is to do.
 use Rattle.std.proofs.Common.{◌≡◌, ℕ, ◌+◌, ◌*◌, ◌^◌, ◌<◌, List, true, false, refl, subst, sym, ap, arith}
-use Rattle.std.specs.Prelude.{Option, Some, None, IsSome, IsTrue, is_some, MatchOption}
+use Rattle.std.specs.Prelude.{Option, Some, None, IsSome, IsTrue, is_some}
 use Rattle.std.specs.Option.{option_map, option_map_or}
 use mathlib.Core.Logic.{inr}
 use Rattle.std.specs.FinMap as maps
@@ -16,7 +16,7 @@ use Rattle.cfg_model.specs.Builder.Left.{Work, IsLeft}
 use Rattle.core_state.specs.Least.{IsLeast}
 use Rattle.core_state.specs.Reads.{done_at, IsNextToTell}
 use Rattle.core_state.specs.Place.{WhereTold}
-use Rattle.work_ops.specs.Going.{MovesFirst, TellsNext}
+use Rattle.work_ops.specs.Going.{MovesFirst}
 use Rattle.work_ops.specs.inner.Measure.{work_left}
 use Rattle.work_ops.specs.inner.Working.{Lowers, to_do}
 use Rattle.work_ops.proofs.Reasons.{leader_stands}
@@ -88,17 +88,8 @@ module _ (map : InstructionMap) (seeds : List ℕ) (lawful : IsLawful map) (are 
     pub move_less : (k x : ℕ) → k < 2 ^ 64 → IsLeast (IsMoved old.ends k) (Some x) → WhereTold (MovesFirst map k) (Some old) (Some new) → Lowers old new
     move_less k x fits least (state, told, moves) = move_by k x fits least state told moves
 
-    tell_by : (k : ℕ) (w : Waiter) → k < 2 ^ 64 → IsNextToTell old.terminators k (Some w) → (next : Option Waiter) → IsNextToTell old.terminators k next → MatchOption next (new ≡ old) (λ v. IsTold new.terminators k v) → Lowers old new
-    tell_by k w fits one None other told = absurd (other w one.0)
-    tell_by k w fits one (Some v) other told = tell_lowers map old new more k v fits (waiter_below old kept k v (ap is_some other.0.1)) other.0.1 told
-
-    tell_then : (k : ℕ) (w : Waiter) → k < 2 ^ 64 → IsNextToTell old.terminators k (Some w) → (state : BuilderState) → Some new ≡ Some state → TellsNext k old state → Lowers old new
-    tell_then k w fits one state is tells =
-        let same : TellsNext k old new = subst (λ (s : BuilderState). TellsNext k old s) (sym (same_told new state is)) tells in
-        tell_by k w fits one same.0 same.1 same.2
-
-    pub tell_less : (k : ℕ) (w : Waiter) → k < 2 ^ 64 → IsNextToTell old.terminators k (Some w) → WhereTold (TellsNext k) (Some old) (Some new) → Lowers old new
-    tell_less k w fits one (state, is, tells) = tell_then k w fits one state is tells
+    pub tell_less : (k : ℕ) (w : Waiter) → k < 2 ^ 64 → IsNextToTell old.terminators k (Some w) → IsTold new.terminators k w → Lowers old new
+    tell_less k w fits next told = tell_lowers map old new more k w fits (waiter_below old kept k w (ap is_some next.0.1)) next.0.1 told
 
 -- What there is to do.
 

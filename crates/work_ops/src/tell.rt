@@ -32,15 +32,17 @@ pub fn tell_op<J: Job, P: Place<J>, C: Chains>(
     ensures busy { IfErr result (RoseIfBusy (P.busies place.old) (P.busies place.new)) }
     ensures told { OnOk result (WhereTold (TellsNext k) (P.maps place.old) (P.maps place.new)) }
 {
-    ask::<J, C>(code, k);
     match place.untold(k)? {
-        Some(w) => tell::<J, P, C>(place, code, k, w),
+        Some(w) => {
+            ask::<J, C>(code, k);
+            tell::<J, P, C>(place, code, k, w)
+        }
         None => Ok(()),
     }
 }
 
 /// Gives the waiter `w` of `k` what it waits for, and notes that it was told.
-fn tell<J: Job, P: Place<J>, C: Chains>(
+pub(crate) fn tell<J: Job, P: Place<J>, C: Chains>(
     place: &mut P,
     code: &C,
     k: u64,

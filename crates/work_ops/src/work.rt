@@ -10,7 +10,8 @@ ghost use Rattle.work_ops.specs.inner.Working.{Continues, Lowers, to_do};
 
 use crate::code::ask;
 use crate::desk::Desk;
-use crate::{edges_op, move_op, parse_op, tell_op, want_op};
+use crate::tell::tell;
+use crate::{edges_op, move_op, parse_op, want_op};
 use cfg_model::{Chains, Mark};
 use core_state::{Job, Name, PlaceEnd, WorkKind};
 
@@ -142,9 +143,11 @@ fn place_next<J: Job, C: Chains>(desk: &mut Desk, code: &C, k: u64) -> Result<()
     ensures left { OnOk result (IsLeft J.seeds desk.old.state.maps (Work.Move k)
         → Lowers desk.old.state.maps desk.new.state.maps) }
 {
-    ask::<J, C>(code, k);
     match desk.state.moved(k) {
-        Some(_) => move_op::<J, Desk, C>(desk, code, k),
+        Some(_) => {
+            ask::<J, C>(code, k);
+            move_op::<J, Desk, C>(desk, code, k)
+        }
         None => Ok(()),
     }
 }
@@ -177,9 +180,11 @@ fn tell_next<J: Job, C: Chains>(desk: &mut Desk, code: &C, k: u64) -> Result<(),
     ensures left { OnOk result (IsLeft J.seeds desk.old.state.maps (Work.Tell k)
         → Lowers desk.old.state.maps desk.new.state.maps) }
 {
-    ask::<J, C>(code, k);
     match desk.state.untold(k) {
-        Some(_) => tell_op::<J, Desk, C>(desk, code, k),
+        Some(w) => {
+            ask::<J, C>(code, k);
+            tell::<J, Desk, C>(desk, code, k, w)
+        }
         None => Ok(()),
     }
 }

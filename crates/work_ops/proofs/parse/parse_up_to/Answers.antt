@@ -1,4 +1,4 @@
-use Rattle.std.proofs.Common.{sym, subst}
+use Rattle.std.proofs.Common.{subst}
 use Rattle.cfg_model.specs.Builder.Event.{Event}
 use Rattle.cfg_model.specs.Builder.Fact.{Fact}
 use Rattle.cfg_model.proofs.Program.ChainEnds.{one_end}
