@@ -1,15 +1,18 @@
 -- The bases of the jumps seen so far.
-use Rattle.std.proofs.Common.{◌≡◌, ℕ, ◌+◌, ◌<◌, List, [], ◌∷◌, ◌++◌, length, get_or, Some, None, sym, ap, ◌∙◌, subst, inl, inr, arith}
+use Rattle.std.proofs.Common.{◌≡◌, ℕ, ◌+◌, ◌<◌, List, [], ◌∷◌, ◌++◌, length, get_or, Some, sym, ap, ◌∙◌, subst, inl, inr, ⊎_elim, arith}
 use Rattle.std.specs.Prelude.{Contains}
 use Rattle.std.specs.List.Sorted.{IsPermutation}
-use Rattle.std.proofs.lemmas.List.{get_or_default}
+use Rattle.std.proofs.lemmas.List.{get_or_default, get_or-map}
+use Rattle.std.proofs.Math.ListN.{length-map}
 use Rattle.std.proofs.lemmas.List.Elements.{Contains-get_or, Contains-append_left, Contains-push, Contains-push_cases}
 use Rattle.std.proofs.lemmas.List.Sorted.{Contains-permutation, IsPermutation-sym}
-use Rattle.std.proofs.lemmas.Option.{same_Some, none-some}
+use Rattle.std.proofs.lemmas.Option.{same_Some}
 use borrow.Author.Count.{below_more}
 use Rattle.jump_table.specs.declared.table.Table.{Table}
 use Rattle.jump_table.specs.Table.{table_at}
-use Rattle.table_trim.specs.Inner.{IsBaseOf, AreBases}
+use Rattle.jump_table.proofs.Targets.{is_table}
+use Rattle.table_trim.specs.declared.jumps.TableJump.{TableJump}
+use Rattle.table_trim.specs.Inner.{IsBaseOf, AreBases, AreTablesOf, addresses_of}
 
 -- The base of the table of jump k is there.
 abbrev pub HasBase : List ℕ → List ℕ → List ℕ → ℕ → Type 0
@@ -31,13 +34,6 @@ module _ (bytes jumps : List ℕ) where
     -- jump i, whichever number stands for what is past the end
     jump_at : (d : ℕ) → get_or jumps i d ≡ get_or jumps i e
     jump_at d = get_or_default jumps i d e inside
-
-    pub found-nothing : table_at bytes (get_or jumps i e) ≡ None → AreFound bytes jumps bases (i + 1)
-    found-nothing none = record {
-      sound = before.sound;
-      complete = below_more (HasBase bytes jumps bases) i before.complete (λ d table at.
-          absurd (none-some table (sym none ∙ ap (table_at bytes) (sym (jump_at d)) ∙ at)));
-    }
 
     pub found-one : (found : Table) → table_at bytes (get_or jumps i e) ≡ Some found → AreFound bytes jumps (bases ++ found.base ∷ []) (i + 1)
     found-one found is = record {
@@ -62,3 +58,37 @@ found-all bytes jumps bases ordered i all permuted found = record {
       let there = found.complete k below is.jump is.table (ap (table_at bytes) is.counts.2 ∙ is.at_jump) in
       Contains-permutation bases ordered b permuted (subst (Contains bases) is.base there);
 }
+
+-- ---- with the tables that were found
+
+module _ (jumps : List TableJump) where
+  pub same_length : length (addresses_of jumps) ≡ length jumps
+  same_length = length-map jumps (λ (f : TableJump). f.jump)
+
+  module _ (i e : ℕ) (d : TableJump) (inside : i < length jumps) where
+    pub jump_is : get_or (addresses_of jumps) i e ≡ (get_or jumps i d).jump
+    jump_is = get_or-map (λ (f : TableJump). f.jump) jumps i d e inside
+
+    pub table_is : (bytes : List ℕ) → AreTablesOf bytes jumps → table_at bytes (get_or (addresses_of jumps) i e) ≡ Some (get_or jumps i d).table
+    table_is bytes are = ap (table_at bytes) jump_is ∙ are i d inside
+
+    -- Its entries have a width.
+    pub some_width : (bytes : List ℕ) → AreTablesOf bytes jumps → 0 < (get_or jumps i d).table.width
+    some_width bytes are =
+        let table = is_table bytes (get_or jumps i d).jump (get_or jumps i d).table (are i d inside) in
+        ⊎_elim (λ four. omega (arith, four)) (λ eight. omega (arith, eight)) table.width
+
+  -- What the bases are once the first i jumps were seen.
+  abbrev pub HaveBases : List ℕ → ℕ → Type 0
+  HaveBases bases i = (bytes : List ℕ) → AreTablesOf bytes jumps → AreFound bytes (addresses_of jumps) bases i
+
+  pub bases-none : HaveBases [] 0
+  bases-none bytes are = found-none bytes (addresses_of jumps)
+
+  pub bases-one : (bases : List ℕ) (i : ℕ) (d : TableJump) → i < length jumps → HaveBases bases i → HaveBases (bases ++ (get_or jumps i d).table.base ∷ []) (i + 1)
+  bases-one bases i d inside before bytes are =
+      found-one bytes (addresses_of jumps) bases i 0 (omega (arith, inside, same_length)) (before bytes are) (get_or jumps i d).table (table_is i 0 d inside bytes are)
+
+  pub bases-all : (bases ordered : List ℕ) (i : ℕ) → i ≡ length jumps → IsPermutation bases ordered → HaveBases bases i → (bytes : List ℕ) → AreTablesOf bytes jumps → AreBases bytes (addresses_of jumps) ordered
+  bases-all bases ordered i all permuted found bytes are =
+      found-all bytes (addresses_of jumps) bases ordered i (omega (arith, all, same_length)) permuted (found bytes are)

@@ -2,20 +2,22 @@
 use Rattle.std.proofs.Common.{◌≡◌, ◌≢◌, ℕ, ◌+◌, ◌<◌, ◌≤◌, ◌⊎◌, List, length, get_or, Option, Some, None, refl, sym, ap, ◌∙◌, subst, inl, inr, arith}
 use Rattle.std.specs.Prelude.{Contains}
 use Rattle.std.specs.FinMap as map
-use Rattle.std.specs.Option.{option_map, MatchOption}
+use Rattle.std.specs.Option.{option_map}
 use Rattle.std.specs.Ordering.{nat_cmp}
 use Rattle.std.proofs.lemmas.List.{get_or_default}
 use Rattle.std.proofs.lemmas.List.Elements.{Contains-get_or}
-use Rattle.std.proofs.lemmas.Option.{same_Some, none-some, MatchOption-at_some}
+use Rattle.std.proofs.lemmas.Option.{same_Some, none-some}
 use Rattle.std.proofs.Math.Nat.{le-max_left}
 use borrow.Author.Count.{below_more}
 use Rattle.jump_table.specs.declared.table.Table.{Table}
 use Rattle.jump_table.specs.Table.{table_at}
 use Rattle.cfg_model.specs.Program.Cuts.{Extent, IsBaseInside, IsCutTo, AreCuts, kept_before}
 use Rattle.cfg_model.proofs.Builder.MapFacts.{same_or_other, get_here, get_apart}
-use Rattle.code_view.specs.Cuts.{Counts, cut_of, CutsFit, CanBeKept}
+use Rattle.code_view.specs.Cuts.{Counts, cut_of, CutsFit}
 use Rattle.table_trim.specs.Extents.{extent_of, extent_at}
-use Rattle.table_trim.specs.Inner.{IsBaseOf, AreBases, IsInside, IsCutBy, CutBy, JumpCutBy}
+use Rattle.table_trim.specs.declared.jumps.TableJump.{TableJump}
+use Rattle.table_trim.specs.Inner.{IsBaseOf, AreBases, IsInside, IsCutBy, CutBy, AreTablesOf, addresses_of}
+use Rattle.table_trim.proofs.Found.{same_length, jump_is, table_is}
 
 -- A jump whose table is cut to this many entries.
 pub record IsCutJump (bytes jumps bases : List ℕ) (j kept : ℕ) : Type 0 where
@@ -33,23 +35,11 @@ pub record AreSettled (bytes jumps bases : List ℕ) (cuts : Counts) (i : ℕ) :
   pub sound : (j kept : ℕ) → cut_of cuts j ≡ Some kept → IsCutJump bytes jumps bases j kept
   pub complete : (k : ℕ) → k < i → IsSettled bytes jumps bases cuts k
 
+-- What a cut leaves is one entry at least.
+pub some_kept : (bases : List ℕ) (table : Extent) (kept : ℕ) → IsCutBy bases table kept → 1 ≤ kept
+some_kept bases table kept cut = subst (λ n. 1 ≤ n) (sym cut.entries) (le-max_left 1 _)
+
 -- ---- one jump
-
--- A jump that is cut has a table, and the cut is that of the table.
-pub cut-by : (bytes bases : List ℕ) (j : ℕ) (o : Option ℕ) → JumpCutBy bytes bases j o → (table : Table) → table_at bytes j ≡ Some table → CutBy bases (extent_of table) o
-cut-by bytes bases j o is table at = MatchOption-at_some (o ≡ None) (λ t. CutBy bases (extent_of t) o) table at is
-
-pub record HasCut (bytes bases : List ℕ) (j kept : ℕ) : Type 0 where
-  pub table : Table
-  pub at_jump : table_at bytes j ≡ Some table
-  pub cut : IsCutBy bases (extent_of table) kept
-
-pub has-cut : (bytes bases : List ℕ) (j kept : ℕ) → JumpCutBy bytes bases j (Some kept) → HasCut bytes bases j kept
-has-cut bytes bases j kept is = go (table_at bytes j) refl is
-  where
-    go : (o : Option Table) → table_at bytes j ≡ o → MatchOption o (Some kept ≡ None) (λ t. CutBy bases (extent_of t) (Some kept)) → HasCut bytes bases j kept
-    go None at h = absurd (none-some kept (sym h))
-    go (Some table) at h = record { table = table; at_jump = at; cut = h }
 
 module _ (bytes jumps bases : List ℕ) where
   pub settled-none : AreSettled bytes jumps bases map.empty 0
@@ -71,67 +61,66 @@ module _ (bytes jumps bases : List ℕ) where
     jump_at : (d : ℕ) → get_or jumps i d ≡ get_or jumps i e
     jump_at d = get_or_default jumps i d e inside
 
-    pub settled-uncut : JumpCutBy bytes bases (get_or jumps i e) None → AreSettled bytes jumps bases cuts (i + 1)
-    settled-uncut none = record {
-      sound = before.sound;
-      complete = below_more (IsSettled bytes jumps bases cuts) i before.complete (λ d table at.
-          uncut cuts (get_or jumps i d) (before.sound (get_or jumps i d)) table at
-          (cut-by bytes bases (get_or jumps i d) None (subst (λ j. JumpCutBy bytes bases j None) (sym (jump_at d)) none) table at)
-          (cut_of cuts (get_or jumps i d)) refl);
-    }
+    module _ (found : Table) (is : table_at bytes (get_or jumps i e) ≡ Some found) where
+      same_table : (q : ℕ) (table : Table) → table_at bytes q ≡ Some table → q ≡ get_or jumps i e → found ≡ table
+      same_table q table at same = same_Some found table (sym is ∙ ap (table_at bytes) (sym same) ∙ at)
 
-    module _ (kept : ℕ) (is : JumpCutBy bytes bases (get_or jumps i e) (Some kept)) where
-      abbrev after : Counts
-      after = map.insert cuts (get_or jumps i e) kept
-
-      sound-at : (q n : ℕ) → (q ≡ get_or jumps i e) ⊎ (q ≢ get_or jumps i e) → cut_of after q ≡ Some n → IsCutJump bytes jumps bases q n
-      sound-at q n (inl same) at =
-          let h = has-cut bytes bases (get_or jumps i e) kept is in
-          let value : kept ≡ n = same_Some kept n (sym (get_here cuts (get_or jumps i e) kept) ∙ ap (cut_of after) (sym same) ∙ at) in
-          record {
-            counts = subst (Contains jumps) (sym same) (Contains-get_or jumps i e inside);
-            table = h.table;
-            at_jump = ap (table_at bytes) same ∙ h.at_jump;
-            cut = subst (IsCutBy bases (extent_of h.table)) value h.cut;
-          }
-      sound-at q n (inr other) at = before.sound q n (sym (get_apart cuts (get_or jumps i e) kept q other) ∙ at)
-
-      settled-at : (q : ℕ) (table : Table) → table_at bytes q ≡ Some table → (q ≡ get_or jumps i e) ⊎ ((q ≢ get_or jumps i e) × CutBy bases (extent_of table) (cut_of cuts q)) → CutBy bases (extent_of table) (cut_of after q)
-      settled-at q table at (inl same) =
-          let cut = cut-by bytes bases (get_or jumps i e) (Some kept) is table (ap (table_at bytes) (sym same) ∙ at) in
-          subst (CutBy bases (extent_of table)) (sym (ap (cut_of after) same ∙ get_here cuts (get_or jumps i e) kept)) cut
-      settled-at q table at (inr other) = subst (CutBy bases (extent_of table)) (sym (get_apart cuts (get_or jumps i e) kept q other.0)) other.1
-
-      by_case : (q : ℕ) (P : Type 0) → P → (q ≡ get_or jumps i e) ⊎ (q ≢ get_or jumps i e) → (q ≡ get_or jumps i e) ⊎ ((q ≢ get_or jumps i e) × P)
-      by_case q P p (inl same) = inl same
-      by_case q P p (inr other) = inr (other, p)
-
-      pub settled-cut : AreSettled bytes jumps bases after (i + 1)
-      settled-cut = record {
-        sound = λ q n at. sound-at q n (same_or_other q (get_or jumps i e)) at;
-        complete = below_more (IsSettled bytes jumps bases after) i
-            (λ k below d table at. settled-at (get_or jumps k d) table at
-            (by_case (get_or jumps k d) _ (before.complete k below d table at) (same_or_other (get_or jumps k d) (get_or jumps i e))))
-            (λ d table at. settled-at (get_or jumps i d) table at (inl (jump_at d)));
+      pub settled-uncut : CutBy bases (extent_of found) None → AreSettled bytes jumps bases cuts (i + 1)
+      settled-uncut none = record {
+        sound = before.sound;
+        complete = below_more (IsSettled bytes jumps bases cuts) i before.complete (λ d table at.
+            uncut cuts (get_or jumps i d) (before.sound (get_or jumps i d)) table at
+            (subst (λ t. CutBy bases (extent_of t) None) (same_table (get_or jumps i d) table at (jump_at d)) none)
+            (cut_of cuts (get_or jumps i d)) refl);
       }
+
+      module _ (kept : ℕ) (cut : CutBy bases (extent_of found) (Some kept)) where
+        abbrev after : Counts
+        after = map.insert cuts (get_or jumps i e) kept
+
+        sound-at : (q n : ℕ) → (q ≡ get_or jumps i e) ⊎ (q ≢ get_or jumps i e) → cut_of after q ≡ Some n → IsCutJump bytes jumps bases q n
+        sound-at q n (inl same) at =
+            let value : kept ≡ n = same_Some kept n (sym (get_here cuts (get_or jumps i e) kept) ∙ ap (cut_of after) (sym same) ∙ at) in
+            record {
+              counts = subst (Contains jumps) (sym same) (Contains-get_or jumps i e inside);
+              table = found;
+              at_jump = ap (table_at bytes) same ∙ is;
+              cut = subst (IsCutBy bases (extent_of found)) value cut;
+            }
+        sound-at q n (inr other) at = before.sound q n (sym (get_apart cuts (get_or jumps i e) kept q other) ∙ at)
+
+        settled-at : (q : ℕ) (table : Table) → table_at bytes q ≡ Some table → (q ≡ get_or jumps i e) ⊎ ((q ≢ get_or jumps i e) × CutBy bases (extent_of table) (cut_of cuts q)) → CutBy bases (extent_of table) (cut_of after q)
+        settled-at q table at (inl same) =
+            subst (CutBy bases (extent_of table)) (sym (ap (cut_of after) same ∙ get_here cuts (get_or jumps i e) kept))
+            (subst (λ t. CutBy bases (extent_of t) (Some kept)) (same_table q table at same) cut)
+        settled-at q table at (inr other) = subst (CutBy bases (extent_of table)) (sym (get_apart cuts (get_or jumps i e) kept q other.0)) other.1
+
+        by_case : (q : ℕ) (P : Type 0) → P → (q ≡ get_or jumps i e) ⊎ (q ≢ get_or jumps i e) → (q ≡ get_or jumps i e) ⊎ ((q ≢ get_or jumps i e) × P)
+        by_case q P p (inl same) = inl same
+        by_case q P p (inr other) = inr (other, p)
+
+        pub settled-cut : AreSettled bytes jumps bases after (i + 1)
+        settled-cut = record {
+          sound = λ q n at. sound-at q n (same_or_other q (get_or jumps i e)) at;
+          complete = below_more (IsSettled bytes jumps bases after) i
+              (λ k below d table at. settled-at (get_or jumps k d) table at
+              (by_case (get_or jumps k d) _ (before.complete k below d table at) (same_or_other (get_or jumps k d) (get_or jumps i e))))
+              (λ d table at. settled-at (get_or jumps i d) table at (inl (jump_at d)));
+        }
 
 -- ---- all jumps
 
 module _ (bytes jumps bases : List ℕ) (are : AreBases bytes jumps bases) where
-  -- What a cut leaves: one entry at least, and fewer than there are.
-  pub can_be_kept : (j kept : ℕ) → HasCut bytes bases j kept → CanBeKept bytes j kept
-  can_be_kept j kept cut = record {
-    table = cut.table;
-    at_jump = cut.at_jump;
-    some = subst (λ n. 1 ≤ n) (sym cut.cut.entries) (le-max_left 1 _);
-    within = omega (arith, cut.cut.fewer);
-  }
-
   module _ (cuts : Counts) (i : ℕ) (all : i ≡ length jumps) (settled : AreSettled bytes jumps bases cuts i) where
     pub settled-fits : CutsFit bytes (cut_of cuts)
     settled-fits j kept is =
         let cut = settled.sound j kept is in
-        can_be_kept j kept (record { table = cut.table; at_jump = cut.at_jump; cut = cut.cut })
+        record {
+          table = cut.table;
+          at_jump = cut.at_jump;
+          some = some_kept bases (extent_of cut.table) kept cut.cut;
+          within = omega (arith, cut.cut.fewer);
+        }
 
     abbrev Counted : ℕ → Type 0
     Counted j = Contains jumps j
@@ -215,3 +204,36 @@ module _ (bytes jumps bases : List ℕ) (are : AreBases bytes jumps bases) where
 
     pub settled-cuts : AreCuts (extent_at bytes) (λ j. Contains jumps j) (cut_of cuts)
     settled-cuts j kept = (forward j kept, λ h. backward-at j kept h (table_at bytes j) refl)
+
+-- ---- with the tables that were found
+
+module _ (jumps : List TableJump) (bases : List ℕ) where
+  -- What the cuts are once the first i jumps were seen.
+  abbrev pub HaveCuts : Counts → ℕ → Type 0
+  HaveCuts cuts i = (bytes : List ℕ) → AreTablesOf bytes jumps → AreSettled bytes (addresses_of jumps) bases cuts i
+
+  pub cuts-none : HaveCuts map.empty 0
+  cuts-none bytes are = settled-none bytes (addresses_of jumps) bases
+
+  module _ (cuts : Counts) (i : ℕ) (d : TableJump) (inside : i < length jumps) (before : HaveCuts cuts i) where
+    within : i < length (addresses_of jumps)
+    within = omega (arith, inside, same_length jumps)
+
+    pub cuts-past : CutBy bases (extent_of (get_or jumps i d).table) None → HaveCuts cuts (i + 1)
+    cuts-past none bytes are =
+        settled-uncut bytes (addresses_of jumps) bases cuts i 0 within (before bytes are) (get_or jumps i d).table (table_is jumps i 0 d inside bytes are) none
+
+    pub cuts-one : (kept : ℕ) → CutBy bases (extent_of (get_or jumps i d).table) (Some kept) → HaveCuts (map.insert cuts (get_or jumps i d).jump kept) (i + 1)
+    cuts-one kept cut bytes are =
+        subst (λ j. AreSettled bytes (addresses_of jumps) bases (map.insert cuts j kept) (i + 1)) (jump_is jumps i 0 d inside)
+        (settled-cut bytes (addresses_of jumps) bases cuts i 0 within (before bytes are) (get_or jumps i d).table (table_is jumps i 0 d inside bytes are) kept cut)
+
+  module _ (are : (bytes : List ℕ) → AreTablesOf bytes jumps → AreBases bytes (addresses_of jumps) bases) (cuts : Counts) (i : ℕ) (all : i ≡ length jumps) (have : HaveCuts cuts i) where
+    every : i ≡ length (addresses_of jumps)
+    every = omega (arith, all, same_length jumps)
+
+    pub cuts-all : (bytes : List ℕ) → AreTablesOf bytes jumps → AreCuts (extent_at bytes) (λ j. Contains (addresses_of jumps) j) (cut_of cuts)
+    cuts-all bytes tables = settled-cuts bytes (addresses_of jumps) bases (are bytes tables) cuts i every (have bytes tables)
+
+    pub cuts-fit : (bytes : List ℕ) → AreTablesOf bytes jumps → CutsFit bytes (cut_of cuts)
+    cuts-fit bytes tables = settled-fits bytes (addresses_of jumps) bases (are bytes tables) cuts i every (have bytes tables)

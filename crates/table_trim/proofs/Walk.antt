@@ -1,13 +1,18 @@
 -- A walk over the terminators of a state, one after another, and the table jumps among those so far.
-use Rattle.std.proofs.Common.{◌≡◌, ℕ, ◌+◌, ◌<◌, ◌≤◌, ◌⊎◌, List, [], ◌∷◌, ◌++◌, Option, Some, None, sym, subst, inl, inr, ⊎_elim, arith}
+use Rattle.std.proofs.Common.{◌≡◌, ℕ, ◌+◌, ◌<◌, ◌≤◌, ◌⊎◌, List, [], ◌∷◌, ◌++◌, Option, Some, None, refl, sym, ap, ◌∙◌, subst, inl, inr, ⊎_elim, arith}
 use Rattle.std.specs.List.{Contains}
 use Rattle.std.specs.Prelude.{◌↔◌}
 use Rattle.std.proofs.lemmas.Bool.{cases_lt}
-use Rattle.std.proofs.lemmas.List.Elements.{Contains-append_left, Contains-push, Contains-push_cases}
+use Rattle.std.proofs.lemmas.List.{map-append}
+use Rattle.std.proofs.lemmas.List.Elements.{All-nil, All-push, Contains-append_left, Contains-push, Contains-push_cases}
+use Rattle.std.proofs.lemmas.Option.{none-some}
+use Rattle.jump_table.specs.declared.table.Table.{Table}
+use Rattle.jump_table.specs.Table.{table_at}
 use Rattle.cfg_model.specs.Program.Instructions.{InstructionMap, IsLawful}
 use Rattle.cfg_model.specs.Builder.State.{BuilderState, IsEntered}
 use Rattle.core_state.specs.Least.{IsAbove, IsLeast}
-use Rattle.table_trim.specs.Inner.{HasTable, IsTableJump}
+use Rattle.table_trim.specs.declared.jumps.TableJump.{TableJump}
+use Rattle.table_trim.specs.Inner.{HasTable, IsTableJump, AreTablesOf, addresses_of}
 
 -- k was passed where the walk stands at this address.
 abbrev pub IsPassed : Option ℕ → ℕ → Type 0
@@ -47,7 +52,7 @@ goes_on None k above = omega arith
 goes_on (Some a) k above = let y : a < k = above in omega arith
 
 module _ (map : InstructionMap) (bytes : List ℕ) (state : BuilderState) where
-  pub walk_begins : IsWalking map bytes state None []
+  walk_begins : IsWalking map bytes state None []
   walk_begins = record {
     lawful = tt;
     sound = λ j there. absurd (omega (arith, there.1));
@@ -65,7 +70,7 @@ module _ (map : InstructionMap) (bytes : List ℕ) (state : BuilderState) where
         let had = before.sound j there in
         let up : j < k = passed_less at j k had.0 next.0.1 in (omega arith, had.1)
 
-    pub walk_past : new ≡ old → ¬ HasTable bytes k → IsWalking map bytes state (Some k) new
+    walk_past : new ≡ old → ¬ HasTable bytes k → IsWalking map bytes state (Some k) new
     walk_past same none = record {
       lawful = lawful;
       sound = λ j there. earlier j (subst (λ (xs : List ℕ). Contains xs j) same there);
@@ -73,7 +78,7 @@ module _ (map : InstructionMap) (bytes : List ℕ) (state : BuilderState) where
           (⊎_elim (λ was. before.complete j was jump) (λ e. absurd (none (subst (HasTable bytes) e jump.1))) (up_to j jump.0 low));
     }
 
-    pub walk_takes : new ≡ old ++ k ∷ [] → HasTable bytes k → IsWalking map bytes state (Some k) new
+    walk_takes : new ≡ old ++ k ∷ [] → HasTable bytes k → IsWalking map bytes state (Some k) new
     walk_takes pushed has = record {
       lawful = lawful;
       sound = λ j there. ⊎_elim (λ had. earlier j had)
@@ -86,7 +91,7 @@ module _ (map : InstructionMap) (bytes : List ℕ) (state : BuilderState) where
 
   -- It ends where all terminators were passed.
   module _ (at : Option ℕ) (none : IsNext state at None) (jumps : List ℕ) (walk : IsWalking map bytes state at jumps) where
-    pub all_walked : (j : ℕ) → Contains jumps j ↔ IsTableJump bytes state j
+    all_walked : (j : ℕ) → Contains jumps j ↔ IsTableJump bytes state j
     all_walked j = (
       λ there. (walk.sound j there).1,
       λ jump. walk.complete j (⊎_elim (λ was. was) (λ above. absurd (none j (jump.0, above))) (passed_or_above at j)) jump,
@@ -96,6 +101,38 @@ lawful_or_none : (map : InstructionMap) (state : BuilderState) (at : Option ℕ)
 lawful_or_none map state None none lawful = inr (λ k entered. none k (entered, tt))
 lawful_or_none map state (Some a) none lawful = inl lawful
 
-pub walk_lawful : (map : InstructionMap) (bytes : List ℕ) (state : BuilderState) (at : Option ℕ) (jumps : List ℕ) → IsNext state at None → IsWalking map bytes state at jumps
+walk_lawful : (map : InstructionMap) (bytes : List ℕ) (state : BuilderState) (at : Option ℕ) (jumps : List ℕ) → IsNext state at None → IsWalking map bytes state at jumps
     → IsLawful map ⊎ ((k : ℕ) → ¬ IsEntered state.terminators k)
 walk_lawful map bytes state at jumps none walk = lawful_or_none map state at none walk.lawful
+
+-- ---- the jumps that were found, with their tables
+
+pub record IsFinding (map : InstructionMap) (bytes : List ℕ) (state : BuilderState) (at : Option ℕ) (jumps : List TableJump) : Type 0 where
+  pub tables : AreTablesOf bytes jumps
+  pub walk : IsWalking map bytes state at (addresses_of jumps)
+
+module _ (map : InstructionMap) (bytes : List ℕ) (state : BuilderState) where
+  pub finding_begins : (jumps : List TableJump) → jumps ≡ [] → IsFinding map bytes state None jumps
+  finding_begins jumps none = subst (IsFinding map bytes state None) (sym none) (record { tables = All-nil (λ (f : TableJump). table_at bytes f.jump ≡ Some f.table); walk = walk_begins map bytes state })
+
+  module _ (at : Option ℕ) (k : ℕ) (next : IsNext state at (Some k)) (lawful : IsLawful map) (old : List TableJump) (before : IsFinding map bytes state at old) where
+    pub finding_past : table_at bytes k ≡ None → IsFinding map bytes state (Some k) old
+    finding_past none = record {
+      tables = before.tables;
+      walk = walk_past map bytes state at k next lawful (addresses_of old) (addresses_of old) before.walk refl (λ has. none-some has.table (sym none ∙ has.at_jump));
+    }
+
+    pub finding_takes : (table : Table) → table_at bytes k ≡ Some table → (new : List TableJump) → new ≡ old ++ record { jump = k; table = table } ∷ [] → IsFinding map bytes state (Some k) new
+    finding_takes table is new pushed = record {
+      tables = subst (AreTablesOf bytes) (sym pushed) (All-push (λ (f : TableJump). table_at bytes f.jump ≡ Some f.table) old (record { jump = k; table = table }) before.tables is);
+      walk = walk_takes map bytes state at k next lawful (addresses_of old) (addresses_of new) before.walk
+          (ap addresses_of pushed ∙ map-append (λ (f : TableJump). f.jump) old (record { jump = k; table = table } ∷ []))
+          (record { table = table; at_jump = is });
+    }
+
+  module _ (at : Option ℕ) (none : IsNext state at None) (jumps : List TableJump) (found : IsFinding map bytes state at jumps) where
+    pub all_found : (j : ℕ) → Contains (addresses_of jumps) j ↔ IsTableJump bytes state j
+    all_found = all_walked map bytes state at none (addresses_of jumps) found.walk
+
+    pub found_lawful : IsLawful map ⊎ ((k : ℕ) → ¬ IsEntered state.terminators k)
+    found_lawful = walk_lawful map bytes state at (addresses_of jumps) none found.walk

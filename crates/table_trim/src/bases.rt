@@ -1,26 +1,24 @@
 //! The bases of jump tables, in order, and the cut of a table by them.
 
-ghost use Rattle.std.specs.Prelude.{◌≡◌, ◌<◌, IsTrue, IfOk, All};
+ghost use Rattle.std.specs.Prelude.{◌≡◌, ◌<◌, ℕ, List, IfOk};
 ghost use Rattle.std.specs.List.Sorted.{IsNonDecreasing};
-ghost use Rattle.elf_image.specs.Code.{is_code};
 ghost use Rattle.table_trim.specs.Extents.{extent_of};
-ghost use Rattle.table_trim.specs.Inner.{AreBases, CutBy};
+ghost use Rattle.table_trim.specs.Inner.{addresses_of, AreTablesOf, AreBases, CutBy};
 
-use code_view::{Code, Memory};
+use crate::jumps::TableJump;
+use code_view::Memory;
 use jump_table::Table;
 use std::alloc::Global;
 
 /// The bases of the tables of these jumps, in order.
-pub(crate) fn bases_of(alloc: Global, code: &Code<'_>, jumps: &[u64]) -> Result<Vec<u64>, Memory>
-    requires { All (λ j. IsTrue (is_code code.now.bytes j)) jumps.now }
-    ensures bases { IfOk result (λ bases. AreBases code.now.bytes jumps.now bases.items) }
+pub(crate) fn bases_of(alloc: Global, jumps: &[TableJump]) -> Result<Vec<u64>, Memory>
+    ensures bases { IfOk result (λ bases. (bytes : List ℕ)
+        → AreTablesOf bytes jumps.now → AreBases bytes (addresses_of jumps.now) bases.items) }
     ensures sorted { IfOk result (λ bases. IsNonDecreasing bases.items) }
 {
     let mut bases = Vec::new(alloc);
-    for &j in jumps {
-        if let Some(table) = code.table(j) {
-            bases.push(table.base)?;
-        }
+    for found in jumps {
+        bases.push(found.table.base)?;
     }
     bases.sort_unstable();
     Ok(bases)

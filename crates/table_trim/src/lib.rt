@@ -4,8 +4,9 @@
 //! more than belong to it. A table ends at the latest where the next one begins, so it is cut
 //! there.
 //!
-//! - `jumps`: the table jumps that a closed state shows. - `bases`: where their tables begin.
-//! - `trim`: the cuts of these tables.
+//! - `jumps`: the table jumps that a closed state shows, with their tables.
+//! - `bases`: where these tables begin.
+//! - `trim`: their cuts.
 #![tactic(auto)]
 
 mod bases;

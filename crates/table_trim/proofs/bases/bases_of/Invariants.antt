@@ -1,5 +1,5 @@
-use Rattle.table_trim.proofs.Found.{AreFound}
+use Rattle.table_trim.proofs.Found.{HaveBases}
 use Rattle.table_trim.proofs.bases.bases_of.Given as goal
 
-abbrev pub invariant-loop-j : goal.invariant-loop-j
-invariant-loop-j l = AreFound l.code.bytes l.jumps l.bases.items l.j-index
+abbrev pub invariant-loop-found : goal.invariant-loop-found
+invariant-loop-found l = HaveBases l.jumps l.bases.items l.found-index
