@@ -1,6 +1,6 @@
 //! The edges of a basic block, from its last instruction and what the state knows of the callee.
 
-ghost use Rattle.std.specs.Prelude.{◌≡◌, ◌↔◌, IsTrue, OnOk, Some};
+ghost use Rattle.std.specs.Prelude.{◌≡◌, ◌↔◌, Contains, IsTrue, OnOk, Some};
 ghost use Rattle.cfg_model.specs.Graph.Edge.{Leaves};
 ghost use Rattle.cfg_model.specs.Graph.Listing.{Gains};
 ghost use Rattle.cfg_model.specs.Program.Status.{Returns};
@@ -32,8 +32,19 @@ pub(crate) fn add_ways<C: Chains>(
         (Leaves (C.map code.now) (Returns (C.map code.now)) s k)) }
 {
     let returns = callee_returns(code, state, s, k, flow);
+    let before = edges.len();
     add_edges_by(code, s, k, flow, returns, edges)?;
+    sort_from(edges, before);
     Ok(())
+}
+
+/// Puts the edges from place `from` on into the order of a graph. Blocks are gone over in about
+/// that order, so with those of each block sorted, nearly all are in order.
+fn sort_from(edges: &mut Vec<Edge>, from: usize)
+    ensures { (edge : _) → Contains edges.new.items edge ↔ Contains edges.old.items edge }
+{
+    let from = from.min(edges.len());
+    edges[from..].sort_unstable();
 }
 
 /// Where a known address is called at `k`, the last instruction of the block of `s`: whether it

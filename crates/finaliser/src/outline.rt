@@ -1,8 +1,9 @@
 //! The blocks and edges that a closed state shows.
 
-ghost use Rattle.std.specs.Prelude.{◌⊎◌, ℕ, [], AllPairs, IfOk};
+ghost use Rattle.std.specs.Prelude.{◌≡◌, ◌⊎◌, ℕ, [], AllPairs, IfOk, IsSome, Some};
+ghost use Rattle.cfg_model.specs.Graph.Block.{IsBlockOf};
 ghost use Rattle.cfg_model.specs.Graph.Listing.{Gains};
-ghost use Rattle.cfg_model.specs.Program.Instructions.{IsLawful};
+ghost use Rattle.cfg_model.specs.Program.Instructions.{IsLawful, flow_at};
 ghost use Rattle.cfg_model.specs.Builder.State.{HasEnd, IsNear};
 ghost use Rattle.finaliser.specs.Closed.{IsClosedFromSome, IsOutlineOf};
 ghost use Rattle.finaliser.specs.Inner.Shown.{IsShownBlock, IsShownEdge, StartApart};
@@ -10,7 +11,7 @@ ghost use Rattle.finaliser.specs.Inner.Shown.{IsShownBlock, IsShownEdge, StartAp
 use crate::blocks::by_start;
 use crate::edges::add_ways;
 use crate::memory::Memory;
-use cfg_model::{Block, Blocks, Chains, Edge, Edges, block_by, edges_in_order};
+use cfg_model::{Block, Blocks, Chains, Edge, Edges, EndKind, Flow, block_by, edges_in_order};
 use core_state::State;
 use std::alloc::Global;
 
@@ -69,10 +70,28 @@ fn read_ends<C: Chains>(
         let s = start_at(state, k);
         let flow = code.flow(k);
         add_ways(code, state, s, k, flow, &mut edges)?;
-        blocks.push(block_by(code, s, k, flow))?;
+        blocks.push(block_to(code, s, k, flow))?;
         at = Some(k);
     }
     Ok((blocks, edges))
+}
+
+/// The block from `s` to the instruction at `k`, whose flow this is. Where that goes straight on,
+/// the block ends there, and nothing is asked of the program.
+fn block_to<C: Chains>(code: &C, s: u64, k: u64, flow: Flow) -> Block
+    requires stands { IsSome (C.map code.now k) }
+    requires lawful { IsLawful (C.map code.now) }
+    requires flow { flow_at (C.map code.now) k ≡ Some flow }
+    ensures { IsBlockOf (C.map code.now) s k result }
+{
+    match flow {
+        Flow::Straight { next } => Block {
+            start: s,
+            end: next,
+            kind: EndKind::Fall,
+        },
+        _ => block_by(code, s, k, flow),
+    }
 }
 
 /// The start of the block that ends at `k`.

@@ -6,7 +6,7 @@ ghost use Rattle.cfg_model.specs.Builder.State.{IsStart};
 ghost use Rattle.cfg_model.specs.Program.Status.{Returns};
 ghost use Rattle.finaliser.specs.Closed.{IsClosedFromSome};
 
-use cfg_model::{Chains, term};
+use cfg_model::Chains;
 use core_state::State;
 
 /// Whether the start `a` returns: whether the terminator of its chain is known to. It takes time
@@ -17,6 +17,5 @@ pub fn may_return<C: Chains>(code: &C, state: &State, a: u64) -> bool
     ensures lawful { IsLawful (C.map code.now) }
     ensures status { IsTrue result ↔ Returns (C.map code.now) a }
 {
-    prove!(code.has(a));
-    state.has_returned(term(code, a)) == Some(true)
+    state.has_returned(code.term(a)) == Some(true)
 }

@@ -7,9 +7,9 @@ flow-flow-requires g c = end_stands (g.C.Chains.map c.args.code.now) c.args.stat
 
 pub loop-k-preserved : goal.loop-k-preserved
 loop-k-preserved g c =
-    read_more (g.C.Chains.map c.args.code.now) c.args.state.now.maps c.loop-k.at c.start_at-s.result c.in-Some.k c.in-Some.ensures c.start_at-s.ensures c.block_by.ensures.lawful c.requires.closed
-    c.loop-k.blocks.items c.push.new.self.items c.loop-k.edges.items c.add_ways.new.edges.items c.block_by.result
-    c.loop-k.invariant c.in_ok-push.ensures.items c.block_by.ensures.block c.in_ok-add_ways.ensures
+    read_more (g.C.Chains.map c.args.code.now) c.args.state.now.maps c.loop-k.at c.start_at-s.result c.in-Some.k c.in-Some.ensures c.start_at-s.ensures c.flow-flow.ensures.lawful c.requires.closed
+    c.loop-k.blocks.items c.push.new.self.items c.loop-k.edges.items c.add_ways.new.edges.items c.block_to.result
+    c.loop-k.invariant c.in_ok-push.ensures.items c.block_to.ensures c.in_ok-add_ways.ensures
 
 pub returns-clause-blocks : goal.returns-clause-blocks
 returns-clause-blocks g c = all_blocks_read (g.C.Chains.map c.args.code.now) c.args.state.now.maps c.loop-k.at c.in_default.ensures c.loop-k.blocks.items c.loop-k.edges.items c.loop-k.invariant

@@ -1,22 +1,16 @@
-use Rattle.std.proofs.Common.{IsTrue, sym, ◌∙◌}
-use Rattle.std.proofs.lemmas.Bool.{false≢true}
+use Rattle.std.proofs.Common.{IsTrue}
 use Rattle.std.specs.Prelude.{◌↔◌}
 use Rattle.std.specs.FinMap as maps
 use Rattle.cfg_model.specs.Builder.State.{IsReturned}
 use Rattle.finaliser.proofs.Closed.{reads_return, start_returns, start_stands}
 use Rattle.finaliser.proofs.status.may_return.Goals as goal
 
-pub prove-unreachable-requires : goal.prove-unreachable-requires
-prove-unreachable-requires g c =
-    let stands = start_stands (g.C.Chains.map c.args.code.now) c.args.state.now.maps c.args.a c.requires.closed c.requires.start in
-    false≢true (sym c.if-prove.true ∙ c.has.ensures.has.1 stands)
-
-pub term-requires-after_bounds : goal.term-requires-after_bounds
-term-requires-after_bounds g c κs within = start_stands (g.C.Chains.map c.args.code.now) c.args.state.now.maps c.args.a c.requires.closed c.requires.start
+pub term-requires : goal.term-requires
+term-requires g c = start_stands (g.C.Chains.map c.args.code.now) c.args.state.now.maps c.args.a c.requires.closed c.requires.start
 
 pub returns-clause-status : goal.returns-clause-status
 returns-clause-status g c =
     let reads = reads_return (maps.get c.args.state.now.maps.terminators c.term.result) in
-    let starts = start_returns (g.C.Chains.map c.args.code.now) c.has.ensures.lawful c.args.state.now.maps c.requires.closed c.args.a c.term.result c.requires.start c.term.ensures in
+    let starts = start_returns (g.C.Chains.map c.args.code.now) c.term.ensures.lawful c.args.state.now.maps c.requires.closed c.args.a c.term.result c.requires.start c.term.ensures.term in
     let known : IsTrue c.eq.result ↔ IsReturned c.args.state.now.maps.terminators c.term.result = rw (c.eq.ensures, c.has_returned.ensures) reads in
     (λ h. starts.0 (known.0 h), λ back. known.1 (starts.1 back))
