@@ -35,7 +35,6 @@ serves_part map state blocks ways entries parts whole serves = λ i d lt.
       starts = all_part (IsStart state.starts) parts i d lt serves_all.starts;
       in_order = serves.in_order;
       listed = all_part (HasBlockAt blocks) parts i d lt serves_all.listed;
-      rising = serves.rising;
       within = serves.within;
     }
 

@@ -1,4 +1,6 @@
 pub mod Search
+pub mod EachPlace
+pub mod Entered
 pub mod Sides
 pub mod Numbers
 pub mod Stamps

@@ -1,6 +1,8 @@
 -- What is made from an outline, part by part, for the functions of a program.
-use Rattle.std.proofs.Common.{◌≡◌, ℕ, ◌<◌, List, length, get_or, sym, ◌∙◌, subst}
+use Rattle.std.proofs.Common.{◌≡◌, ℕ, ◌<◌, List, length, get_or, sym, ap, ◌∙◌, subst, inl, inr, ⊎_elim, arith}
 use Rattle.std.specs.List.{All, AllZip, Contains}
+use Rattle.std.specs.List.Sorted.{IsNonDecreasingBy}
+use Rattle.std.proofs.lemmas.Bool.{cases_eq}
 use Rattle.std.proofs.lemmas.List.Elements.{Contains-get_or}
 use Rattle.cfg_model.specs.declared.graph.Block.{Block}
 use Rattle.cfg_model.specs.declared.graph.Edge.{Edge}
@@ -22,12 +24,28 @@ pub same_outline : (map : InstructionMap) (seeds : List ℕ) (blocks shown : Lis
 same_outline map seeds blocks shown edges ways b e outline =
     subst (λ l. IsOutline map seeds l edges) (sym b) (subst (λ l. IsOutline map seeds shown l) (sym e) outline)
 
--- the targets of ways are blocks
+-- ways leave blocks, and lead to blocks
+
+pub ways_leave : (blocks : List Block) (edges : List Edge) (entries : List ℕ) (ways : List Way) → AreWaysOf blocks entries edges ways → All (λ way. way.from < length blocks) ways
+ways_leave blocks edges entries ways they = λ k d lt. (they.sound (get_or ways k d) (Contains-get_or ways k d lt)).2.leaves.within
+
 pub ways_within : (blocks : List Block) (edges : List Edge) (entries : List ℕ) (ways given : List Way) → given ≡ ways → AreWaysOf blocks entries edges ways → All (λ way. way.to < length blocks) given
 ways_within blocks edges entries ways given same they = λ k d lt.
     let way : Way = get_or given k d in
     let listed : Contains ways way = subst (λ l. Contains l way) same (Contains-get_or given k d lt) in
     (they.sound way listed).2.leads.within
+
+-- edges in order are in the order of what they come from
+pub edges_rise : (map : InstructionMap) (seeds : List ℕ) (blocks : List Block) (edges : List Edge) → IsOutline map seeds blocks edges → IsNonDecreasingBy (λ edge. edge.from) edges
+edges_rise map seeds blocks edges outline = λ i j d le within.
+    elim (cases_eq i j) [
+      | inl e ↦ let same : (get_or edges i d).from ≡ (get_or edges j d).from = ap (λ n. (get_or edges n d).from) e in omega arith
+      | inr ne ↦
+          ⊎_elim
+          (λ (less : (get_or edges i d).from < (get_or edges j d).from). omega arith)
+          (λ same. let from : (get_or edges i d).from ≡ (get_or edges j d).from = same.0 in omega arith)
+          (outline.all_edges.in_order i j d (omega arith) within)
+    ]
 
 module _ (map : InstructionMap) (seeds : List ℕ) (lawful : IsLawful map) (state : BuilderState) (closed : IsClosed map seeds state)
     (blocks : List Block) (edges : List Edge) (outline : IsOutline map seeds blocks edges) where

@@ -4,7 +4,6 @@
 ghost use Rattle.std.specs.Prelude.{◌≡◌, ◌↔◌, ℕ, ◌<◌, ◌≤◌, All, AllPairs};
 ghost use Rattle.std.specs.Prelude.{Contains, IfOk, OnOk, IsTrue, length};
 ghost use Rattle.std.specs.List.{AllZip};
-ghost use Rattle.std.specs.List.Sorted.{IsNonDecreasingBy};
 ghost use Rattle.cfg_model.specs.Graph.Listing.{Extends};
 ghost use Rattle.cfg_model.specs.Graph.Graph.{BlockBefore};
 ghost use Rattle.func_bodies.specs.Inner.Ways.{IsNumber, Stays, StaysTo, StaysAmong, InBodyBy};
@@ -13,23 +12,22 @@ ghost use Rattle.func_bodies.specs.Inner.Bodies.{IsBodyBy};
 
 use crate::found::Found;
 use crate::memory::Memory;
-use crate::ways::{Way, ways_from};
+use crate::ways::{Way, Ways};
 use cfg_model::Block;
 use std::alloc::Global;
 
 /// The starts of the blocks of the function that starts at block `entry`, rising. Its stamp is
-/// above all that were used before. The time is linear in the ways from these blocks, but for a
-/// search among all ways at each block, and for sorting them.
+/// above all that were used before. The time is linear in the ways from these blocks, but for
+/// sorting the blocks.
 pub(crate) fn body_of(
     alloc: Global,
     blocks: &[Block],
-    ways: &[Way],
+    ways: &Ways,
     entry: usize,
     stamp: u32,
     found: &mut Found,
 ) -> Result<Vec<u64>, Memory>
     requires blocks { AllPairs BlockBefore blocks.now }
-    requires rising { IsNonDecreasingBy (λ way. way.from) ways.now }
     requires within { All (λ way. way.to < length blocks.now) ways.now }
     requires entry { entry < length blocks.now }
     requires as_many { length found.old.stamps.items ≡ length blocks.now }
@@ -56,8 +54,7 @@ fn starts_of(alloc: Global, blocks: &[Block], numbers: &[usize]) -> Result<Vec<u
 }
 
 /// Finds the blocks of the function that starts at block `entry`.
-fn find(ways: &[Way], entry: usize, stamp: u32, found: &mut Found) -> Result<(), Memory>
-    requires rising { IsNonDecreasingBy (λ way. way.from) ways.now }
+fn find(ways: &Ways, entry: usize, stamp: u32, found: &mut Found) -> Result<(), Memory>
     requires within { All (λ way. way.to < length found.old.stamps.items) ways.now }
     requires entry { entry < length found.old.stamps.items }
     requires new { All (λ s. s < stamp) found.old.stamps.items }
@@ -69,7 +66,7 @@ fn find(ways: &[Way], entry: usize, stamp: u32, found: &mut Found) -> Result<(),
     found.begin(stamp, entry)?;
     let mut i = 0;
     while i < found.order.len() {
-        let from_here = ways_from(ways, found.order[i]);
+        let from_here = ways.from_block(found.order[i]);
         add_targets(from_here, entry, stamp, found)?;
         i += 1;
     }

@@ -1,12 +1,14 @@
 //! The entries of functions.
 
-ghost use Rattle.std.specs.Prelude.{◌↔◌, ℕ, Contains, IfOk, IsTrue, OnOk};
+ghost use Rattle.std.specs.Prelude.{◌↔◌, ℕ, ◌<◌, ◌≤◌, AllPairs, Contains, IfOk, IsTrue, OnOk};
+ghost use Rattle.std.specs.Prelude.{length, slice_index};
 ghost use Rattle.std.specs.List.Sorted.{IsStrictlyIncreasing};
 ghost use Rattle.cfg_model.specs.Graph.Listing.{Gains};
-ghost use Rattle.func_bodies.specs.Inner.Entries.{CallsTo, AreCalledBy, AreEntriesBy};
+ghost use Rattle.cfg_model.specs.Graph.Graph.{BlockBefore};
+ghost use Rattle.func_bodies.specs.Inner.Entries.{CallsTo, AreCalledBy, AreEntriesBy, AreEntered};
 
 use crate::memory::Memory;
-use cfg_model::{Edge, EdgeKind};
+use cfg_model::{Block, Edge, EdgeKind};
 use std::alloc::Global;
 
 /// The seeds and the targets of calls among these edges, rising, each once.
@@ -46,6 +48,41 @@ fn rising(mut addresses: Vec<u64>) -> Vec<u64>
     addresses.sort_unstable();
     addresses.dedup();
     addresses
+}
+
+/// For each of these blocks, whether one of these entries stands at its start. It takes time linear
+/// in both.
+pub(crate) fn entered_of(
+    alloc: Global,
+    blocks: &[Block],
+    entries: &[u64],
+) -> Result<Vec<bool>, Memory>
+    requires blocks { AllPairs BlockBefore blocks.now }
+    requires entries { IsStrictlyIncreasing entries.now }
+    ensures { IfOk result (λ v. AreEntered blocks.now entries.now v.items) }
+{
+    let mut entered = Vec::with_capacity(alloc, blocks.len())?;
+    let mut next = 0;
+    for block in blocks {
+        next = entry_from(entries, next, block.start);
+        entered.push(next < entries.len() && entries[next] == block.start)?;
+    }
+    Ok(entered)
+}
+
+/// The place of the first of these rising entries that is at least `a`, or their end. It is `i`, or
+/// lies behind it.
+fn entry_from(entries: &[u64], mut i: usize, a: u64) -> usize
+    requires within { i ≤ length entries.now }
+    requires before { (k : ℕ) → k < i → slice_index entries.now k < a }
+    ensures within { result ≤ length entries.now }
+    ensures before { (k : ℕ) → k < result → slice_index entries.now k < a }
+    ensures there { result < length entries.now → a ≤ slice_index entries.now result }
+{
+    while i < entries.len() && entries[i] < a {
+        i += 1;
+    }
+    i
 }
 
 /// Whether the rising list `addresses` has `a`.

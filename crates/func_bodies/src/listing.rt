@@ -2,7 +2,6 @@
 
 ghost use Rattle.std.specs.Prelude.{◌≡◌, ℕ, ◌<◌, ◌≤◌, All, AllPairs, IfOk, OnOk, length};
 ghost use Rattle.std.specs.List.{AllZip};
-ghost use Rattle.std.specs.List.Sorted.{IsNonDecreasingBy};
 ghost use Rattle.cfg_model.specs.Program.Instructions.{IsLawful};
 ghost use Rattle.cfg_model.specs.Graph.Function.{IsFunction};
 ghost use Rattle.cfg_model.specs.Graph.Graph.{BlockBefore, FunctionBefore};
@@ -17,7 +16,7 @@ use crate::bodies::body_of;
 use crate::entries::entries_of;
 use crate::found::Found;
 use crate::memory::Memory;
-use crate::ways::{Way, number_of, ways_of};
+use crate::ways::{Ways, number_of, ways_of};
 use cfg_model::{Addresses, Block, Chains, Function, Functions};
 use core_state::State;
 use finaliser::{Outline, may_return};
@@ -28,9 +27,10 @@ use std::alloc::Global;
 /// calls. A function may return exactly where its entry does, and its body rises. [`Memory`] where
 /// memory ran out.
 ///
-/// The time of a body is that of the edges from its blocks but for searches and sorting: a block
-/// that functions share is looked at once for each of them. What is made of the blocks and edges
-/// for all functions together takes one pass over them.
+/// The time of a body is that of the edges from its blocks, and of sorting the blocks: a block that
+/// functions share is looked at once for each of them. What is made of the blocks and edges for all
+/// functions together takes one pass over them. Each entry, and each edge but calls that leads
+/// neither to the block behind it nor to its own, takes a search among the blocks besides.
 pub fn functions<C: Chains>(
     alloc: Global,
     code: &C,
@@ -56,7 +56,7 @@ pub(crate) struct Plan {
     /// The entries of the functions, rising.
     pub(crate) entries: Vec<u64>,
     /// The ways between blocks, by the block that they leave.
-    pub(crate) ways: Vec<Way>,
+    pub(crate) ways: Ways,
 }
 
 /// The entries of the functions, and the ways between blocks: who makes a function of each entry
@@ -71,10 +71,10 @@ pub(crate) fn plan_of<C: Chains>(
     requires closed { IsClosed (C.map code.now) seeds.now state.now.maps }
     requires outline { IsOutlineOf (C.map code.now) state.now.maps outline.now }
     ensures serves { IfOk result
-        (λ plan. Serves (C.map code.now) state.now.maps outline.now.blocks plan.ways.items
+        (λ plan. Serves (C.map code.now) state.now.maps outline.now.blocks plan.ways
         plan.entries.items) }
     ensures makes { IfOk result
-        (λ plan. MakesAll (C.map code.now) seeds.now outline.now.blocks plan.ways.items
+        (λ plan. MakesAll (C.map code.now) seeds.now outline.now.blocks plan.ways
         plan.entries.items) }
 {
     know_laws(code);
@@ -99,7 +99,7 @@ pub(crate) fn functions_at<C: Chains>(
     code: &C,
     state: &State,
     blocks: &[Block],
-    ways: &[Way],
+    ways: &Ways,
     entries: &[u64],
 ) -> Result<Vec<Function>, Memory>
     requires { Serves (C.map code.now) state.now.maps blocks.now ways.now entries.now }

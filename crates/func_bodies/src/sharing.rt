@@ -15,7 +15,7 @@ ghost use Rattle.func_bodies.specs.Inner.Parts.{AreMade, made_in};
 
 use crate::listing::{functions, functions_at, plan_of};
 use crate::memory::Memory;
-use crate::ways::Way;
+use crate::ways::Ways;
 use cfg_model::{Block, Chains, Function, Functions};
 use core_state::State;
 use finaliser::Outline;
@@ -98,7 +98,7 @@ fn made_by_part<R: Threads + Sync, C: Chains>(
     code: &C,
     state: &State,
     blocks: &[Block],
-    ways: &[Way],
+    ways: &Ways,
     parts: Vec<&[u64]>,
 ) -> Result<Vec<Result<Vec<Function>, Memory>>, Memory>
     requires { All

@@ -1,14 +1,18 @@
 //! The ways between blocks within functions, with the blocks by number.
 
-ghost use Rattle.std.specs.Prelude.{◌≡◌, ◌↔◌, All, AllPairs, Contains, IfOk, IsTrue};
+ghost use Rattle.std.specs.Prelude.{◌≡◌, ◌↔◌, ℕ, ◌<◌, ◌≤◌, All, AllPairs, Contains, IfOk};
+ghost use Rattle.std.specs.Prelude.{length, slice_index_or};
 ghost use Rattle.std.specs.List.Sorted.{IsNonDecreasingBy, IsStrictlyIncreasing};
 ghost use Rattle.cfg_model.specs.Graph.Graph.{BlockBefore};
 ghost use Rattle.func_bodies.specs.Inner.Ways.{HasBlockAt, IsNumber, JoinsBlocks, AreWaysOf};
+ghost use Rattle.func_bodies.specs.Inner.Entries.{AreEntered};
+ghost use Rattle.func_bodies.specs.Inner.Sides.{IsFirst, AreFirstsOf};
 
-use crate::entries::is_listed;
+use crate::entries::entered_of;
 use crate::memory::Memory;
 use cfg_model::{Block, Edge, EdgeKind};
 use std::alloc::Global;
+use std::marker::Model;
 
 /// A way from one block to another: an edge that is no call, with the two blocks by their places in
 /// the list of all blocks.
@@ -20,58 +24,155 @@ pub(crate) struct Way {
     pub(crate) enters: bool,
 }
 
-/// The ways of these edges, by the block that they leave. It takes time linear in the edges but for
-/// a search among the blocks and the entries at each.
+/// Ways between blocks, by the block that they leave, so that the ways from one block lie side by
+/// side.
+#[derive(Drop)]
+pub(crate) struct Ways {
+    ways: Vec<Way>,
+    /// For each block, and for one behind the last, the place of the first way from there on.
+    firsts: Vec<usize>,
+}
+
+impl Model for Ways {
+    ghost use Rattle.std.specs.Prelude.{List};
+    ghost use Rattle.func_bodies.specs.declared.ways.Way.{Way};
+    ghost use Rattle.func_bodies.specs.Inner.Sides.{AreFirsts};
+
+    ghost Value = { List Way };
+
+    ghost view = { λ a. a.ways.items };
+
+    ghost invariant = { λ a. AreFirsts a.ways.items a.firsts.items };
+}
+
+impl Ways {
+    /// These ways, which leave some of these blocks.
+    fn new(alloc: Global, ways: Vec<Way>, blocks: &[Block]) -> Result<Self, Memory>
+        requires rising { IsNonDecreasingBy (λ way. way.from) ways.items }
+        requires within { All (λ way. way.from < length blocks.now) ways.items }
+        ensures { IfOk result (λ v. v ≡ ways.items) }
+    {
+        let firsts = firsts_of(alloc, &ways, blocks)?;
+        Ok(Ways { ways, firsts })
+    }
+
+    /// The ways from block `i`.
+    pub(crate) fn from_block(&self, i: usize) -> &[Way]
+        ensures { (way : _) → Contains result.now way ↔ (Contains self.now way × (way.from ≡ i)) }
+    {
+        if i >= self.firsts.len() - 1 {
+            return &[];
+        }
+        &self.ways[self.firsts[i]..self.firsts[i + 1]]
+    }
+}
+
+/// The place of the first way from each of these blocks on, and the end of the ways.
+fn firsts_of(alloc: Global, ways: &[Way], blocks: &[Block]) -> Result<Vec<usize>, Memory>
+    requires { IsNonDecreasingBy (λ way. way.from) ways.now }
+    ensures { IfOk result (λ v. AreFirstsOf ways.now (length blocks.now) v.items) }
+{
+    let ends = blocks.len() + 1;
+    let mut firsts = Vec::with_capacity(alloc, ends)?;
+    let mut first = 0;
+    for i in 0..ends {
+        first = first_from(ways, first, i);
+        firsts.push(first)?;
+    }
+    Ok(firsts)
+}
+
+/// The place of the first of these rising ways that leaves block `i` or one behind it, or their
+/// end. It is `first`, or lies behind it.
+fn first_from(ways: &[Way], mut first: usize, i: usize) -> usize
+    requires rising { IsNonDecreasingBy (λ way. way.from) ways.now }
+    requires within { first ≤ length ways.now }
+    requires before { (k : ℕ) (d : _) → k < first → (slice_index_or ways.now k d).from < i }
+    ensures { IsFirst ways.now i result }
+{
+    while first < ways.len() && ways[first].from < i {
+        first += 1;
+    }
+    first
+}
+
+/// The ways of these edges, which are in the order of the blocks that they leave. It takes time
+/// linear in the edges, the blocks and the entries, but for a search among the blocks at each way
+/// that leads neither to the block behind it nor to its own.
 pub(crate) fn ways_of(
     alloc: Global,
     blocks: &[Block],
     edges: &[Edge],
     entries: &[u64],
-) -> Result<Vec<Way>, Memory>
+) -> Result<Ways, Memory>
     requires blocks { AllPairs BlockBefore blocks.now }
+    requires edges { IsNonDecreasingBy (λ edge. edge.from) edges.now }
     requires joins { All (JoinsBlocks blocks.now) edges.now }
     requires entries { IsStrictlyIncreasing entries.now }
-    ensures ways { IfOk result (λ v. AreWaysOf blocks.now entries.now edges.now v.items) }
-    ensures rising { IfOk result (λ v. IsNonDecreasingBy (λ way. way.from) v.items) }
+    ensures { IfOk result (AreWaysOf blocks.now entries.now edges.now) }
 {
-    let ways = unsorted_ways(alloc, blocks, edges, entries)?;
-    Ok(by_block(ways))
+    let entered = entered_of(alloc, blocks, entries)?;
+    let ways = ways_in_order(alloc, blocks, edges, entries, &entered)?;
+    Ways::new(alloc, ways, blocks)
 }
 
 /// The ways of these edges, in the order of the edges.
-fn unsorted_ways(
+fn ways_in_order(
     alloc: Global,
     blocks: &[Block],
     edges: &[Edge],
     entries: &[u64],
+    entered: &[bool],
 ) -> Result<Vec<Way>, Memory>
     requires blocks { AllPairs BlockBefore blocks.now }
+    requires edges { IsNonDecreasingBy (λ edge. edge.from) edges.now }
     requires joins { All (JoinsBlocks blocks.now) edges.now }
-    requires entries { IsStrictlyIncreasing entries.now }
-    ensures { IfOk result (λ v. AreWaysOf blocks.now entries.now edges.now v.items) }
+    requires entered { AreEntered blocks.now entries.now entered.now }
+    ensures ways { IfOk result (λ v. AreWaysOf blocks.now entries.now edges.now v.items) }
+    ensures rising { IfOk result (λ v. IsNonDecreasingBy (λ way. way.from) v.items) }
 {
     let mut ways = Vec::with_capacity(alloc, edges.len())?;
+    let mut from = 0;
     for edge in edges {
+        from = number_from(blocks, from, edge.from);
         if edge.kind != EdgeKind::Call {
-            ways.push(way_of(blocks, entries, *edge))?;
+            let to = number_near(blocks, from, edge.to);
+            let enters = entered[to];
+            ways.push(Way { from, to, enters })?;
         }
     }
     Ok(ways)
 }
 
-/// The way of this edge.
-fn way_of(blocks: &[Block], entries: &[u64], edge: Edge) -> Way
+/// The place of the block that starts at `a` among these blocks, which is `i` or lies behind it.
+/// The time is that of the way there.
+fn number_from(blocks: &[Block], mut i: usize, a: u64) -> usize
     requires blocks { AllPairs BlockBefore blocks.now }
-    requires joins { JoinsBlocks blocks.now edge }
-    requires entries { IsStrictlyIncreasing entries.now }
-    ensures leaves { IsNumber blocks.now result.from edge.from }
-    ensures leads { IsNumber blocks.now result.to edge.to }
-    ensures enters { IsTrue result.enters ↔ Contains entries.now edge.to }
+    requires starts { HasBlockAt blocks.now a }
+    requires before { (k : ℕ) (d : _) → k < i → (slice_index_or blocks.now k d).start < a }
+    ensures number { IsNumber blocks.now result a }
+    ensures onward { i ≤ result }
 {
-    Way {
-        from: number_of(blocks, edge.from),
-        to: number_of(blocks, edge.to),
-        enters: is_listed(entries, edge.to),
+    while blocks[i].start < a {
+        i += 1;
+    }
+    i
+}
+
+/// The place of the block that starts at `a` among these blocks: most often it lies right behind
+/// block `i`, or is that block, and only else this searches.
+fn number_near(blocks: &[Block], i: usize, a: u64) -> usize
+    requires blocks { AllPairs BlockBefore blocks.now }
+    requires starts { HasBlockAt blocks.now a }
+    requires within { i < length blocks.now }
+    ensures { IsNumber blocks.now result a }
+{
+    if i + 1 < blocks.len() && blocks[i + 1].start == a {
+        i + 1
+    } else if blocks[i].start == a {
+        i
+    } else {
+        number_of(blocks, a)
     }
 }
 
@@ -85,25 +186,4 @@ pub(crate) fn number_of(blocks: &[Block], a: u64) -> usize
         Ok(i) => i,
         Err(_) => unreachable!(),
     }
-}
-
-/// The same ways, by the block that they leave. The edges are in that order already, so this only
-/// looks at them.
-fn by_block(mut ways: Vec<Way>) -> Vec<Way>
-    ensures rising { IsNonDecreasingBy (λ way. way.from) result.items }
-    ensures same { (way : _) → Contains result.items way ↔ Contains ways.items way }
-{
-    ways.sort_unstable_by_key(|way| way.from);
-    ways
-}
-
-/// The ways from block `i`, which lie side by side.
-pub(crate) fn ways_from(ways: &[Way], i: usize) -> &[Way]
-    requires { IsNonDecreasingBy (λ way. way.from) ways.now }
-    ensures { (way : _) → Contains result.now way ↔ (Contains ways.now way × (way.from ≡ i)) }
-{
-    let first = ways.partition_point(|way| way.from < i);
-    let rest = &ways[first..];
-    let count = rest.partition_point(|way| way.from <= i);
-    &rest[..count]
 }

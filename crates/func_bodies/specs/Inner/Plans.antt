@@ -1,7 +1,6 @@
 -- What is made of blocks and edges for all functions together.
 use Rattle.std.specs.Prelude.{ℕ, ◌<◌, List, length, All, AllPairs}
 use Rattle.std.specs.List.{AllZip}
-use Rattle.std.specs.List.Sorted.{IsNonDecreasingBy}
 use Rattle.cfg_model.specs.declared.graph.Block.{Block}
 use Rattle.cfg_model.specs.declared.graph.Function.{Function}
 use Rattle.cfg_model.specs.Program.Instructions.{InstructionMap}
@@ -23,7 +22,6 @@ pub record Serves
   pub starts : All (IsStart state.starts) entries
   pub in_order : AllPairs BlockBefore blocks
   pub listed : All (HasBlockAt blocks) entries
-  pub rising : IsNonDecreasingBy (λ way. way.from) ways
   pub within : All (λ way. way.to < length blocks) ways
 
 -- These are all functions of the program.

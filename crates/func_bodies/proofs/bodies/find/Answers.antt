@@ -14,9 +14,9 @@ loop-i-init c = record {
 
 pub add_targets-requires-clause-within : goal.add_targets-requires-clause-within
 add_targets-requires-clause-within c = λ k d lt.
-    let here = c.ways_from-from_here.result.now in
+    let here = c.from_block-from_here.result.now in
     let way : Way = get_or here k d in
-    let among = ((c.ways_from-from_here.ensures way).0 (Contains-get_or here k d lt)).0 in
+    let among = ((c.from_block-from_here.ensures way).0 (Contains-get_or here k d lt)).0 in
     rw c.loop-i.invariant.as_many
     (subst (λ (w : Way). w.to < length c.args.found.now.stamps.items) among.2 (c.requires.within among.0 way among.1))
 
@@ -29,8 +29,8 @@ loop-i-preserved c =
     record {
       stamped = c.in_ok-add_targets.ensures.stamped;
       so_far =
-          body_more c.args.ways.now c.args.entry c.ways_from-from_here.result.now order _ c.loop-i.i
-          c.index.result.now lt item c.ways_from-from_here.ensures c.loop-i.invariant.so_far
+          body_more c.args.ways.now c.args.entry c.from_block-from_here.result.now order _ c.loop-i.i
+          c.index.result.now lt item c.from_block-from_here.ensures c.loop-i.invariant.so_far
           c.in_ok-add_targets.ensures.adds;
       as_many = c.in_ok-add_targets.ensures.as_many ∙ c.loop-i.invariant.as_many;
     }
