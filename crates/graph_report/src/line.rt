@@ -8,7 +8,7 @@ ghost use Rattle.graph_report.specs.Line.{made_line, may_return_line, no_return_
 ghost use Rattle.graph_report.specs.Inner.{IsLine, name_left};
 
 use crate::field::{
-    edge_word, end_word, push_address, push_count, push_field, push_number, push_word, status_word,
+    edge_field, end_field, push_address, push_count, push_field, push_number, status_word,
 };
 use crate::name::{begin_name, push_byte};
 use crate::page::{LINE_ROOM, PAGE_ROOM, Page};
@@ -106,7 +106,7 @@ pub fn push_block(page: &mut Page, block: &Block)
     page.push(b"block");
     push_address(page, block.start);
     push_address(page, block.end);
-    push_word(page, end_word(block.kind));
+    page.push(end_field(block.kind));
 }
 
 /// Appends the line that says how many edges follow.
@@ -128,7 +128,7 @@ pub fn push_edge(page: &mut Page, edge: &Edge)
     page.push(b"edge");
     push_address(page, edge.from);
     push_address(page, edge.to);
-    push_word(page, edge_word(edge.kind));
+    page.push(edge_field(edge.kind));
 }
 
 /// Appends the first line of the summary of the program that is made from `n`.

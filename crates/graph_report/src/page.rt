@@ -78,6 +78,8 @@ impl Page {
         requires { n ≤ length self.old }
         ensures { self.new ≡ drop n self.old }
     {
-        self.bytes.drain(..n);
+        let len = self.bytes.len();
+        self.bytes.copy_within(n..len, 0);
+        self.bytes.truncate(len - n);
     }
 }
