@@ -1,4 +1,4 @@
--- Work that is left in the shards of a map, or the lines of a chunk, one after the other.
+-- Work that is left in the shards of a map, or the parts of one, one after the other.
 use Rattle.std.proofs.Common.{◌≡◌, ℕ, ◌+◌, ◌<◌, ◌≤◌, List, length, get_or, subst, sym, ap, ◌∙◌, arith, below_more}
 use Rattle.std.specs.Prelude.{Option, Some, None, is_some, IsSome, IfSome, IfNone}
 use Rattle.std.specs.Ordering.{nat_cmp}
@@ -7,10 +7,9 @@ use Rattle.std.proofs.lemmas.List.{get_or_read}
 use Rattle.cfg_model.specs.Builder.Shard.{shard_of}
 use Rattle.cfg_model.specs.Builder.Left.{Work}
 use Rattle.core_state.proofs.Shards.{shard_below, read_joined}
-use Rattle.core_state.proofs.LinesJoined.{page_below}
-use Rattle.core_state.proofs.LinesJoined as pages
+use Rattle.core_state.proofs.PartsJoined as some
 use Rattle.core_state.specs.Joined.{AreShards, joined}
-use Rattle.core_state.specs.inner.Grouped.{page_of, AreLines}
+use Rattle.core_state.specs.inner.Grouped.{AreParts}
 use Rattle.core_state.specs.inner.Remaining.{LeftAmong, LeftIn}
 
 module _ {X : Type 0} (At : ℕ → X → Work → Type 0) (shards : List (maps.FinMap nat_cmp X)) where
@@ -42,23 +41,23 @@ module _ {X : Type 0} (At : ℕ → X → Work → Type 0) (parts : List (maps.F
     left = left.left.left;
   }
 
-  pub to_part : ((q : ℕ) → home q < length parts) → (work : Work) → LeftAmong At m work → LeftIn At parts work
+  pub to_part : ((q : ℕ) → IsSome (maps.get m q) → home q < length parts) → (work : Work) → LeftAmong At m work → LeftIn At parts work
   to_part within work left = record {
     shard = home left.key;
-    within = within left.key;
+    within = within left.key (ap is_some left.has);
     left = record { key = left.key; entry = left.entry; has = sym (read left.key) ∙ left.has; left = left.left };
   }
 
--- the lines of a chunk
-module _ {X : Type 0} (At : ℕ → X → Work → Type 0) (lines : List (maps.FinMap nat_cmp X)) (are : AreLines lines) (m : maps.FinMap nat_cmp X) (seen : joined lines ≡ m) where
-  read_line : (q : ℕ) → maps.get m q ≡ maps.get (get_or lines (page_of q) maps.empty) q
-  read_line q = ap (λ (n : maps.FinMap nat_cmp X). maps.get n q) (sym seen) ∙ pages.read_joined lines are q
+-- the lines of a chunk, or the chunks of a region
+module _ {X : Type 0} (At : ℕ → X → Work → Type 0) (home : ℕ → ℕ) (parts : List (maps.FinMap nat_cmp X)) (are : AreParts home parts) (m : maps.FinMap nat_cmp X) (seen : joined parts ≡ m) where
+  read_part : (q : ℕ) → maps.get m q ≡ maps.get (get_or parts (home q) maps.empty) q
+  read_part q = ap (λ (n : maps.FinMap nat_cmp X). maps.get n q) (sym seen) ∙ some.read_joined home parts are q
 
-  pub among_lines : (work : Work) → LeftIn At lines work → LeftAmong At m work
-  among_lines = from_part At lines m page_of read_line are.own
+  pub among_parts : (work : Work) → LeftIn At parts work → LeftAmong At m work
+  among_parts = from_part At parts m home read_part are
 
-  pub in_lines : (work : Work) → LeftAmong At m work → LeftIn At lines work
-  in_lines = to_part At lines m page_of read_line (λ q. subst (λ n. page_of q < n) (sym are.count) (page_below q))
+  pub in_parts : (work : Work) → LeftAmong At m work → LeftIn At parts work
+  in_parts = to_part At parts m home read_part (λ q has. some.inside_of home parts are m seen q has)
 
 -- the shards of a map, and the map that they are together
 module _ {X : Type 0} (At : ℕ → X → Work → Type 0) (shards : List (maps.FinMap nat_cmp X)) (are : AreShards shards) (m : maps.FinMap nat_cmp X) (seen : joined shards ≡ m) where
@@ -69,7 +68,7 @@ module _ {X : Type 0} (At : ℕ → X → Work → Type 0) (shards : List (maps.
   among_joined = from_part At shards m shard_of read_shard are.own
 
   pub in_shards : (work : Work) → LeftAmong At m work → LeftIn At shards work
-  in_shards = to_part At shards m shard_of read_shard (λ q. subst (λ n. shard_of q < n) (sym are.count) (shard_below q))
+  in_shards = to_part At shards m shard_of read_shard (λ q has. subst (λ n. shard_of q < n) (sym are.count) (shard_below q))
 
   pub some_joined : {T : Type 0} (o : Option T) (work_by : T → Work) (items : List (maps.FinMap nat_cmp X)) → items ≡ shards → IfSome o (λ x. LeftIn At items (work_by x)) → IfSome o (λ x. LeftAmong At m (work_by x))
   some_joined None work_by items same left = tt

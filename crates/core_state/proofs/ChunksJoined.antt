@@ -21,7 +21,7 @@ use Rattle.core_state.specs.inner.Pairs.{AreApart}
 use Rattle.core_state.specs.inner.Grouped.{chunk_of, chunk_entries, AreChunks, with_new}
 use Rattle.core_state.proofs.Seen.{PutsAt}
 use Rattle.core_state.proofs.Shards.{alter, or_else, or_none, none_of, find_append}
-use Rattle.core_state.proofs.LinesJoined.{new_local}
+use Rattle.core_state.proofs.PartsJoined.{new_local}
 
 tied_other : (q k : ℕ) → q ≢ k → eq_by_cmp nat_cmp q k ≡ false
 tied_other q k apart = unsigned_tied q k ∙ ne_eqb q k apart

@@ -1,8 +1,9 @@
 -- The changes of the ends, on a map that is seen as the map of ends.
-use Rattle.std.proofs.Common.{◌≡◌, ℕ, subst, ap, sym, ◌∙◌}
+use Rattle.std.proofs.Common.{◌≡◌, ℕ, Bool, true, false, not, ◌&&◌, refl, subst, ap, sym, ◌∙◌}
 use Rattle.std.specs.Prelude.{Option, Some, None, IsTrue}
 use Rattle.std.specs.Option.{option_map, option_map_or}
-use Rattle.std.specs.Ordering.{nat_cmp}
+use Rattle.std.specs.Ordering.{nat_cmp, eq_by_cmp}
+use Rattle.std.specs.Cmp.{nat_cmp_total}
 use Rattle.std.specs.FinMap as maps
 use Rattle.std.specs.FinSet as sets
 use Rattle.cfg_model.specs.Program.Instructions.{InstructionMap}
@@ -11,7 +12,10 @@ use Rattle.cfg_model.specs.Builder.Event.{Arrives, ArrivesAt, with_settled}
 use Rattle.cfg_model.proofs.Builder.MapFacts.{get_here}
 use Rattle.cfg_model.proofs.Builder.StateReads.{near_is}
 use Rattle.core_state.specs.declared.answer.Arrival.{Arrival}
+use Rattle.core_state.specs.declared.end.Kept.{Kept}
+use Rattle.core_state.specs.declared.end.Kept.TheVariants.{Near}
 use Rattle.core_state.specs.Answer.{arrival_of}
+use Rattle.core_state.specs.inner.EndKept.{entry_of}
 use Rattle.core_state.specs.Least.{IsLeast}
 use Rattle.core_state.proofs.LinesKept.{held}
 
@@ -50,3 +54,25 @@ module _ (n m : EndMap) (seen : n ≡ m) (k : ℕ) where
   settles old new x had change =
       ap (λ x. maps.insert x k new) seen ∙ ap (λ e. maps.insert m k e) change
       ∙ sym (ap (λ (o : Option EndEntry). option_map_or (λ (e : EndEntry). maps.insert m k (record e { moved = sets.remove e.moved x })) o m) (held n m seen k (Some old) had))
+
+-- an end that has its near start alone
+module _ (kept : Kept) (near : ℕ) (is : kept ≡ Near near) (entry : EndEntry) (seen : entry_of kept ≡ entry) where
+  alone : entry ≡ record { near = near; moved = sets.empty }
+  alone = sym seen ∙ ap entry_of is
+
+  pub none_displaced : IsLeast (λ x. IsTrue (sets.contains entry.moved x)) None
+  none_displaced x has = cc (sym (ap (λ (e : EndEntry). sets.contains e.moved x) alone ∙ sets.contains-empty nat_cmp x) ∙ has)
+
+  pub none_settled : (x : ℕ) → entry_of kept ≡ record entry { moved = sets.remove entry.moved x }
+  none_settled x =
+      ap entry_of is
+      ∙ sym (ap (λ (e : EndEntry). record e { moved = sets.remove e.moved x }) alone ∙ ap (λ (s : sets.FinSet nat_cmp). record { near = near; moved = s }) none_removed)
+    where
+      none_removed : sets.remove (sets.empty {R = nat_cmp}) x ≡ sets.empty
+      none_removed =
+          sets.same_set nat_cmp_total sets.nat_cmp-IsAntisymmetric _ _
+          (λ q. sets.contains-remove nat_cmp_total sets.empty x q ∙ neither (not (eq_by_cmp nat_cmp q x)) (sets.contains sets.empty q) (sets.contains-empty nat_cmp q) ∙ sym (sets.contains-empty nat_cmp q))
+        where
+          neither : (a b : Bool) → b ≡ false → (a && b) ≡ false
+          neither true b e = e
+          neither false b e = refl

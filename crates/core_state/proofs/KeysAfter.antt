@@ -1,11 +1,11 @@
 -- The next key of a map by lines: in a line, in a chunk, and in the whole.
-use Rattle.std.proofs.Common.{◌≡◌, ◌≢◌, ℕ, ◌+◌, ◌-◌, ◌^◌, ◌<◌, ◌≤◌, Bool, cond, true, false, refl, List, [], ◌∷◌, ◌++◌, length, get_or, take, subst, sym, ap, ◌∙◌, arith}
-use Rattle.std.specs.Prelude.{Option, Some, None, IsSome, is_some, ◌⊎◌}
+use Rattle.std.proofs.Common.{◌≡◌, ◌≢◌, ℕ, ◌+◌, ◌-◌, ◌^◌, ◌%◌, ◌==◌, ◌<◌, ◌≤◌, Bool, cond, true, false, refl, List, [], ◌∷◌, ◌++◌, length, get_or, take, subst, sym, ap, ◌∙◌, arith}
+use Rattle.std.specs.Prelude.{Option, Some, None, IsSome, is_some, ◌⊎◌, if◌then◌else◌}
 use Rattle.std.specs.Option.{option_map}
 use mathlib.Core.Logic.{inl, inr}
 use Rattle.std.specs.Ordering.{nat_cmp, eq_by_cmp}
 use Rattle.std.specs.Cmp.{nat_cmp_total, unsigned_tied}
-use Rattle.std.proofs.lemmas.Bool.{eq-eqb}
+use Rattle.std.proofs.lemmas.Bool.{eq-eqb, ne_eqb}
 use Rattle.std.proofs.lemmas.Option.{same_Some}
 use Rattle.std.specs.List.Sorted.{IsStrictlySortedBy}
 use Rattle.std.specs.FinMap as maps
@@ -17,10 +17,10 @@ use Rattle.cfg_model.proofs.Builder.MapFacts.{same_or_other}
 use Rattle.core_state.specs.Joined.{joined}
 use Rattle.core_state.specs.Least.{IsLeast, IsAbove}
 use Rattle.core_state.specs.inner.Walk.{lesser_of}
-use Rattle.core_state.specs.inner.Grouped.{chunk_of, page_of, chunk_entries, AreChunks, AreLines, AreTogether, IsKeyAbove, IsInChunk, IsNextInChunk, IsNextInPage}
+use Rattle.core_state.specs.inner.Grouped.{chunk_of, page_of, place_of, region_of, chunk_entries, AreChunks, AreParts, AreTogether, IsKeyAbove, IsInChunk, IsNextInChunk, IsNextInPage}
 use Rattle.core_state.proofs.SeenSet.{is_equal}
 use Rattle.core_state.proofs.Shards.{or_else, find_append}
-use Rattle.core_state.proofs.LinesJoined.{read_joined}
+use Rattle.core_state.proofs.PartsJoined.{read_joined, inside_of}
 use Rattle.core_state.proofs.ChunksJoined.{at_chunk, read_chunks, in_its_chunk}
 use Rattle.core_state.proofs.Walks.{least_as, least_either}
 
@@ -87,64 +87,87 @@ after_line es m seen a o least =
     let same : (k : ℕ) → is_some (find nat_cmp k es) ≡ maps.contains_key m k = λ k. ap is_some (sym (maps.get-from_entries nat_cmp_total es k) ∙ ap (λ n. maps.get n k) seen) in
     least_as _ (IsKeyAbove m a) o (λ k h. (sym (same k) ∙ h.0, h.1)) (λ k h. (same k ∙ h.0, h.1)) least
 
-page_small : (x : ℕ) → page_of x < 64
-page_small x = omega arith
+-- a key of an earlier page of the same chunk is less; one of an earlier chunk of the same region is less
+pub page_order : (x y : ℕ) → chunk_of x ≡ chunk_of y → page_of x < page_of y → x ≤ y
+page_order x y same less = omega arith
 
-ahead : (x y : ℕ) → chunk_of x ≡ chunk_of y → page_of x < page_of y → x ≤ y
-ahead x y same less = omega arith
+pub place_order : (x y : ℕ) → region_of x ≡ region_of y → place_of x < place_of y → x ≤ y
+place_order x y same less = omega arith
 
--- a walk along the lines of a chunk
-module _ {X : Type 0} (ms : List (maps.FinMap nat_cmp X)) (are : AreLines ms) (m : maps.FinMap nat_cmp X) (seen : joined ms ≡ m) (a : Option ℕ) where
+pub same_chunk : (x y : ℕ) → region_of x ≡ region_of y → place_of x ≡ place_of y → chunk_of x ≡ chunk_of y
+same_chunk x y region place = omega arith
+
+-- the page at which a search begins in the chunk at a place
+pub page_reached : (start page place from x : ℕ) → from ≡ (if place == start then page else 0) → place_of x ≡ place → (start ≡ place_of x → page ≤ page_of x) → from ≤ page_of x
+page_reached start page place from x is home reach = by (same_or_other place start)
+  where
+    by : (place ≡ start) ⊎ (place ≢ start) → from ≤ page_of x
+    by (inl same) = subst (λ n. n ≤ page_of x) (sym (is ∙ ap (λ b. if b then page else 0) (eq-eqb place start same))) (reach (sym (home ∙ same)))
+    by (inr other) = subst (λ n. n ≤ page_of x) (sym (is ∙ ap (λ b. if b then page else 0) (ne_eqb place start other))) (omega arith)
+
+-- a walk along the parts of a map, in the order of its keys
+module _ {X : Type 0} (home : ℕ → ℕ) (ms : List (maps.FinMap nat_cmp X)) (are : AreParts home ms) (m : maps.FinMap nat_cmp X) (seen : joined ms ≡ m) (a : Option ℕ) where
   abbrev pub AreAhead : ℕ → Type 0
-  AreAhead j = (x : ℕ) → IsKeyAbove m a x → j ≤ page_of x
+  AreAhead j = (x : ℕ) → IsKeyAbove m a x → j ≤ home x
 
-  in_line : (x : ℕ) → maps.get m x ≡ maps.get (get_or ms (page_of x) maps.empty) x
-  in_line x = sym (ap (λ n. maps.get n x) seen) ∙ read_joined ms are x
+  in_part : (x : ℕ) → maps.get m x ≡ maps.get (get_or ms (home x) maps.empty) x
+  in_part x = sym (ap (λ n. maps.get n x) seen) ∙ read_joined home ms are x
 
-  module _ (j : ℕ) (line : maps.FinMap nat_cmp X) (below : j < 64) (here : line ≡ get_or ms j line) where
-    line_is : line ≡ get_or ms j maps.empty
-    line_is = let count = are.count in here ∙ get_or_default ms j line maps.empty (within (length ms) count)
+  module _ (j : ℕ) (part : maps.FinMap nat_cmp X) (below : j < length ms) (here : part ≡ get_or ms j part) where
+    part_is : part ≡ get_or ms j maps.empty
+    part_is = here ∙ get_or_default ms j part maps.empty below
+
+    pub to_part : (x : ℕ) → home x ≡ j → IsSome (maps.get m x) → IsSome (maps.get part x)
+    to_part x place has =
+        ap (λ n. is_some (maps.get n x)) part_is ∙ sym (ap (λ i. is_some (maps.get (get_or ms i maps.empty) x)) place) ∙ sym (ap is_some (in_part x)) ∙ has
+
+    pub home_is : (x : ℕ) → IsSome (maps.get part x) → home x ≡ j
+    home_is x has = are j x (ap (λ n. is_some (maps.get n x)) (sym part_is) ∙ has)
+
+    pub from_part : (x : ℕ) → IsSome (maps.get part x) → IsSome (maps.get m x)
+    from_part x has =
+        ap is_some (in_part x) ∙ ap (λ i. is_some (maps.get (get_or ms i maps.empty) x)) (home_is x has) ∙ ap (λ n. is_some (maps.get n x)) (sym part_is) ∙ has
+
+    pub found_in_part : ((x y : ℕ) → IsSome (maps.get m x) → IsSome (maps.get m y) → home x < home y → x ≤ y) → AreAhead j
+        → (k : ℕ) → IsLeast (IsKeyAbove part a) (Some k) → IsLeast (IsKeyAbove m a) (Some k)
+    found_in_part order ahead_of k least = ((from_part k least.0.0, least.0.1), λ y h. by y h (same_or_other (home y) j))
       where
-        within : (n : ℕ) → n ≡ 64 → j < n
-        within n count = omega arith
-
-    to_line : (x : ℕ) → page_of x ≡ j → IsSome (maps.get m x) → IsSome (maps.get line x)
-    to_line x page has =
-        ap (λ n. is_some (maps.get n x)) line_is ∙ sym (ap (λ i. is_some (maps.get (get_or ms i maps.empty) x)) page) ∙ sym (ap is_some (in_line x)) ∙ has
-
-    page_is : (x : ℕ) → IsSome (maps.get line x) → page_of x ≡ j
-    page_is x has = are.own j x (ap (λ n. is_some (maps.get n x)) (sym line_is) ∙ has)
-
-    from_line : (x : ℕ) → IsSome (maps.get line x) → IsSome (maps.get m x)
-    from_line x has =
-        ap is_some (in_line x) ∙ ap (λ i. is_some (maps.get (get_or ms i maps.empty) x)) (page_is x has) ∙ ap (λ n. is_some (maps.get n x)) (sym line_is) ∙ has
-
-    pub found_in_line : AreTogether m → AreAhead j → (k : ℕ) → IsLeast (IsKeyAbove line a) (Some k) → IsLeast (IsKeyAbove m a) (Some k)
-    found_in_line together ahead_of k least = ((from_line k least.0.0, least.0.1), λ y h. by y h (same_or_other (page_of y) j))
-      where
-        by : (y : ℕ) → IsKeyAbove m a y → (page_of y ≡ j) ⊎ (page_of y ≢ j) → k ≤ y
-        by y h (inl page) = least.1 y (to_line y page h.0, h.1)
-        by y h (inr other) = ahead k y (together k y (from_line k least.0.0) h.0) (less (page_of k) (page_of y) j (page_is k least.0.0) (ahead_of y h) other)
+        by : (y : ℕ) → IsKeyAbove m a y → (home y ≡ j) ⊎ (home y ≢ j) → k ≤ y
+        by y h (inl place) = least.1 y (to_part y place h.0, h.1)
+        by y h (inr other) = order k y (from_part k least.0.0) h.0 (less (home k) (home y) j (home_is k least.0.0) (ahead_of y h) other)
           where
             less : (p q j : ℕ) → p ≡ j → j ≤ q → q ≢ j → p < q
             less p q j same from other = omega arith
 
-    pub next_in_line : (b : ℕ) → j ≡ page_of b → (o : Option ℕ) → IsLeast (IsKeyAbove line (Some b)) o → IsLeast (λ k. IsKeyAbove m (Some b) k × (page_of k ≡ page_of b)) o
-    next_in_line b place o least =
-        least_as (IsKeyAbove line (Some b)) (λ k. IsKeyAbove m (Some b) k × (page_of k ≡ page_of b)) o
-        (λ k h. ((from_line k h.0, h.1), page_is k h.0 ∙ place)) (λ k h. (to_line k (h.1 ∙ sym place) h.0.0, h.0.1)) least
+    pub next_in_part : (b : ℕ) → j ≡ home b → (o : Option ℕ) → IsLeast (IsKeyAbove part (Some b)) o → IsLeast (λ k. IsKeyAbove m (Some b) k × (home k ≡ home b)) o
+    next_in_part b place o least =
+        least_as (IsKeyAbove part (Some b)) (λ k. IsKeyAbove m (Some b) k × (home k ≡ home b)) o
+        (λ k h. ((from_part k h.0, h.1), home_is k h.0 ∙ place)) (λ k h. (to_part k (h.1 ∙ sym place) h.0.0, h.0.1)) least
 
-    pub past_line : AreAhead j → IsLeast (IsKeyAbove line a) None → AreAhead (j + 1)
-    past_line ahead_of none x h = next (page_of x) j (ahead_of x h) (λ page. none x (to_line x page h.0, h.1))
+    pub past_part : AreAhead j → IsLeast (IsKeyAbove part a) None → AreAhead (j + 1)
+    past_part ahead_of none x h = next (home x) j (ahead_of x h) (λ place. none x (to_part x place h.0, h.1))
       where
         next : (q j : ℕ) → j ≤ q → q ≢ j → j + 1 ≤ q
         next q j from other = omega arith
 
-  pub past_all : (j : ℕ) → 64 ≤ j → AreAhead j → IsLeast (IsKeyAbove m a) None
-  past_all j all ahead_of x h = let from = ahead_of x h in let small = page_small x in outside (page_of x) j all from small
+  pub past_all : (j : ℕ) → length ms ≤ j → AreAhead j → IsLeast (IsKeyAbove m a) None
+  past_all j all ahead_of x h = outside (home x) j (length ms) all (ahead_of x h) (inside_of home ms are m seen x h.0)
     where
-      outside : (q j : ℕ) → 64 ≤ j → j ≤ q → q < 64 → ⊥
-      outside q j all from small = omega arith
+      outside : (q j n : ℕ) → n ≤ j → j ≤ q → q < n → ⊥
+      outside q j n all from small = omega arith
+
+  -- a part that is not there has no key
+  pub none_outside : (b j : ℕ) → j ≡ home b → ¬ (j < length ms) → (x : ℕ) → IsSome (maps.get m x) → home x ≡ home b → ⊥
+  none_outside b j place past x has same = past (subst (λ i. i < length ms) (same ∙ sym place) (inside_of home ms are m seen x has))
+
+-- the next key in a page, in the chunk of its place
+pub page_in_part : {X : Type 0} (ms : List (maps.FinMap nat_cmp X)) (are : AreParts place_of ms) (m : maps.FinMap nat_cmp X) (seen : joined ms ≡ m) (a : Option ℕ) (j : ℕ) (part : maps.FinMap nat_cmp X) → j < length ms → part ≡ get_or ms j part
+    → (b : ℕ) → j ≡ place_of b → ((x : ℕ) → IsSome (maps.get m x) → region_of x ≡ region_of b) → (o : Option ℕ) → IsLeast (λ k. IsKeyAbove part (Some b) k × (page_of k ≡ page_of b)) o → IsLeast (IsNextInPage m b) o
+page_in_part ms are m seen a j part below here b place one o least =
+    least_as (λ k. IsKeyAbove part (Some b) k × (page_of k ≡ page_of b)) (IsNextInPage m b) o
+    (λ x h. let has = from_part place_of ms are m seen a j part below here x h.0.0 in
+    (has, h.0.1, same_chunk x b (one x has) (home_is place_of ms are m seen a j part below here x h.0.0 ∙ place), h.1))
+    (λ x h. ((to_part place_of ms are m seen a j part below here x (ap (λ n. n % 256) h.2 ∙ sym place) h.0, h.1), h.3)) least
 
 chunk_rises : (a x : ℕ) → a < x → chunk_of a ≤ chunk_of x
 chunk_rises a x above = omega arith

@@ -24,7 +24,8 @@ pub mod LeftPieces
 pub mod PairsInRow
 pub mod WaitersKept
 pub mod LinesKept
-pub mod LinesJoined
+pub mod PartsJoined
 pub mod ChunksJoined
 pub mod KeysAfter
 pub mod InPlace
+pub mod NearAndFar

@@ -7,14 +7,26 @@ use Rattle.cfg_model.specs.declared.state.Waiter.{Waiter}
 use Rattle.cfg_model.specs.Builder.Waiter.{waiter_cmp}
 use Rattle.cfg_model.specs.Builder.State.{TerminatorMap, TerminatorEntry, IsEntered, IsReturned, WaitsAt, waiters_at}
 use Rattle.cfg_model.specs.Builder.Event.{with_changed}
+use Rattle.cfg_model.proofs.Builder.MapFacts.{get_here}
 use Rattle.core_state.specs.Least.{IsLeastBy}
-use Rattle.core_state.specs.Reads.{IsNextToTell}
+use Rattle.core_state.specs.Reads.{IsNextToTell, HasNextToTell}
+use Rattle.core_state.specs.inner.Waiting.{HasNextHere}
 use Rattle.core_state.proofs.LinesKept.{held}
 
 -- who is next to be told is read of the entry alone
 pub next_as : (m n : TerminatorMap) (k : ℕ) → maps.get m k ≡ maps.get n k → (o : Option Waiter) → IsNextToTell m k o → IsNextToTell n k o
 next_as m n k same o next =
     subst (λ (f : Option TerminatorEntry). IsLeastBy waiter_cmp (λ w. IsTrue (option_map_or (λ e. e.returned) f false) × (maps.get (option_map_or (λ e. e.waiters) f maps.empty) w ≡ Some false)) o) same next
+
+-- somebody is to be told, by what is held at the terminator
+abbrev HasNextIn : Option TerminatorEntry → Type 0
+HasNextIn o = (w : Waiter) × IsLeastBy waiter_cmp (λ v. IsTrue (option_map_or (λ e. e.returned) o false) × (maps.get (option_map_or (λ e. e.waiters) o maps.empty) v ≡ Some false)) (Some w)
+
+pub left_as : (m n : TerminatorMap) (k : ℕ) → maps.get m k ≡ maps.get n k → (left : Bool) → IsTrue left ↔ HasNextToTell m k → IsTrue left ↔ HasNextToTell n k
+left_as m n k same left is = subst (λ (o : Option TerminatorEntry). IsTrue left ↔ HasNextIn o) same is
+
+pub left_put : (n : TerminatorMap) (k : ℕ) (new : TerminatorEntry) (left : Bool) → IsTrue left ↔ HasNextHere new → IsTrue left ↔ HasNextToTell (maps.insert n k new) k
+left_put n k new left is = subst (λ (o : Option TerminatorEntry). IsTrue left ↔ HasNextIn o) (sym (get_here n k new)) is
 
 module _ (n m : TerminatorMap) (seen : n ≡ m) (k : ℕ) where
   pub changes : (change : TerminatorEntry → TerminatorEntry) (old new : TerminatorEntry) → maps.get n k ≡ Some old → new ≡ change old
@@ -46,6 +58,10 @@ module _ (n m : TerminatorMap) (seen : n ≡ m) (k : ℕ) where
 
   pub newly_waits : (old : TerminatorEntry) → maps.get n k ≡ Some old → (w : Waiter) (new : Bool) → IsTrue new ↔ ¬ IsSome (maps.get old.waiters w) → IsTrue new ↔ ¬ WaitsAt m k w
   newly_waits old had w new is = rw (waiters_known old had) is
+
+  pub newly_due : (old : TerminatorEntry) → maps.get n k ≡ Some old → (w : Waiter) (due : Bool) → IsTrue due ↔ (¬ IsSome (maps.get old.waiters w)) × IsTrue old.returned → IsTrue due ↔ (¬ WaitsAt m k w) × IsReturned m k
+  newly_due old had w due is =
+      subst (λ (o : Option TerminatorEntry). IsTrue due ↔ (¬ IsSome (maps.get (option_map_or (λ e. e.waiters) o maps.empty) w)) × IsTrue (option_map_or (λ e. e.returned) o false)) (sym (held n m seen k (Some old) had)) is
 
   -- who waits, waits at an entry
   pub waits_entered : (w : Waiter) → WaitsAt m k w → IsEntered m k

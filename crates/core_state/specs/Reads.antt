@@ -1,5 +1,5 @@
 -- What is read of a terminator.
-use Rattle.std.specs.Prelude.{ℕ, Bool, Option}
+use Rattle.std.specs.Prelude.{ℕ, Bool, Option, Some}
 use Rattle.std.specs.Option.{option_map}
 use Rattle.std.specs.FinMap as maps
 use Rattle.cfg_model.specs.declared.state.Waiter.{Waiter}
@@ -20,3 +20,7 @@ returned_at terminators k = option_map (λ entry. entry.returned) (maps.get term
 abbrev pub IsNextToTell : TerminatorMap → ℕ → Option Waiter → Type 0
 IsNextToTell terminators k =
     IsLeastBy waiter_cmp (λ w. IsReturned terminators k × IsUntold terminators k w)
+
+-- Somebody is to be told of the return of k.
+abbrev pub HasNextToTell : TerminatorMap → ℕ → Type 0
+HasNextToTell terminators k = (w : Waiter) × IsNextToTell terminators k (Some w)

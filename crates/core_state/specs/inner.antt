@@ -7,3 +7,4 @@ pub mod Grouped
 pub mod Walk
 pub mod Remaining
 pub mod InPlace
+pub mod EndKept

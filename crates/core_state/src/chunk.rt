@@ -1,6 +1,7 @@
 //! A chunk of a map by lines: 64 pages, each with its line.
 
-ghost use Rattle.std.specs.Prelude.{◌≡◌, ◌≤◌, ℕ, not, All, length, Some, IsSome, OnOk, OnErr, IfOk};
+ghost use Rattle.std.specs.Prelude.{◌≡◌, ◌≤◌, ℕ, not, length, slice_index_or};
+ghost use Rattle.std.specs.Prelude.{Some, IsSome, OnOk, OnErr, IfOk};
 ghost use Rattle.std.specs.Prelude.{IfSome, IfNone};
 ghost use Rattle.std.specs.Borrow.{sem};
 ghost use Rattle.std.specs.Option.{option_copied};
@@ -20,9 +21,11 @@ use crate::memory::Memory;
 use std::alloc::Global;
 use std::marker::Model;
 
-/// The lines of 64 pages, by the page's place among them.
+/// The lines of 64 pages, by the page's place among them; or none of the lines, where there are no
+/// addresses.
 #[derive(Drop)]
 pub(crate) struct Chunk<T> {
+    alloc: Global,
     lines: Vec<Line<T>>,
 }
 
@@ -31,7 +34,7 @@ impl<T> Model for Chunk<T> {
     ghost use Rattle.std.specs.Ordering.{nat_cmp};
     ghost use Rattle.std.specs.Coded.{coded_ℕ};
     ghost use Rattle.core_state.specs.Joined.{joined};
-    ghost use Rattle.core_state.specs.inner.Grouped.{AreLines};
+    ghost use Rattle.core_state.specs.inner.Grouped.{page_of, AreParts};
 
     ghost Value = { maps.FinMap nat_cmp T };
 
@@ -39,7 +42,7 @@ impl<T> Model for Chunk<T> {
 
     ghost view = { λ c. joined c.lines.items };
 
-    ghost invariant = { λ c. AreLines c.lines.items };
+    ghost invariant = { λ c. AreParts page_of c.lines.items };
 }
 
 /// How many pages a chunk has.
@@ -53,22 +56,26 @@ pub(crate) fn page(k: u64) -> usize
 }
 
 impl<T> Chunk<T> {
-    /// A chunk without addresses.
-    pub(crate) fn new(alloc: Global) -> Result<Self, Memory>
-    where
-        T: Drop,
-        ensures { IfOk result (λ chunk. chunk ≡ maps.empty) }
+    /// A chunk without addresses. It takes no memory before one is added.
+    pub(crate) fn new(alloc: Global) -> Self
+        ensures { result ≡ maps.empty }
     {
-        Ok(Chunk {
-            lines: empty_lines(alloc)?,
-        })
+        Chunk {
+            alloc,
+            lines: Vec::new(alloc),
+        }
     }
 
     /// The value at `k`.
     pub(crate) fn get(&self, k: u64) -> Option<&T>
         ensures { option_copied result ≡ maps.get self.now k }
     {
-        self.lines[page(k)].get(k)
+        let place = page(k);
+        if place < self.lines.len() {
+            self.lines[place].get(k)
+        } else {
+            None
+        }
     }
 
     /// The value at `k`, for writing.
@@ -89,6 +96,7 @@ impl<T> Chunk<T> {
         ensures answer { IfOk result (λ new. new ≡ not (maps.contains_key self.old k)) }
         ensures unchanged { OnErr result (self.new ≡ self.old) }
     {
+        fill(self.alloc, &mut self.lines)?;
         self.lines[page(k)].add(k, value)
     }
 
@@ -96,7 +104,12 @@ impl<T> Chunk<T> {
     pub(crate) fn after_in_page(&self, a: u64) -> Option<u64>
         ensures { IsLeast (λ k. IsKeyAbove self.now (Some a) k × (page_of k ≡ page_of a)) result }
     {
-        self.lines[page(a)].after(Some(a))
+        let place = page(a);
+        if place < self.lines.len() {
+            self.lines[place].after(Some(a))
+        } else {
+            None
+        }
     }
 
     /// The least address above `a`, or the least of all where there is no `a`; none lies in a page
@@ -106,7 +119,7 @@ impl<T> Chunk<T> {
         requires ahead { (x : ℕ) → IsKeyAbove self.now a x → start ≤ page_of x }
         ensures { IsLeast (IsKeyAbove self.now a) result }
     {
-        for place in start..PAGES {
+        for place in start..self.lines.len() {
             if let Some(k) = self.lines[place].after(a) {
                 return Some(k);
             }
@@ -130,10 +143,14 @@ impl<T> Chunk<T> {
     }
 }
 
-/// The lines of a chunk, without addresses.
-fn empty_lines<T: Drop>(alloc: Global) -> Result<Vec<Line<T>>, Memory>
-    ensures count { IfOk result (λ v. length v.items ≡ 64) }
-    ensures empty { IfOk result (λ v. All (λ m. m ≡ maps.empty) v.items) }
+/// Adds lines without addresses until there is one for each page.
+fn fill<T: Drop>(alloc: Global, lines: &mut Vec<Line<T>>) -> Result<(), Memory>
+    ensures same { (i : ℕ) → slice_index_or lines.new.items i maps.empty
+        ≡ slice_index_or lines.old.items i maps.empty }
+    ensures all { OnOk result (64 ≤ length lines.new.items) }
 {
-    Ok((0..PAGES).map(|_| Line::new(alloc)).collect(alloc)?)
+    for _place in lines.len()..PAGES {
+        lines.push(Line::new(alloc))?;
+    }
+    Ok(())
 }

@@ -15,7 +15,7 @@ ghost use Rattle.core_state.specs.inner.Remaining.{LeftAmong};
 use crate::answer::Name;
 use crate::look::Look;
 use crate::memory::Memory;
-use crate::pairs::{key_above, place_of};
+use crate::pairs::{key_above, place_of, push};
 use std::alloc::Global;
 use std::marker::Model;
 
@@ -82,7 +82,7 @@ impl<T> Line<T> {
         if place_of(self.pairs.as_slice(), &k).is_some() {
             return Ok(false);
         }
-        self.pairs.push((k, value))?;
+        push(&mut self.pairs, (k, value))?;
         Ok(true)
     }
 

@@ -1,9 +1,8 @@
 //! A map by address, in lines that are found fast.
 
-ghost use Rattle.std.specs.Prelude.{◌≡◌, ◌<◌, ◌^◌, not, Some, IsSome, OnOk, OnErr, IfOk};
-ghost use Rattle.std.specs.Prelude.{IfSome, IfNone};
+ghost use Rattle.std.specs.Prelude.{◌≡◌, not, Some, IsSome, OnOk, OnErr, IfOk, IfSome, IfNone};
 ghost use Rattle.std.specs.Borrow.{sem};
-ghost use Rattle.std.specs.Option.{option_copied, option_map};
+ghost use Rattle.std.specs.Option.{option_copied};
 ghost use Rattle.std.specs.Ordering.{nat_cmp};
 ghost use Rattle.std.specs.FinMap as maps;
 ghost use Rattle.cfg_model.specs.Builder.Left.{Work};
@@ -11,56 +10,41 @@ ghost use Rattle.core_state.specs.Work.{work_of};
 ghost use Rattle.core_state.specs.inner.Lent.{lends_of_map};
 ghost use Rattle.core_state.specs.inner.Remaining.{LeftAmong};
 ghost use Rattle.core_state.specs.Least.{IsLeast};
-ghost use Rattle.core_state.specs.inner.Grouped.{chunk_of, with_new, IsKeyAbove};
-ghost use Rattle.core_state.specs.inner.Grouped.{IsInChunk, IsNextInChunk, IsNextInPage};
+ghost use Rattle.core_state.specs.inner.Grouped.{with_new, IsKeyAbove, IsNextInPage};
 
 use crate::answer::Name;
-use crate::chunk::{Chunk, page};
 use crate::look::Look;
 use crate::memory::Memory;
-use crate::walk::least_above;
+use crate::region::{Region, region_number};
+use crate::scattered::Scattered;
+use crate::walk::lesser;
 use std::alloc::Global;
-use std::collections::BTreeMap;
 use std::marker::Model;
 
-/// Addresses, each with a value.
+/// Addresses, each with a value. Those of one region, in which the first one lies, are near, and
+/// found at once: nearly every program lies in one region. All others are far.
 #[derive(Drop)]
 pub(crate) struct LineMap<T> {
-    alloc: Global,
-    chunks: BTreeMap<u64, Chunk<T>>,
+    number: u64,
+    near: Region<T>,
+    far: Scattered<T>,
 }
 
 impl<T> Model for LineMap<T> {
+    ghost use Rattle.std.specs.Prelude.{[], ◌∷◌};
     ghost use Rattle.std.specs.FinMap as maps;
     ghost use Rattle.std.specs.Ordering.{nat_cmp};
-    ghost use Rattle.std.specs.BTreeMap.{IsOrdered};
     ghost use Rattle.std.specs.Coded.{coded_ℕ};
-    ghost use Rattle.core_state.specs.inner.Grouped.{chunk_entries, AreChunks};
+    ghost use Rattle.core_state.specs.Joined.{joined};
+    ghost use Rattle.core_state.specs.inner.Grouped.{side_of, AreParts};
 
     ghost Value = { maps.FinMap nat_cmp T };
 
     ghost coded = { maps.code coded_ℕ T.code };
 
-    ghost view = { λ m. maps.from_entries (chunk_entries m.chunks.entries) };
+    ghost view = { λ m. joined (m.near ∷ m.far ∷ []) };
 
-    ghost invariant = { λ m. IsOrdered nat_cmp m.chunks × AreChunks m.chunks.entries };
-}
-
-/// The number of the chunk that `k` lies in.
-fn chunk(k: u64) -> u64
-    ensures { result ≡ chunk_of k }
-{
-    k / 262_144
-}
-
-/// The number of the chunk that `a` lies in, where there is an `a`.
-fn chunk_before(a: Option<u64>) -> Option<u64>
-    ensures { result ≡ option_map chunk_of a }
-{
-    match a {
-        Some(a) => Some(chunk(a)),
-        None => None,
-    }
+    ghost invariant = { λ m. AreParts (side_of m.number) (m.near ∷ m.far ∷ []) };
 }
 
 impl<T> LineMap<T> {
@@ -69,8 +53,9 @@ impl<T> LineMap<T> {
         ensures { result ≡ maps.empty }
     {
         LineMap {
-            alloc,
-            chunks: BTreeMap::new(alloc),
+            number: 0,
+            near: Region::new(alloc),
+            far: Scattered::new(alloc),
         }
     }
 
@@ -78,9 +63,10 @@ impl<T> LineMap<T> {
     pub(crate) fn get(&self, k: u64) -> Option<&T>
         ensures { option_copied result ≡ maps.get self.now k }
     {
-        match self.chunks.get(&chunk(k)) {
-            Some(chunk) => chunk.get(k),
-            None => None,
+        if region_number(k) == self.number {
+            self.near.get(k)
+        } else {
+            self.far.get(k)
         }
     }
 
@@ -90,8 +76,11 @@ impl<T> LineMap<T> {
         ensures* writes_back { sem 𝓛 (lends_of_map T.row self.entry k result) }
         ensures value { maps.get self.old k ≡ Some result.now }
     {
-        let chunk = self.chunks.get_mut(&chunk(k)).unwrap();
-        chunk.value_mut(k)
+        if region_number(k) == self.number {
+            self.near.value_mut(k)
+        } else {
+            self.far.value_mut(k)
+        }
     }
 
     /// Adds `k` with this value, where it is not there. Answers whether it is new.
@@ -102,42 +91,49 @@ impl<T> LineMap<T> {
         ensures answer { IfOk result (λ new. new ≡ not (maps.contains_key self.old k)) }
         ensures unchanged { OnErr result (self.new ≡ self.old) }
     {
-        let number = chunk(k);
-        if let Some(chunk) = self.chunks.get_mut(&number) {
-            return chunk.add(k, value);
+        self.begin(k);
+        self.put(k, value)
+    }
+
+    /// Adds `k` to the near addresses, or to the far ones.
+    fn put(&mut self, k: u64, value: T) -> Result<bool, Memory>
+    where
+        T: Drop,
+        ensures added { OnOk result (self.new ≡ with_new self.old k value) }
+        ensures answer { IfOk result (λ new. new ≡ not (maps.contains_key self.old k)) }
+        ensures unchanged { OnErr result (self.new ≡ self.old) }
+    {
+        if region_number(k) == self.number {
+            self.near.add(k, value)
+        } else {
+            self.far.add(k, value)
         }
-        let mut fresh = Chunk::new(self.alloc)?;
-        let new = fresh.add(k, value)?;
-        self.chunks.insert(number, fresh)?;
-        Ok(new)
+    }
+
+    /// Makes the region of `k` the near one, where there are no addresses yet.
+    fn begin(&mut self, k: u64)
+        ensures { self.new ≡ self.old }
+    {
+        if self.near.is_empty() && self.far.is_empty() {
+            self.number = region_number(k);
+        }
     }
 
     /// The least address above `a`, or the least of all where there is no `a`.
     pub(crate) fn after(&self, a: Option<u64>) -> Option<u64>
         ensures { IsLeast (IsKeyAbove self.now a) result }
     {
-        let here = self.after_in_chunk(a);
-        if here.is_some() {
-            return here;
-        }
-        let mut next = least_above(&self.chunks, chunk_before(a));
-        'chunks: while let Some(number) = next {
-            let first = self.first_of(number);
-            if first.is_some() {
-                return first;
-            }
-            next = least_above(&self.chunks, Some(number));
-        }
-        None
+        lesser(self.near.after(self.number, a), self.far.after(a))
     }
 
     /// The least address above `a` in the page of `a`.
     pub(crate) fn after_in_page(&self, a: u64) -> Option<u64>
         ensures { IsLeast (IsNextInPage self.now a) result }
     {
-        match self.chunks.get(&chunk(a)) {
-            Some(chunk) => chunk.after_in_page(a),
-            None => None,
+        if region_number(a) == self.number {
+            self.near.after_in_page(a)
+        } else {
+            self.far.after_in_page(a)
         }
     }
 
@@ -148,33 +144,9 @@ impl<T> LineMap<T> {
         ensures none { IfNone result
             ((work : Work) → ¬ LeftAmong (L.left look.now) self.now work) }
     {
-        for (_, chunk) in &self.chunks {
-            if let Some(name) = chunk.first_left(look) {
-                return Some(name);
-            }
-        }
-        None
-    }
-
-    /// The least address above `a` in the chunk of `a`, where there is an `a`.
-    fn after_in_chunk(&self, a: Option<u64>) -> Option<u64>
-        ensures { IsLeast (IsNextInChunk self.now a) result }
-    {
-        let a = a?;
-        match self.chunks.get(&chunk(a)) {
-            Some(chunk) => chunk.after(page(a), Some(a)),
-            None => None,
-        }
-    }
-
-    /// The least address of this chunk.
-    fn first_of(&self, number: u64) -> Option<u64>
-        ensures least { IsLeast (IsInChunk self.now number) result }
-        ensures small { number < 2 ^ 64 }
-    {
-        match self.chunks.get(&number) {
-            Some(chunk) => chunk.after(0, None),
-            None => None,
+        match self.near.first_left(look) {
+            Some(name) => Some(name),
+            None => self.far.first_left(look),
         }
     }
 }

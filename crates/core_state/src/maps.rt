@@ -12,7 +12,7 @@ ghost use Rattle.core_state.specs.Joined.{AreShards, joined};
 ghost use Rattle.core_state.specs.Leads.{Leads};
 ghost use Rattle.core_state.specs.Least.{IsLeast, IsAbove};
 ghost use Rattle.core_state.specs.Line.{IsNextInLine};
-ghost use Rattle.core_state.specs.Reads.{done_at, returned_at, IsNextToTell};
+ghost use Rattle.core_state.specs.Reads.{done_at, returned_at, IsNextToTell, HasNextToTell};
 ghost use Rattle.core_state.specs.Work.{work_of};
 ghost use Rattle.core_state.specs.inner.Remaining.{LeftAmong, LeftAtStart};
 ghost use Rattle.core_state.specs.inner.Remaining.{LeftAtEnd, LeftAtTerminator};
@@ -156,6 +156,18 @@ impl Maps {
         self.terms[shard(k) as usize].wait(k, w)
     }
 
+    /// Makes `w` wait at the terminator `k` as [`Maps::wait`] does. Answers whether it is to be
+    /// told now; [`Memory`] where memory ran out, and then nothing has changed.
+    pub(crate) fn place_waiter(&mut self, k: u64, w: Waiter) -> Result<bool, Memory>
+        requires { IsEntered self.old.terminators k }
+        ensures waits { OnOk result (Leads self.old (Event.Wait k w) self.new) }
+        ensures answer { IfOk result (λ due. IsTrue due
+            ↔ (¬ WaitsAt self.old.terminators k w) × IsReturned self.old.terminators k) }
+        ensures unchanged { OnErr result (self.new ≡ self.old) }
+    {
+        self.terms[shard(k) as usize].place_waiter(k, w)
+    }
+
     /// Notes that the terminator `k` returns. Answers whether that is new.
     pub(crate) fn returned(&mut self, k: u64) -> bool
         requires { IsEntered self.old.terminators k }
@@ -170,6 +182,16 @@ impl Maps {
         ensures { Leads self.old (Event.Told k w) self.new }
     {
         self.terms[shard(k) as usize].told(k, w);
+    }
+
+    /// Notes that `w` was told that the terminator `k` returns, where it waits there. Answers
+    /// whether another waiter is left to be told.
+    pub(crate) fn mark_told(&mut self, k: u64, w: Waiter) -> bool
+        requires { IsEntered self.old.terminators k }
+        ensures told { Leads self.old (Event.Told k w) self.new }
+        ensures answer { IsTrue result ↔ HasNextToTell self.new.terminators k }
+    {
+        self.terms[shard(k) as usize].mark_told(k, w)
     }
 
     /// Notes that the ways on of the terminator `k` are dealt with.

@@ -26,7 +26,9 @@ impl Job for Brand {
     ghost seeds = { [] };
 }
 
-/// Where the nine changes are made, and what has to be read for them is read.
+/// Where the nine changes are made, and what has to be read for them is read. Two of the changes
+/// can be made by another call that answers more, by the same look: [`Place::place_waiter`] is
+/// [`Place::wait`], and [`Place::mark_told`] is [`Place::told`].
 ///
 /// A place knows facts, and what it knows it keeps. It tells the maps that it stands for, or does
 /// not; where it does, it knows exactly what holds of them. A call that is refused changes no map.
@@ -42,7 +44,7 @@ pub trait Place<J: Job> {
     ghost use Rattle.cfg_model.specs.Builder.Reason.{Reason};
     ghost use Rattle.core_state.specs.Least.{IsLeast};
     ghost use Rattle.core_state.specs.Line.{IsNextInLine};
-    ghost use Rattle.core_state.specs.Reads.{IsNextToTell};
+    ghost use Rattle.core_state.specs.Reads.{IsNextToTell, HasNextToTell};
     ghost use Rattle.core_state.specs.Place.{AreKept, Makes, Brings, Remembers};
     ghost use Rattle.core_state.specs.Place.{near_after, IsArrival, IsBusyAt};
 
@@ -156,6 +158,26 @@ pub trait Place<J: Job> {
             (IsBusyAt ShardKind.Terms k (busies self.old) (busies self.new)) }
         ensures counted { busies self.old ≤ busies self.new };
 
+    /// Makes `w` wait at the terminator `k` as [`Place::wait`] does. Answers whether it is to be
+    /// told now: it is new there, and `k` is known to return. Both are read where it is placed, by
+    /// the same look. So one that is new and not to be told now waits there already when `k` is
+    /// noted to return, and whoever notes that is answered that it is new.
+    fn place_waiter(&mut self, k: u64, w: Waiter) -> Result<bool, PlaceEnd>
+        requires lawful { IsLawful J.map }
+        requires kept { AreKept J.map J.seeds (maps self.old) }
+        requires reason { Reason J.map J.seeds (knows self.old) (Event.Wait k w) }
+        ensures step { OnOk result
+            (Makes J.map J.seeds (Event.Wait k w) (maps self.old) (maps self.new)) }
+        ensures kept { AreKept J.map J.seeds (maps self.new) }
+        ensures brings { OnOk result (Brings (Event.Wait k w) (knows self.new)) }
+        ensures remembers { Remembers (knows self.old) (knows self.new) }
+        ensures answer { IfOk result (λ due. ForSome (maps self.old) (λ state. IsTrue due
+            ↔ (¬ WaitsAt state.terminators k w) × IsReturned state.terminators k)) }
+        ensures refused { OnErr result (maps self.new ≡ maps self.old) }
+        ensures busy { IfErr result
+            (IsBusyAt ShardKind.Terms k (busies self.old) (busies self.new)) }
+        ensures counted { busies self.old ≤ busies self.new };
+
     /// Notes that the terminator `k` returns. Answers whether that is new.
     fn returned(&mut self, k: u64) -> Result<bool, PlaceEnd>
         requires lawful { IsLawful J.map }
@@ -183,6 +205,25 @@ pub trait Place<J: Job> {
         ensures kept { AreKept J.map J.seeds (maps self.new) }
         ensures brings { OnOk result (Brings (Event.Told k w) (knows self.new)) }
         ensures remembers { Remembers (knows self.old) (knows self.new) }
+        ensures refused { OnErr result (maps self.new ≡ maps self.old) }
+        ensures busy { IfErr result
+            (IsBusyAt ShardKind.Terms k (busies self.old) (busies self.new)) }
+        ensures counted { busies self.old ≤ busies self.new };
+
+    /// Notes that `w` was told that the terminator `k`, at which it waits, returns, as
+    /// [`Place::told`] does. Answers whether another waiter is left to be told there, which is read
+    /// where `w` is marked, by the same look.
+    fn mark_told(&mut self, k: u64, w: Waiter) -> Result<bool, PlaceEnd>
+        requires lawful { IsLawful J.map }
+        requires kept { AreKept J.map J.seeds (maps self.old) }
+        requires reason { Reason J.map J.seeds (knows self.old) (Event.Told k w) }
+        ensures step { OnOk result
+            (Makes J.map J.seeds (Event.Told k w) (maps self.old) (maps self.new)) }
+        ensures kept { AreKept J.map J.seeds (maps self.new) }
+        ensures brings { OnOk result (Brings (Event.Told k w) (knows self.new)) }
+        ensures remembers { Remembers (knows self.old) (knows self.new) }
+        ensures answer { IfOk result (λ left. ForSome (maps self.new)
+            (λ state. IsTrue left ↔ HasNextToTell state.terminators k)) }
         ensures refused { OnErr result (maps self.new ≡ maps self.old) }
         ensures busy { IfErr result
             (IsBusyAt ShardKind.Terms k (busies self.old) (busies self.new)) }

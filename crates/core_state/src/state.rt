@@ -12,7 +12,7 @@ ghost use Rattle.core_state.specs.Joined.{AreShards, joined};
 ghost use Rattle.core_state.specs.Leads.{Leads};
 ghost use Rattle.core_state.specs.Least.{IsLeast, IsAbove};
 ghost use Rattle.core_state.specs.Line.{IsNextInLine};
-ghost use Rattle.core_state.specs.Reads.{done_at, returned_at, IsNextToTell};
+ghost use Rattle.core_state.specs.Reads.{done_at, returned_at, IsNextToTell, HasNextToTell};
 ghost use Rattle.core_state.specs.Work.{work_of};
 ghost use Rattle.cfg_model.specs.Builder.Left.{IsLeft, HasNothingLeft};
 
@@ -178,6 +178,22 @@ impl State {
         Ok(new)
     }
 
+    /// Makes `w` wait at the terminator `k` as [`State::wait`] does. Answers whether it is to be
+    /// told now: it is new there, and `k` is known to return. [`Memory`] where memory ran out, and
+    /// then nothing has changed.
+    pub fn place_waiter(&mut self, k: u64, w: Waiter) -> Result<bool, Memory>
+        requires { IsEntered self.old.maps.terminators k }
+        ensures waits { OnOk result (Leads self.old.maps (Event.Wait k w) self.new.maps) }
+        ensures answer { IfOk result (λ due. IsTrue due ↔ (¬ WaitsAt self.old.maps.terminators k w)
+            × IsReturned self.old.maps.terminators k) }
+        ensures counted { OnOk result (self.new.changes ≡ one_more self.old.changes) }
+        ensures unchanged { OnErr result (self.new ≡ self.old) }
+    {
+        let due = self.maps.place_waiter(k, w)?;
+        self.changes = self.changes.saturating_add(1);
+        Ok(due)
+    }
+
     /// Notes that the terminator `k` returns. Answers whether that is new.
     pub fn returned(&mut self, k: u64) -> bool
         requires { IsEntered self.old.maps.terminators k }
@@ -198,6 +214,19 @@ impl State {
     {
         self.maps.told(k, w);
         self.changes = self.changes.saturating_add(1);
+    }
+
+    /// Notes that `w` was told that the terminator `k` returns, as [`State::told`] does. Answers
+    /// whether another waiter is left to be told there.
+    pub fn mark_told(&mut self, k: u64, w: Waiter) -> bool
+        requires { IsEntered self.old.maps.terminators k }
+        ensures told { Leads self.old.maps (Event.Told k w) self.new.maps }
+        ensures answer { IsTrue result ↔ HasNextToTell self.new.maps.terminators k }
+        ensures counted { self.new.changes ≡ one_more self.old.changes }
+    {
+        let left = self.maps.mark_told(k, w);
+        self.changes = self.changes.saturating_add(1);
+        left
     }
 
     /// Notes that the ways on of the terminator `k` are dealt with.

@@ -46,6 +46,10 @@ impl<J: Job> Place<J> for State {
         Ok(State::wait(self, k, w)?)
     }
 
+    fn place_waiter(&mut self, k: u64, w: Waiter) -> Result<bool, PlaceEnd> {
+        Ok(State::place_waiter(self, k, w)?)
+    }
+
     fn returned(&mut self, k: u64) -> Result<bool, PlaceEnd> {
         Ok(State::returned(self, k))
     }
@@ -53,6 +57,10 @@ impl<J: Job> Place<J> for State {
     fn told(&mut self, k: u64, w: Waiter) -> Result<(), PlaceEnd> {
         State::told(self, k, w);
         Ok(())
+    }
+
+    fn mark_told(&mut self, k: u64, w: Waiter) -> Result<bool, PlaceEnd> {
+        Ok(State::mark_told(self, k, w))
     }
 
     fn edges_done(&mut self, k: u64) -> Result<(), PlaceEnd> {

@@ -1,9 +1,8 @@
 //! A shard of the terminators.
 
-ghost use Rattle.std.specs.Prelude.{◌≡◌, ◌↔◌, false, not, IsTrue, IsSome};
-ghost use Rattle.std.specs.Prelude.{Some, OnOk, OnErr, IfOk, IfSome, IfNone};
+ghost use Rattle.std.specs.Prelude.{◌≡◌, ◌↔◌, not, IsTrue, IsSome};
+ghost use Rattle.std.specs.Prelude.{OnOk, OnErr, IfOk, IfSome, IfNone};
 ghost use Rattle.std.specs.FinMap as maps;
-ghost use Rattle.cfg_model.specs.Builder.Waiter.{waiter_cmp};
 ghost use Rattle.cfg_model.specs.Builder.State.{IsEntered, IsReturned, WaitsAt};
 ghost use Rattle.cfg_model.specs.Builder.Left.{Work};
 ghost use Rattle.core_state.specs.Work.{work_of};
@@ -11,8 +10,8 @@ ghost use Rattle.core_state.specs.inner.Remaining.{LeftAmong, LeftAtTerminator};
 ghost use Rattle.cfg_model.specs.Builder.Event.{new_entry, with_terminator, with_changed};
 ghost use Rattle.cfg_model.specs.Builder.Event.{entry_with_waiter, entry_with_told};
 ghost use Rattle.cfg_model.specs.Builder.Event.{entry_with_return, entry_with_done};
-ghost use Rattle.core_state.specs.Least.{IsLeastBy};
-ghost use Rattle.core_state.specs.Reads.{done_at, returned_at, IsNextToTell};
+ghost use Rattle.core_state.specs.inner.Waiting.{IsNextHere, HasNextHere};
+ghost use Rattle.core_state.specs.Reads.{done_at, returned_at, IsNextToTell, HasNextToTell};
 
 use crate::answer::{Name, WorkKind};
 use crate::line_map::LineMap;
@@ -76,6 +75,19 @@ impl Terms {
         self.terms.value_mut(k).wait(w)
     }
 
+    /// Makes `w` wait at the terminator `k` as [`Terms::wait`] does. Answers whether it is to be
+    /// told now: it is new there, and `k` is known to return. [`Memory`] where memory ran out, and
+    /// then nothing has changed.
+    pub fn place_waiter(&mut self, k: u64, w: Waiter) -> Result<bool, Memory>
+        requires { IsEntered self.old k }
+        ensures waits { OnOk result (self.new ≡ with_changed self.old k (entry_with_waiter w)) }
+        ensures answer { IfOk result
+            (λ due. IsTrue due ↔ (¬ WaitsAt self.old k w) × IsReturned self.old k) }
+        ensures unchanged { OnErr result (self.new ≡ self.old) }
+    {
+        self.terms.value_mut(k).place_waiter(w)
+    }
+
     /// Notes that the terminator `k` returns. Answers whether that is new.
     pub fn returned(&mut self, k: u64) -> bool
         requires { IsEntered self.old k }
@@ -94,6 +106,16 @@ impl Terms {
             return;
         }
         self.terms.value_mut(k).tell(w);
+    }
+
+    /// Notes that `w` was told that the terminator `k` returns, as [`Terms::told`] does. Answers
+    /// whether another waiter is left to be told there.
+    pub fn mark_told(&mut self, k: u64, w: Waiter) -> bool
+        requires { IsEntered self.old k }
+        ensures told { self.new ≡ with_changed self.old k (entry_with_told w) }
+        ensures answer { IsTrue result ↔ HasNextToTell self.new k }
+    {
+        self.terms.value_mut(k).mark_told(w)
     }
 
     /// Notes that the ways on of the terminator `k` are dealt with.
@@ -205,6 +227,17 @@ impl Terminator {
         self.waiters.wait(w)
     }
 
+    /// Makes `w` wait as [`Terminator::wait`] does. Answers whether it is to be told now.
+    fn place_waiter(&mut self, w: Waiter) -> Result<bool, Memory>
+        ensures waits { OnOk result (self.new ≡ entry_with_waiter w self.old) }
+        ensures answer { IfOk result (λ due. IsTrue due
+            ↔ (¬ IsSome (maps.get self.old.waiters w)) × IsTrue self.old.returned) }
+        ensures unchanged { OnErr result (self.new ≡ self.old) }
+    {
+        let new = self.wait(w)?;
+        Ok(new && self.returned)
+    }
+
     /// Notes that it returns. Answers whether that is new.
     fn set_returned(&mut self) -> bool
         ensures returned { self.new ≡ entry_with_return self.old }
@@ -222,6 +255,15 @@ impl Terminator {
         self.waiters.tell(w);
     }
 
+    /// Notes that `w` was told, where it waits. Answers whether another waiter is left to be told.
+    fn mark_told(&mut self, w: Waiter) -> bool
+        ensures told { self.new ≡ entry_with_told w self.old }
+        ensures answer { IsTrue result ↔ HasNextHere self.new }
+    {
+        self.tell(w);
+        self.next_to_tell().is_some()
+    }
+
     /// Notes that its ways on are dealt with.
     fn set_done(&mut self)
         ensures { self.new ≡ entry_with_done self.old }
@@ -231,8 +273,7 @@ impl Terminator {
 
     /// The first untold waiter, where it is known to return.
     fn next_to_tell(&self) -> Option<Waiter>
-        ensures { IsLeastBy waiter_cmp
-            (λ w. IsTrue self.now.returned × (maps.get self.now.waiters w ≡ Some false)) result }
+        ensures { IsNextHere self.now result }
     {
         if self.returned {
             self.waiters.next_untold()

@@ -154,21 +154,31 @@ fn wait_for_return(rt: &impl Abort, state: &mut State) -> Result<(), Fail> {
     Ok(())
 }
 
-/// The return is noted, and its waiter is told.
+/// The return is noted, and its waiters are told, of whom one comes when it is known.
 fn tell_of_return(rt: &impl Abort, state: &mut State) -> Result<(), Fail> {
     let follower = Waiter {
         terminator: 0x10004,
         kind: WaitKind::Follow,
     };
+    let late = Waiter {
+        terminator: 0x10004,
+        kind: WaitKind::Release,
+    };
     assert_eq!(rt; state.untold(0x10008), None);
     let returned = state.has_returned(0x10008);
     assert!(rt; returned == Some(false));
     assert_eq!(rt; state.returned(0x10008), true);
+    let returned = state.has_returned(0x10008);
+    assert!(rt; returned == Some(true));
+    assert_eq!(rt; state.place_waiter(0x10008, late)?, true);
     let Some(waiter) = state.untold(0x10008) else {
         return Err(Fail::from("nobody waits"));
     };
     assert_eq!(rt; waiter, follower);
     state.told(0x10008, waiter);
+    let returned = state.has_returned(0x10008);
+    assert!(rt; returned == Some(true));
+    assert_eq!(rt; state.mark_told(0x10008, late), false);
     assert_eq!(rt; state.untold(0x10008), None);
     assert_eq!(rt; state.has_returned(0x10008), Some(true));
     Ok(())
@@ -201,7 +211,7 @@ fn find_left(rt: &impl Abort, code: &Program, empty: &State, state: &State) {
 /// Each change counts, whether it adds something or not.
 fn count_changes(rt: &impl Abort, empty: &State, state: &State) {
     assert_eq!(rt; empty.changes(), 0);
-    assert_eq!(rt; state.changes(), 20);
+    assert_eq!(rt; state.changes(), 22);
 }
 
 /// A value that another thread may take.

@@ -29,7 +29,7 @@ fn wait_all(rt: &impl Abort, terms: &mut Terms, count: u8) -> Result<(), Fail> {
         assert_eq!(rt; terms.wait(CALLEE, waiter)?, true);
         let done = terms.done(CALLEE);
         assert!(rt; done.is_some());
-        assert_eq!(rt; terms.wait(CALLEE, waiter)?, false);
+        assert_eq!(rt; terms.place_waiter(CALLEE, waiter)?, false);
     }
     Ok(())
 }
@@ -39,7 +39,10 @@ fn tell_all(rt: &impl Abort, terms: &mut Terms, count: u8) {
     for place in 0..u64::from(count) {
         let next = terms.untold(CALLEE);
         assert_eq!(rt; next, Some(waiter_at(place)));
-        terms.told(CALLEE, waiter_at(place));
+        let done = terms.done(CALLEE);
+        assert!(rt; done.is_some());
+        let left = terms.mark_told(CALLEE, waiter_at(place));
+        assert_eq!(rt; left, place + 1 < u64::from(count));
     }
     assert_eq!(rt; terms.untold(CALLEE), None);
 }

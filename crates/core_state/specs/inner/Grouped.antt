@@ -1,5 +1,5 @@
 -- A map in groups: which group a key belongs to, and what the groups are together.
-use Rattle.std.specs.Prelude.{◌≡◌, ℕ, ◌/◌, ◌%◌, List, [], ◌∷◌, ◌++◌, length}
+use Rattle.std.specs.Prelude.{◌≡◌, ◌≤◌, ◌==◌, ℕ, ◌/◌, ◌%◌, List, [], ◌∷◌, ◌++◌}
 use Rattle.std.specs.Prelude.{Option, Some, None, ◌<◌, IsSome, slice_index_or, if◌then◌else◌}
 use Rattle.std.specs.Ordering.{nat_cmp}
 use Rattle.std.specs.FinMap as maps
@@ -14,10 +14,20 @@ chunk_of k = k / 262144
 abbrev pub page_of : ℕ → ℕ
 page_of k = k / 4096 % 64
 
--- Each of the 64 lines has only keys of its page.
-pub record AreLines {X : Type 0} (lines : List (maps.FinMap nat_cmp X)) : Type 0 where
-  pub count : length lines ≡ 64
-  pub own : (i a : ℕ) → IsSome (maps.get (slice_index_or lines i maps.empty) a) → page_of a ≡ i
+-- The number of the region of 256 chunks that k lies in, and the place of its chunk in there.
+abbrev pub region_of : ℕ → ℕ
+region_of k = k / 67108864
+
+abbrev pub place_of : ℕ → ℕ
+place_of k = k / 262144 % 256
+
+-- 0 for a key of the region of this number, and 1 for one of another region.
+abbrev pub side_of : ℕ → ℕ → ℕ
+side_of number k = if region_of k == number then 0 else 1
+
+-- Each of these parts of a map has only keys that are at home in it.
+abbrev pub AreParts : {X : Type 0} → (ℕ → ℕ) → List (maps.FinMap nat_cmp X) → Type 0
+AreParts home parts = (i a : ℕ) → IsSome (maps.get (slice_index_or parts i maps.empty) a) → home a ≡ i
 
 -- The entries of all chunks, one chunk after the other.
 abbrev pub chunk_entries : {X : Type 0} → List (ℕ × maps.FinMap nat_cmp X) → List (ℕ × X)
@@ -37,6 +47,14 @@ with_new m k v = if maps.contains_key m k then m else maps.insert m k v
 -- All keys lie in one chunk.
 abbrev pub AreTogether : {X : Type 0} → maps.FinMap nat_cmp X → Type 0
 AreTogether m = (x y : ℕ) → IsSome (maps.get m x) → IsSome (maps.get m y) → chunk_of x ≡ chunk_of y
+
+-- All keys lie in the region of this number.
+abbrev pub AreInRegion : {X : Type 0} → maps.FinMap nat_cmp X → ℕ → Type 0
+AreInRegion m number = (x : ℕ) → IsSome (maps.get m x) → region_of x ≡ number
+
+-- x does not lie in front of that page of the chunk at this place of a region.
+abbrev pub IsFrom : ℕ → ℕ → ℕ → Type 0
+IsFrom place page x = (place ≤ place_of x) × (place ≡ place_of x → page ≤ page_of x)
 
 -- x is a key above a, where there is an a.
 abbrev pub IsKeyAbove : {X : Type 0} → maps.FinMap nat_cmp X → Option ℕ → ℕ → Type 0

@@ -6,6 +6,8 @@ use Rattle.std.specs.FinMap as maps
 use Rattle.std.specs.Borrow.{Lends, Fml, RattleType, MutBor}
 use Rattle.core_state.specs.contracts.line.Line as line
 use Rattle.core_state.specs.contracts.chunk.Chunk as chunk
+use Rattle.core_state.specs.contracts.region.Region as region
+use Rattle.core_state.specs.contracts.scattered.Scattered as scattered
 use Rattle.core_state.specs.contracts.line_map.LineMap as whole
 
 module _ (T : RattleType) (s : MutBor (maps.FinMap nat_cmp T.Denot)) (k : ℕ)
@@ -15,6 +17,12 @@ module _ (T : RattleType) (s : MutBor (maps.FinMap nat_cmp T.Denot)) (k : ℕ)
 
   abbrev pub lends_of_chunk : Fml
   lends_of_chunk = Lends (chunk.the_row T) T s r (maps.insert s.now k)
+
+  abbrev pub lends_of_region : Fml
+  lends_of_region = Lends (region.the_row T) T s r (maps.insert s.now k)
+
+  abbrev pub lends_of_scattered : Fml
+  lends_of_scattered = Lends (scattered.the_row T) T s r (maps.insert s.now k)
 
   abbrev pub lends_of_map : Fml
   lends_of_map = Lends (whole.the_row T) T s r (maps.insert s.now k)

@@ -1,12 +1,14 @@
 -- Waiters as a map: which change they make, and which of them is the next.
 use Rattle.std.specs.Prelude.{◌≡◌, Bool, true, false, List, Option}
-use Rattle.std.specs.Prelude.{Some, None, IsSome, if◌then◌else◌}
+use Rattle.std.specs.Prelude.{Some, None, IsSome, IsTrue, if◌then◌else◌}
 use Rattle.std.specs.declared.cmp.Ordering.{Ordering}
 use Rattle.std.specs.Ordering.{is_gt}
 use Rattle.std.specs.FinMap as maps
 use Rattle.std.specs.FinMap.{find}
 use Rattle.cfg_model.specs.declared.state.Waiter.{Waiter}
+use Rattle.cfg_model.specs.Builder.State.{TerminatorEntry}
 use Rattle.cfg_model.specs.Builder.Waiter.{waiter_cmp}
+use Rattle.core_state.specs.Least.{IsLeastBy}
 
 -- The waiters, true for one that was told.
 abbrev pub WaiterMap : Type 0
@@ -26,6 +28,16 @@ with_told waiters w = if maps.contains_key waiters w then maps.insert waiters w 
 -- w waits and was not told.
 abbrev pub AwaitsTelling : WaiterMap → Waiter → Type 0
 AwaitsTelling waiters w = maps.get waiters w ≡ Some false
+
+-- Of an entry: the first waiter that is to be told; none where it is not known to return, or all
+-- its waiters were told.
+abbrev pub IsNextHere : TerminatorEntry → Option Waiter → Type 0
+IsNextHere entry =
+    IsLeastBy waiter_cmp (λ w. IsTrue entry.returned × AwaitsTelling entry.waiters w)
+
+-- Some waiter of the entry is to be told.
+abbrev pub HasNextHere : TerminatorEntry → Type 0
+HasNextHere entry = (w : Waiter) × IsNextHere entry (Some w)
 
 -- The lesser of two things in an order, either of which may be none.
 abbrev pub lesser_by : {K : Type 0} → (K → K → Ordering) → Option K → Option K → Option K

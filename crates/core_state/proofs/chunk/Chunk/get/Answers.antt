@@ -1,6 +1,13 @@
-use Rattle.std.proofs.Common.{◌∙◌}
-use Rattle.core_state.proofs.LinesJoined.{same_there}
+use Rattle.std.proofs.Common.{sym, ◌∙◌, arith}
+use Rattle.core_state.specs.inner.Grouped.{page_of}
+use Rattle.core_state.proofs.PartsJoined.{same_there, nowhere}
 use Rattle.core_state.proofs.chunk.Chunk.get.Goals as goal
 
-pub returns : goal.returns
-returns g c = c.get.ensures ∙ same_there _ c.self.invariant c.args.k _ c.page.ensures _ c.index.ensures _ c.self.view_is
+pub returns-then-place-len : goal.returns-then-place-len
+returns-then-place-len g c =
+    c.get.ensures
+    ∙ same_there page_of _ c.self.invariant c.args.k _ c.page-place.ensures (omega (arith, c.if-place-len.true, c.len.ensures, c.self.inside.lines.ok.0)) _ c.index.ensures _ c.self.view_is
+
+pub returns-else-place-len : goal.returns-else-place-len
+returns-else-place-len g c =
+    sym (nowhere page_of _ c.self.invariant _ c.self.view_is c.args.k _ c.page-place.ensures (λ below. omega (arith, below, c.if-place-len.false, c.len.ensures, c.self.inside.lines.ok.0)))

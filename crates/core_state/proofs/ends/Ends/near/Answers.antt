@@ -1,7 +1,6 @@
 use Rattle.std.proofs.Common.{sym, ap, ◌∙◌}
 use Rattle.std.specs.Prelude.{Some, None}
 use Rattle.std.specs.Option.{option_copied}
-use Rattle.cfg_model.specs.Builder.State.{EndEntry}
 use Rattle.core_state.proofs.EndChanges.{near_known}
 use Rattle.core_state.proofs.ends.Ends.near.Goals as goal
 
@@ -11,5 +10,5 @@ returns-in_err-end c =
 
 pub returns : goal.returns
 returns c =
-    ap (λ (e : EndEntry). Some e.near) c.end.view_is
+    ap Some c.near.ensures
     ∙ near_known _ _ c.self.view_is c.args.k (Some c.in_ok-end.end.now) (sym c.get.ensures ∙ ap option_copied c.in_ok-end.was)

@@ -1,30 +1,13 @@
-use Rattle.std.proofs.Common.{sym, subst, ◌∙◌, ◌<◌}
-use Rattle.std.specs.Prelude.{Some}
-use Rattle.core_state.proofs.KeysAfter.{IsAt, IsNextChunk, found_here, walk_on, found_first, walk_next, walk_end, fewer_left, is_beyond, numbers_left}
+use Rattle.std.proofs.Common.{sym, subst}
+use Rattle.core_state.specs.Least.{IsLeast}
+use Rattle.core_state.specs.inner.Grouped.{IsKeyAbove}
+use Rattle.core_state.proofs.NearAndFar.{near_own, after_both}
 use Rattle.core_state.proofs.line_map.LineMap.after.Goals as goal
 
-pub returns-then-is_some : goal.returns-then-is_some
-returns-then-is_some g c =
-    found_here c.args.self.now c.args.a c.after_in_chunk-here.result c.after_in_chunk-here.ensures (sym c.is_some.ensures ∙ c.if-is_some.true)
-
-pub chunks-init : goal.chunks-init
-chunks-init g c =
-    walk_on c.self.inside.chunks.entries c.args.self.now c.self.view_is c.self.invariant.0 c.self.invariant.1 c.args.a c.after_in_chunk-here.result c.least_above-next.result c.after_in_chunk-here.ensures (sym c.is_some.ensures ∙ c.if-is_some.false)
-    (subst (λ o. IsNextChunk c.self.inside.chunks.entries c.args.self.now c.self.view_is c.self.invariant.0 c.self.invariant.1 o c.least_above-next.result) c.chunk_before.ensures c.least_above-next.ensures)
-
-pub returns-then-is_some-2 : goal.returns-then-is_some-2
-returns-then-is_some-2 g c =
-    found_first c.args.self.now c.args.a c.in-Some.number (subst (IsAt c.args.self.now c.args.a) c.in-Some.is c.chunks.invariant) c.first_of-first.result c.first_of-first.ensures.least (sym c.is_some-in-Some.ensures ∙ c.if-is_some-2.true)
-
-pub chunks-preserved : goal.chunks-preserved
-chunks-preserved g c =
-    walk_next c.self.inside.chunks.entries c.args.self.now c.self.view_is c.self.invariant.0 c.self.invariant.1 c.args.a c.in-Some.number (subst (IsAt c.args.self.now c.args.a) c.in-Some.is c.chunks.invariant) c.first_of-first.result c.first_of-first.ensures.least (sym c.is_some-in-Some.ensures ∙ c.if-is_some-2.false)
-    c.least_above-next-in-Some.result c.least_above-next-in-Some.ensures
-
-pub chunks-smaller : goal.chunks-smaller
-chunks-smaller g c =
-    subst (λ o. numbers_left c.least_above-next-in-Some.result < numbers_left o) (sym c.in-Some.is)
-    (fewer_left c.in-Some.number c.least_above-next-in-Some.result c.first_of-first.ensures.small (is_beyond c.self.inside.chunks.entries c.args.self.now c.self.view_is c.self.invariant.0 c.self.invariant.1 (Some c.in-Some.number) c.least_above-next-in-Some.result c.least_above-next-in-Some.ensures))
+pub after-requires : goal.after-requires
+after-requires g c = near_own c.self.inside.number c.self.inside.near c.self.inside.far c.args.self.now c.self.invariant c.self.view_is
 
 pub returns : goal.returns
-returns g c = walk_end c.self.inside.chunks.entries c.args.self.now c.self.view_is c.self.invariant.0 c.self.invariant.1 c.args.a (subst (IsAt c.args.self.now c.args.a) c.in_default.is c.chunks.invariant)
+returns g c =
+    subst (IsLeast (IsKeyAbove c.args.self.now c.args.a)) (sym c.lesser.ensures)
+    (after_both c.self.inside.number c.self.inside.near c.self.inside.far c.args.self.now c.self.invariant c.self.view_is c.args.a c.after.result c.after-2.result c.after.ensures c.after-2.ensures)

@@ -1,11 +1,14 @@
-use Rattle.std.proofs.Common.{sym, ap, ◌∙◌}
-use Rattle.std.specs.Option.{option_copied}
-use Rattle.core_state.proofs.KeysAfter.{next_in_page, no_next_in_page}
+use Rattle.std.proofs.Common.{sym, ◌∙◌}
+use Rattle.core_state.proofs.NearAndFar.{near_own, page_near, page_far}
 use Rattle.core_state.proofs.line_map.LineMap.after_in_page.Goals as goal
 
-pub returns-in-Some : goal.returns-in-Some
-returns-in-Some g c =
-    next_in_page c.self.inside.chunks.entries c.args.self.now c.self.view_is c.self.invariant.0 c.self.invariant.1 c.chunk.result c.in-Some.chunk.now (sym c.get.ensures.value ∙ ap option_copied c.in-Some.is) c.args.a c.chunk.ensures c.after_in_page.result c.after_in_page.ensures
+pub after_in_page-requires : goal.after_in_page-requires
+after_in_page-requires g c = λ x has. near_own c.self.inside.number c.self.inside.near c.self.inside.far c.args.self.now c.self.invariant c.self.view_is x has ∙ sym (sym c.region_number.ensures ∙ c.if-region_number-self.true)
 
-pub returns-in-None : goal.returns-in-None
-returns-in-None g c = no_next_in_page c.self.inside.chunks.entries c.args.self.now c.self.view_is c.self.invariant.0 c.self.invariant.1 c.chunk.result (sym c.get.ensures.value ∙ ap option_copied c.in-None.is) c.args.a c.chunk.ensures
+pub returns-then-region_number-self : goal.returns-then-region_number-self
+returns-then-region_number-self g c =
+    page_near c.self.inside.number c.self.inside.near c.self.inside.far c.args.self.now c.self.invariant c.self.view_is c.args.a (sym c.region_number.ensures ∙ c.if-region_number-self.true) c.after_in_page.result c.after_in_page.ensures
+
+pub returns-else-region_number-self : goal.returns-else-region_number-self
+returns-else-region_number-self g c =
+    page_far c.self.inside.number c.self.inside.near c.self.inside.far c.args.self.now c.self.invariant c.self.view_is c.args.a (λ same. c.if-region_number-self.false (c.region_number.ensures ∙ same)) c.after_in_page-else-region_number-self.result c.after_in_page-else-region_number-self.ensures

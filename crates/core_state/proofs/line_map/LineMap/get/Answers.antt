@@ -1,13 +1,10 @@
-use Rattle.std.proofs.Common.{sym, ap, ◌∙◌}
-use Rattle.std.specs.Prelude.{Some, None}
-use Rattle.std.specs.Option.{option_copied}
-use Rattle.core_state.proofs.ChunksJoined.{in_its_chunk}
+use Rattle.std.proofs.Common.{sym, ◌∙◌}
+use Rattle.core_state.proofs.NearAndFar.{in_near, in_far}
 use Rattle.core_state.proofs.line_map.LineMap.get.Goals as goal
 
-pub returns-in-Some : goal.returns-in-Some
-returns-in-Some g c =
-    c.get-in-Some.ensures ∙ sym (in_its_chunk c.self.inside.chunks.entries c.args.self.now c.self.view_is c.self.invariant.0 c.self.invariant.1 c.args.k c.chunk.result c.chunk.ensures (Some c.in-Some.chunk.now) (sym c.get.ensures.value ∙ ap option_copied c.in-Some.is))
+pub returns-then-region_number-self : goal.returns-then-region_number-self
+returns-then-region_number-self g c = c.get.ensures ∙ in_near c.self.inside.number c.self.inside.near c.self.inside.far c.args.self.now c.self.invariant c.self.view_is c.args.k (sym c.region_number.ensures ∙ c.if-region_number-self.true)
 
-pub returns-in-None : goal.returns-in-None
-returns-in-None g c =
-    sym (in_its_chunk c.self.inside.chunks.entries c.args.self.now c.self.view_is c.self.invariant.0 c.self.invariant.1 c.args.k c.chunk.result c.chunk.ensures None (sym c.get.ensures.value ∙ ap option_copied c.in-None.is))
+pub returns-else-region_number-self : goal.returns-else-region_number-self
+returns-else-region_number-self g c =
+    c.get-else-region_number-self.ensures ∙ in_far c.self.inside.number c.self.inside.near c.self.inside.far c.args.self.now c.self.invariant c.self.view_is c.args.k (λ same. c.if-region_number-self.false (c.region_number.ensures ∙ same))

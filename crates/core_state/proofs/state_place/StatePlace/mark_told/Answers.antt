@@ -1,0 +1,20 @@
+use Rattle.std.proofs.Common.{refl}
+use Rattle.cfg_model.specs.Builder.Event.{Event}
+use Rattle.core_state.proofs.StatePlace.{makes, keeps, brings, remembers}
+use Rattle.core_state.proofs.TermChanges.{waits_entered}
+use Rattle.core_state.proofs.state_place.StatePlace.mark_told.Goals as goal
+
+pub mark_told-requires : goal.mark_told-requires
+mark_told-requires g c = waits_entered _ _ refl c.args.k c.args.w c.requires.reason.waits
+
+pub returns-clause-step : goal.returns-clause-step
+returns-clause-step g c = makes _ _ (Event.Told c.args.k c.args.w) _ _ c.requires.kept c.requires.reason (c.mark_told.ensures.told g.J.Job.map)
+
+pub returns-clause-kept : goal.returns-clause-kept
+returns-clause-kept g c = keeps _ _ (Event.Told c.args.k c.args.w) _ _ c.requires.kept c.requires.reason (c.mark_told.ensures.told g.J.Job.map) c.requires.lawful
+
+pub returns-clause-brings : goal.returns-clause-brings
+returns-clause-brings g c = brings _ _ (Event.Told c.args.k c.args.w) _ _ c.requires.kept c.requires.reason (c.mark_told.ensures.told g.J.Job.map)
+
+pub returns-clause-remembers : goal.returns-clause-remembers
+returns-clause-remembers g c = remembers _ _ (Event.Told c.args.k c.args.w) _ _ c.requires.kept c.requires.reason (c.mark_told.ensures.told g.J.Job.map) c.requires.lawful
