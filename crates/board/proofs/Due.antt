@@ -55,14 +55,20 @@ module _ (code : InstructionMap) (seeds : List ℕ) (old new : SeatState) where
       subst (λ (part : BuilderState). Holds code part fact) (sym (turn_found code seeds shard old new had.first had.second had.turn ∙ had.part))
       (facts_read_back code had.whole shard fact at (had.known fact h))
 
-  denied : (b : Bool) (P : Type 0) → (IsTrue b ↔ ¬ P) → P → IsFalse b
-  denied false P iff p = refl
-  denied true P iff p = absurd (iff.0 refl p)
+  denied : (b : Bool) (P : Type 0) → (IsTrue b → ¬ P) → P → IsFalse b
+  denied false P never p = refl
+  denied true P never p = absurd (never refl p)
 
   pub not_new : (event : Event) (fact : Fact) → shard_of_fact fact ≡ Some (shard_of_event event) → (r : Result Bool PlaceEnd) → OnOk r (MadeEvent code seeds event old new)
       → IfOk r (λ b. IsTrue b ↔ ¬ Holds code (found new) fact) → IfOk r (λ b. Knows code old fact → IsFalse b)
   not_new event fact at (Err e) made answer = tt
-  not_new event fact at (Ok b) made answer = λ h. denied b (Holds code (found new) fact) answer (read_known (shard_of_event event) made.had fact at h)
+  not_new event fact at (Ok b) made answer = λ h. denied b (Holds code (found new) fact) answer.0 (read_known (shard_of_event event) made.had fact at h)
+
+  -- the same where the answer says more
+  pub not_due : (event : Event) (fact : Fact) → shard_of_fact fact ≡ Some (shard_of_event event) → (More : Type 0) (r : Result Bool PlaceEnd) → OnOk r (MadeEvent code seeds event old new)
+      → IfOk r (λ b. IsTrue b ↔ (¬ Holds code (found new) fact) × More) → IfOk r (λ b. Knows code old fact → IsFalse b)
+  not_due event fact at More (Err e) made answer = tt
+  not_due event fact at More (Ok b) made answer = λ h. denied b (Holds code (found new) fact) (λ is. (answer.0 is).0) (read_known (shard_of_event event) made.had fact at h)
 
   pub is_there : (shard : Shard) (fact : Fact) → shard_of_fact fact ≡ Some shard → (r : Result Bool PlaceEnd) → OnOk r (LookedAt code seeds shard old new)
       → IfOk r (λ b. IsTrue b ↔ Holds code (found new) fact) → IfOk r (λ b. Knows code old fact → IsTrue b)

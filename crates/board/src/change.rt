@@ -1,4 +1,5 @@
-//! The nine changes, each as what it does to one shard, and how a seat makes one of them.
+//! The nine changes, each as what it does to one shard, and how a seat makes one of them. Two of
+//! them stand here twice, with more that they answer.
 ghost use Rattle.std.specs.Prelude.{◌≡◌, ◌↔◌, ◌<◌, ◌∷◌, [], Some, OnOk, OnErr, IfOk, IfErr};
 ghost use Rattle.shares.specs.Share.{IsWhole};
 ghost use Rattle.cfg_model.specs.Program.Instructions.{IsLawful};
@@ -296,6 +297,33 @@ impl<J: Job> Change<J, bool> for Wait {
     }
 }
 
+/// `w` waits at the terminator `k`, which answers whether it is to be told now.
+#[derive(Drop)]
+pub(crate) struct PlaceWaiter {
+    pub(crate) k: u64,
+    pub(crate) w: Waiter,
+}
+
+impl<J: Job> Change<J, bool> for PlaceWaiter {
+    ghost use Rattle.std.specs.Prelude.{◌↔◌, IsTrue};
+    ghost use Rattle.cfg_model.specs.Builder.Event.{Event};
+    ghost use Rattle.cfg_model.specs.Builder.State.{WaitsAt, IsReturned};
+
+    ghost event = { λ c. Event.Wait c.k c.w };
+
+    ghost gives = { λ c part _ due. IsTrue due
+        ↔ (¬ WaitsAt part.terminators c.k c.w) × IsReturned part.terminators c.k };
+
+    ghost spends = { Unit {0} };
+
+    fn make(&self, piece: &mut Piece) -> Result<bool, Memory> {
+        match piece {
+            Piece::Terms(terms) => terms.place_waiter(self.k, self.w),
+            _ => unreachable!(),
+        }
+    }
+}
+
 /// The terminator `k` returns.
 #[derive(Drop)]
 pub(crate) struct Returned {
@@ -343,6 +371,33 @@ impl<J: Job> Change<J, ()> for Told {
             _ => unreachable!(),
         }
         Ok(())
+    }
+}
+
+/// `w` was told that the terminator `k` returns, which answers whether another waiter is left to be
+/// told.
+#[derive(Drop)]
+pub(crate) struct MarkTold {
+    pub(crate) k: u64,
+    pub(crate) w: Waiter,
+}
+
+impl<J: Job> Change<J, bool> for MarkTold {
+    ghost use Rattle.std.specs.Prelude.{◌↔◌, IsTrue};
+    ghost use Rattle.cfg_model.specs.Builder.Event.{Event};
+    ghost use Rattle.core_state.specs.Reads.{HasNextToTell};
+
+    ghost event = { λ c. Event.Told c.k c.w };
+
+    ghost gives = { λ c _ part left. IsTrue left ↔ HasNextToTell part.terminators c.k };
+
+    ghost spends = { ⊥ };
+
+    fn make(&self, piece: &mut Piece) -> Result<bool, Memory> {
+        match piece {
+            Piece::Terms(terms) => Ok(terms.mark_told(self.k, self.w)),
+            _ => unreachable!(),
+        }
     }
 }
 

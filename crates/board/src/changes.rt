@@ -1,4 +1,5 @@
-//! The nine changes of a builder's state, as a seat makes them on the board.
+//! The nine changes of a builder's state, as a seat makes them on the board, and two of them in
+//! another call that answers more.
 ghost use Rattle.std.specs.Prelude.{◌≡◌, ◌↔◌, ◌<◌, IsTrue, IsFalse, OnOk, IfOk, IfErr};
 ghost use Rattle.shares.specs.Share.{IsWhole};
 ghost use Rattle.cfg_model.specs.Builder.Event.{Event};
@@ -7,12 +8,16 @@ ghost use Rattle.cfg_model.specs.Builder.Reason.{Reason};
 ghost use Rattle.cfg_model.specs.Builder.Shard.{Shard, shard_of};
 ghost use Rattle.cfg_model.specs.Builder.State.{IsStart, IsEntered, WaitsAt, IsReturned};
 ghost use Rattle.core_state.specs.Place.{Brings, Remembers, near_after};
+ghost use Rattle.core_state.specs.Reads.{HasNextToTell};
 ghost use Rattle.core_state.specs.declared.answer.ShardKind.TheVariants as ShardKind;
 ghost use Rattle.board.specs.Seat.{Knows, HoldsShard, lost_of, found, left};
 ghost use Rattle.board.specs.Calls.{MadeEvent, AnswersBusy, IsBusyAt, WhereBusy};
 ghost use Rattle.board.specs.Calls.{WhereMemory, Stays, KnowsTruth, IsArrivalAt};
 
-use crate::change::{Arrive, EdgesDone, Parsed, Returned, Settle, Term, Told, Wait, Want, make};
+use crate::change::{
+    Arrive, EdgesDone, MarkTold, Parsed, PlaceWaiter, Returned, Settle, Term, Told, Wait, Want,
+    make,
+};
 use crate::seat::Seat;
 use crate::table::Board;
 use cfg_model::{Chains, Waiter};
@@ -208,6 +213,32 @@ impl<J: Job> Seat<J> {
         make(self, board, ShardKind::Terms, k, &Wait { k, w })
     }
 
+    /// Makes `w` wait at the terminator `k` as [`Seat::wait`] does. Answers whether it is to be
+    /// told now: it is new there, and `k` is known to return. Both are read in the same turn.
+    pub fn place_waiter(&mut self, board: &Board<J>, k: u64, w: Waiter) -> Result<bool, PlaceEnd>
+        requires own { self.old.board ≡ board.now }
+        requires free { ¬ HoldsShard self.old (Shard.Terminators (shard_of k)) }
+        requires reason { Reason J.map J.seeds (Knows J.map self.old) (Event.Wait k w) }
+        ensures event { OnOk result (MadeEvent J.map J.seeds (Event.Wait k w) self.old self.new) }
+        ensures answer { IfOk result (λ due. IsTrue due
+            ↔ (¬ WaitsAt (found self.new).terminators k w)
+            × IsReturned (found self.new).terminators k) }
+        ensures brings { OnOk result (Brings (Event.Wait k w) (Knows J.map self.new)) }
+        ensures read_back { IfOk result (λ due. Knows J.map self.old (Fact.Waits k w)
+            → IsFalse due) }
+        ensures remembers { Remembers (Knows J.map self.old) (Knows J.map self.new) }
+        ensures truth { KnowsTruth J.map J.seeds self.new }
+        ensures busy { IfErr result (WhereBusy ShardKind.Terms k self.old self.new) }
+        ensures memory { IfErr result
+            (WhereMemory J.map J.seeds (Shard.Terminators (shard_of k)) self.old self.new) }
+        ensures lost { AnswersBusy result ↔ (lost_of self.old (Shard.Terminators (shard_of k))
+            < lost_of self.new (Shard.Terminators (shard_of k))) }
+        ensures stays { Stays self.old self.new }
+        ensures only_seat { IsWhole self.old.share → ¬ AnswersBusy result }
+    {
+        make(self, board, ShardKind::Terms, k, &PlaceWaiter { k, w })
+    }
+
     /// Notes that the terminator `k` returns. Answers whether that is new.
     pub fn returned(&mut self, board: &Board<J>, k: u64) -> Result<bool, PlaceEnd>
         requires own { self.old.board ≡ board.now }
@@ -246,6 +277,28 @@ impl<J: Job> Seat<J> {
         ensures only_seat { IsWhole self.old.share → ¬ AnswersBusy result }
     {
         make(self, board, ShardKind::Terms, k, &Told { k, w })
+    }
+
+    /// Notes that `w` was told that the terminator `k`, at which it waits, returns, as
+    /// [`Seat::told`] does. Answers whether another waiter is left to be told there, which is read
+    /// in the same turn.
+    pub fn mark_told(&mut self, board: &Board<J>, k: u64, w: Waiter) -> Result<bool, PlaceEnd>
+        requires own { self.old.board ≡ board.now }
+        requires free { ¬ HoldsShard self.old (Shard.Terminators (shard_of k)) }
+        requires reason { Reason J.map J.seeds (Knows J.map self.old) (Event.Told k w) }
+        ensures event { OnOk result (MadeEvent J.map J.seeds (Event.Told k w) self.old self.new) }
+        ensures answer { IfOk result
+            (λ more. IsTrue more ↔ HasNextToTell (left self.new).terminators k) }
+        ensures brings { OnOk result (Brings (Event.Told k w) (Knows J.map self.new)) }
+        ensures remembers { Remembers (Knows J.map self.old) (Knows J.map self.new) }
+        ensures truth { KnowsTruth J.map J.seeds self.new }
+        ensures busy { IfErr result (IsBusyAt ShardKind.Terms k self.old self.new) }
+        ensures lost { AnswersBusy result ↔ (lost_of self.old (Shard.Terminators (shard_of k))
+            < lost_of self.new (Shard.Terminators (shard_of k))) }
+        ensures stays { Stays self.old self.new }
+        ensures only_seat { IsWhole self.old.share → ¬ AnswersBusy result }
+    {
+        make(self, board, ShardKind::Terms, k, &MarkTold { k, w })
     }
 
     /// Notes that the ways on of the terminator `k` are dealt with.
