@@ -1,5 +1,5 @@
 -- Where a walk along a chain ends, a block may end; and what lies behind that.
-use Rattle.std.proofs.Common.{ℕ, ◌<◌, subst, arith}
+use Rattle.std.proofs.Common.{ℕ, ◌<◌, ◌≤◌, subst, arith}
 use mathlib.Core.Logic.{inl, inr}
 use Rattle.cfg_model.specs.Program.Instructions.{InstructionMap, IsLawful}
 use Rattle.cfg_model.specs.Program.Chain.{OnChain, IsTerminatorOf}
@@ -28,6 +28,14 @@ module _ (map : InstructionMap) (Known : Fact → Type 0) where
   -- and it comes before what they lead to
   pub comes_before : IsLawful map → (x p k at : ℕ) → OnChain map p k → (before : IsBeforeStart map Known x p at) → at < k
   comes_before lawful x p k at onward before = omega (arith, goes_up lawful at before.next before.onward, before.below, chain_up lawful onward)
+
+-- a start leads to where one in front of it, on whose chain it lies, has arrived
+pub leads_too : (map : InstructionMap) → IsLawful map → (p s at : ℕ) → OnChain map p s → OnChain map p at → s ≤ at → OnChain map s at
+leads_too map lawful p s at to_start to_end below =
+    elim (chain_linear map to_start to_end) [
+      | inl ahead ↦ ahead
+      | inr back ↦ subst (OnChain map s) (omega (arith, chain_up lawful back, below)) OnChain.here
+    ]
 
 -- what is known stays so
 pub still_before : (map : InstructionMap) (Less More : Fact → Type 0) → ((fact : Fact) → Less fact → More fact) → (s limit at : ℕ) → IsBeforeStart map Less s limit at → IsBeforeStart map More s limit at

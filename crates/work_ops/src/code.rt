@@ -1,9 +1,10 @@
 //! What the code of a job tells of it.
 
-ghost use Rattle.std.specs.Prelude.{◌≡◌, IfOk, IfErr, IsSome, Some};
+ghost use Rattle.std.specs.Prelude.{◌≡◌, ◌↔◌, IfOk, IfErr, IsSome, IsTrue, Some};
 ghost use Rattle.cfg_model.specs.Program.Instructions.{IsLawful, flow_at, targets_at};
-ghost use Rattle.cfg_model.specs.Program.Chain.{IsTerminatorOf};
+ghost use Rattle.cfg_model.specs.Program.Chain.{IsTerminatorOf, OnChain};
 
+use cfg_model::chain::on_chain;
 use cfg_model::{Chains, Flow, term};
 use core_state::{Job, PlaceEnd};
 
@@ -22,6 +23,15 @@ pub(crate) fn end_of<J: Job, C: Chains>(code: &C, s: u64) -> u64
     ensures { IsTerminatorOf J.map s result }
 {
     term(code, s)
+}
+
+/// Whether `p` is on the chain of `x`.
+pub(crate) fn leads<J: Job, C: Chains>(code: &C, x: u64, p: u64) -> bool
+    requires code { C.map code.now ≡ J.map }
+    requires stands { IsSome (J.map x) }
+    ensures { IsTrue result ↔ OnChain J.map x p }
+{
+    on_chain(code, x, p)
 }
 
 /// The flow of the instruction at `k`.

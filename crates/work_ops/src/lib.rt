@@ -15,6 +15,7 @@ mod closing;
 mod code;
 mod desk;
 mod edges;
+mod joining;
 mod moves;
 mod parse;
 mod parts;

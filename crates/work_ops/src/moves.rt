@@ -1,6 +1,6 @@
 //! Placing a start that was displaced by a split.
 
-ghost use Rattle.std.specs.Prelude.{◌≡◌, ◌≢◌, ◌≤◌, ◌↔◌, OnOk, IfErr, IfOk, IsSome, IsTrue};
+ghost use Rattle.std.specs.Prelude.{◌≡◌, ◌≢◌, ◌≤◌, OnOk, IfErr, IfOk, IsSome};
 ghost use Rattle.cfg_model.specs.Program.Instructions.{IsLawful};
 ghost use Rattle.cfg_model.specs.Program.Chain.{OnChain, GoesOnTo};
 ghost use Rattle.cfg_model.specs.Program.Reach.{AreSeeds};
@@ -12,11 +12,11 @@ ghost use Rattle.work_ops.specs.Going.{Runs, RoseIfBusy, Went, PlacesFirst};
 ghost use Rattle.work_ops.specs.Going.{MovesFirst, MovesStart, IsMovedNoMore};
 ghost use Rattle.work_ops.specs.inner.Walking.{IsBeforeStart};
 
-use crate::code::ask;
+use crate::code::{ask, leads};
 use crate::parts::{arrive_at, start};
 use crate::walk::before_start;
 use cfg_model::Chains;
-use cfg_model::chain::{before, on_chain};
+use cfg_model::chain::before;
 use core_state::{Job, Name, Place, PlaceEnd, WorkKind};
 
 /// Places the least displaced start of the end `k`: it and the start that is near at `k` are made
@@ -51,15 +51,6 @@ pub fn move_op<J: Job, P: Place<J>, C: Chains>(
         return Ok(());
     }
     place_before::<J, P, C>(place, code, k, x, p)
-}
-
-/// Whether `p` is on the chain of `x`.
-fn leads<J: Job, C: Chains>(code: &C, x: u64, p: u64) -> bool
-    requires code { C.map code.now ≡ J.map }
-    requires stands { IsSome (J.map x) }
-    ensures { IsTrue result ↔ OnChain J.map x p }
-{
-    on_chain(code, x, p)
 }
 
 /// The address just before `p` on the chain of `x`.

@@ -38,7 +38,8 @@ pub(crate) fn start<J: Job, P: Place<J>>(place: &mut P, s: u64) -> Result<(), Pl
     Ok(())
 }
 
-/// Enters `k` as a terminator. The edges of a new one have to be followed.
+/// Enters `k` as a terminator. Its edges have to be followed when a start of its chain is parsed,
+/// and that puts their name.
 pub(crate) fn enter<J: Job, P: Place<J>>(place: &mut P, k: u64) -> Result<(), PlaceEnd>
     requires lawful { IsLawful J.map }
     requires kept { AreKept J.map J.seeds (P.maps place.old) }
@@ -47,12 +48,13 @@ pub(crate) fn enter<J: Job, P: Place<J>>(place: &mut P, k: u64) -> Result<(), Pl
     ensures busy { IfErr result (RoseIfBusy (P.busies place.old) (P.busies place.new)) }
     ensures entered { OnOk result (P.knows place.new (Fact.Terminator k)) }
 {
-    let new = place.term(k)?;
-    pass_on::<J, P>(place, new, WorkKind::Edges, k);
+    place.term(k)?;
     Ok(())
 }
 
-/// Makes `w` wait at `k`. A new waiter may have to be told.
+/// Makes `w` wait at `k`. A new waiter has to be told where `k` is known to return. Both are read
+/// where it is placed, in one turn: so where `k` is not known to return yet, whoever notes later
+/// that it does finds the waiter there, and passes on that it has to be told.
 pub(crate) fn place_wait<J: Job, P: Place<J>>(
     place: &mut P,
     k: u64,
@@ -65,8 +67,8 @@ pub(crate) fn place_wait<J: Job, P: Place<J>>(
     ensures busy { IfErr result (RoseIfBusy (P.busies place.old) (P.busies place.new)) }
     ensures waits { OnOk result (P.knows place.new (Fact.Waits k w)) }
 {
-    let new = place.wait(k, w)?;
-    pass_on::<J, P>(place, new, WorkKind::Tell, k);
+    let due = place.place_waiter(k, w)?;
+    pass_on::<J, P>(place, due, WorkKind::Tell, k);
     Ok(())
 }
 

@@ -11,9 +11,9 @@ ghost use Rattle.work_ops.specs.Going.{Runs, RoseIfBusy, Went, TellsNext};
 ghost use Rattle.work_ops.specs.Done.{IsFreed};
 
 use crate::code::{ask, end_of, flow_of};
-use crate::parts::{enter, note_return, place_wait, start};
+use crate::parts::{enter, note_return, pass_on, place_wait, start};
 use cfg_model::{Chains, Flow, WaitKind, Waiter};
-use core_state::{Job, Name, Place, PlaceEnd, WorkKind};
+use core_state::{Job, Place, PlaceEnd, WorkKind};
 
 /// Gives one untold waiter of the returning terminator `k` what it waits for, and notes that it was
 /// told. More waiters may be left.
@@ -41,7 +41,8 @@ pub fn tell_op<J: Job, P: Place<J>, C: Chains>(
     }
 }
 
-/// Gives the waiter `w` of `k` what it waits for, and notes that it was told.
+/// Gives the waiter `w` of `k` what it waits for, and notes that it was told. Where another one is
+/// left then, it has to be told next.
 pub(crate) fn tell<J: Job, P: Place<J>, C: Chains>(
     place: &mut P,
     code: &C,
@@ -60,11 +61,8 @@ pub(crate) fn tell<J: Job, P: Place<J>, C: Chains>(
     ensures told { OnOk result (P.knows place.new (Fact.Told k w)) }
 {
     give::<J, P, C>(place, code, k, w)?;
-    place.told(k, w)?;
-    place.found(Name {
-        kind: WorkKind::Tell,
-        key: k,
-    });
+    let left = place.mark_told(k, w)?;
+    pass_on::<J, P>(place, left, WorkKind::Tell, k);
     Ok(())
 }
 

@@ -12,6 +12,7 @@ ghost use Rattle.work_ops.specs.Going.{RoseIfBusy, Went};
 ghost use Rattle.work_ops.specs.inner.Walking.{IsBeforeStart, IsStopTo};
 
 use crate::code::flow_of;
+use crate::joining::joining;
 use cfg_model::{Chains, Flow};
 use core_state::{Job, Place, PlaceEnd};
 
@@ -22,7 +23,8 @@ const SHORT: u64 = 128;
 /// that is known behind it, or at `k`.
 ///
 /// Where no start is near by, it is asked which start is near at `k`. One behind `s` bounds the way
-/// to the next start. One before `s` says that `s` is the last of those that have come to `k`: the
+/// to the next start, and where a neighbour has arrived right before it, `s` follows that one. One
+/// before `s` says that `s` is the last of those that have come to `k`: the
 /// end at `k` is then split where `s` is, which takes only the way from one to the other.
 pub(crate) fn stop_of<J: Job, P: Place<J>, C: Chains>(
     place: &mut P,
@@ -71,6 +73,9 @@ fn last_stop<J: Job, P: Place<J>, C: Chains>(
     ensures busy { IfErr result (RoseIfBusy (P.busies place.old) (P.busies place.new)) }
     ensures stop { IfOk result (IsStopTo J.map (P.knows place.new) s k) }
 {
+    if let Some(at) = joining::<J, P, C>(place, code, s, near)? {
+        return Ok(at);
+    }
     match before_start::<J, P, C>(place, code, s, near)? {
         Some(at) => Ok(at),
         None => Ok(k),

@@ -1,13 +1,11 @@
 use Rattle.cfg_model.specs.Builder.Event.{Event}
-use Rattle.work_ops.proofs.GoingOn.{changes, goes_on}
+use Rattle.work_ops.proofs.GoingOn.{changes}
 use Rattle.work_ops.proofs.parts.enter.Goals as goal
 
-pub returns-in_err-new-clause-went : goal.returns-in_err-new-clause-went
-returns-in_err-new-clause-went g c =
+pub returns-in_err-term-clause-went : goal.returns-in_err-term-clause-went
+returns-in_err-term-clause-went g c =
     changes _ _ _ _ _ c.term.result (Event.Terminator c.args.k) _ _ c.term.ensures.step c.term.ensures.refused c.term.ensures.kept c.term.ensures.remembers c.term.ensures.counted
 
 pub returns-clause-went : goal.returns-clause-went
 returns-clause-went g c =
-    goes_on _ _ _ _ _ _ _ _
-    (changes _ _ _ _ _ c.term.result (Event.Terminator c.args.k) _ _ c.term.ensures.step c.term.ensures.refused c.term.ensures.kept c.term.ensures.remembers c.term.ensures.counted)
-    c.pass_on.ensures.went
+    changes _ _ _ _ _ c.term.result (Event.Terminator c.args.k) _ _ c.term.ensures.step c.term.ensures.refused c.term.ensures.kept c.term.ensures.remembers c.term.ensures.counted

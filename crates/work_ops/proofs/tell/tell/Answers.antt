@@ -1,5 +1,5 @@
 use Rattle.cfg_model.specs.Builder.Event.{Event}
-use Rattle.work_ops.proofs.GoingOn.{changes, reads, goes_on}
+use Rattle.work_ops.proofs.GoingOn.{changes, goes_on}
 use Rattle.work_ops.proofs.tell.tell.Goals as goal
 
 pub returns-clause-went : goal.returns-clause-went
@@ -7,5 +7,5 @@ returns-clause-went g c =
     (goes_on _ _ _ _ _ _ _ _
     c.give.ensures.went
     (goes_on _ _ _ _ _ _ _ _
-    (changes _ _ _ _ _ c.told.result (Event.Told c.args.k c.args.w) _ _ c.told.ensures.step c.told.ensures.refused c.told.ensures.kept c.told.ensures.remembers c.told.ensures.counted)
-    (reads _ _ _ _ _ _ _ c.found.ensures.same c.told.ensures.kept c.found.ensures.remembers c.found.ensures.counted)))
+    (changes _ _ _ _ _ c.mark_told.result (Event.Told c.args.k c.args.w) _ _ c.mark_told.ensures.step c.mark_told.ensures.refused c.mark_told.ensures.kept c.mark_told.ensures.remembers c.mark_told.ensures.counted)
+    c.pass_on.ensures.went))
