@@ -1,3 +1,5 @@
 mod Ending
 mod Reasons
+mod Minding
+mod Losing
 mod GivenBack

@@ -2,7 +2,6 @@
 use Rattle.std.proofs.Common.{◌≡◌, ℕ, List, sym, subst}
 use Rattle.cfg_model.specs.Program.Instructions.{InstructionMap}
 use Rattle.cfg_model.specs.Builder.Event.{Event}
-use Rattle.cfg_model.specs.Builder.Fact.{Fact}
 use Rattle.cfg_model.specs.Builder.Reason.{Reason}
 use Rattle.split_laws.proofs.FactLaws.{reason_more}
 use Rattle.board.specs.Seat.{SeatState, Knows}

@@ -1,4 +1,5 @@
 -- Words of this crate's own functions, which no public contract cites.
 pub mod Nowhere
 pub mod Desk
+pub mod Known
 pub mod Team

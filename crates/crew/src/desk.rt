@@ -5,9 +5,10 @@ ghost use Rattle.cfg_model.specs.Builder.Fact.{Fact};
 ghost use Rattle.core_state.specs.Place.{Remembers, IsBusyAt};
 ghost use Rattle.crew.specs.inner.Desk.{IsSeatAt, IsHandAt, KnowsSoundly, all_lost};
 
-use crate::followed::Followed;
+use crate::known::Known;
 use crate::names::Names;
 use crate::station::Station;
+use crate::tally::{Tally, add_one};
 use board::{Board, Seat};
 use cfg_model::{Chains, Waiter};
 use core_state::{Along, Arrival, Job, Name, Place, PlaceEnd, ShardKind};
@@ -27,7 +28,10 @@ pub(crate) struct Desk<'a, J: Job, S: Station> {
     seat: Seat<J>,
     hand: Hand,
     names: Names,
-    followed: Followed,
+    followed: Known,
+    starts: Known,
+    terminators: Known,
+    tally: Tally,
     station: PhantomData<S>,
 }
 
@@ -35,6 +39,7 @@ impl<'a, J: Job, S: Station> Model for Desk<'a, J, S> {
     ghost use Rattle.std.specs.Prelude.{◌≡◌};
     ghost use Rattle.board.specs.Seat.{SeatState, coded_seat_state, HoldsNothing};
     ghost use Rattle.crew.specs.inner.Desk.{IsSeatAt, IsHandAt};
+    ghost use Rattle.crew.specs.inner.Known.{AreMinded};
 
     ghost Value = { SeatState };
 
@@ -43,7 +48,8 @@ impl<'a, J: Job, S: Station> Model for Desk<'a, J, S> {
     ghost view = { λ d. d.seat };
 
     ghost invariant = { λ d. (d.board.now ≡ S.board) × IsSeatAt S.board S.share d.seat
-        × IsHandAt S.deques S.number d.hand };
+        × IsHandAt S.deques S.number d.hand
+        × AreMinded J.map J.seeds d.starts d.terminators d.seat };
 }
 
 impl<'a, J: Job, S: Station> Desk<'a, J, S> {
@@ -59,7 +65,10 @@ impl<'a, J: Job, S: Station> Desk<'a, J, S> {
             seat,
             hand,
             names: Names::new(alloc),
-            followed: Followed::new(alloc),
+            followed: Known::new(alloc),
+            starts: Known::new(alloc),
+            terminators: Known::new(alloc),
+            tally: Tally::default(),
             station: PhantomData,
         }
     }
@@ -76,17 +85,24 @@ impl<'a, J: Job, S: Station> Desk<'a, J, S> {
     pub(crate) fn take<R: Wait>(&mut self, rt: &R, pool: &Pool) -> Option<Name>
         requires { pool.now.deques ≡ S.deques }
     {
-        match self.names.take() {
-            Some(name) => Some(name),
-            None => self.hand.take(rt, pool),
+        if let Some(name) = self.names.take() {
+            add_one(&mut self.tally.from_kept);
+            return Some(name);
         }
+        let name = self.hand.take(rt, pool)?;
+        add_one(&mut self.tally.from_deques);
+        Some(name)
     }
 
     /// Takes the newest name that it keeps for itself, where it is this one. Whether it was.
     pub(crate) fn take_newest(&mut self, name: Name) -> bool
         ensures { self.new ≡ self.old }
     {
-        self.names.take_newest(name)
+        if !self.names.take_newest(name) {
+            return false;
+        }
+        add_one(&mut self.tally.from_kept);
+        true
     }
 
     /// Keeps in mind that it has followed the edges of `k`.
@@ -99,9 +115,30 @@ impl<'a, J: Job, S: Station> Desk<'a, J, S> {
         self.followed.has(k)
     }
 
-    /// Puts a name aside for another one, where it keeps any.
+    /// Puts a name, at whose work a try was lost, aside for another one, where it keeps any.
     pub(crate) fn swap(&mut self, name: Name) -> Name {
+        add_one(&mut self.tally.lost);
         self.names.swap(name)
+    }
+
+    /// Keeps a name, at whose work a try was lost, for later.
+    pub(crate) fn put_aside(&mut self, name: Name) {
+        add_one(&mut self.tally.lost);
+        self.names.keep(&mut self.hand, &mut self.tally, name);
+    }
+
+    /// Counts an operation that was made.
+    pub(crate) fn count_made(&mut self)
+        ensures { self.new ≡ self.old }
+    {
+        add_one(&mut self.tally.made);
+    }
+
+    /// What it has counted.
+    pub(crate) fn tally(&self) -> Tally {
+        let mut tally = self.tally;
+        tally.stolen = self.hand.stolen();
+        tally
     }
 }
 
@@ -118,63 +155,108 @@ impl<J: Job, S: Station> Place<J> for Desk<'_, J, S> {
     ghost maps = { λ _. None };
 
     fn want(&mut self, s: u64) -> Result<bool, PlaceEnd> {
-        self.seat.want(self.board, s)
+        if self.starts.has(s) {
+            return Ok(false);
+        }
+        add_one(&mut self.tally.tries);
+        let new = self.seat.want(self.board, s)?;
+        self.starts.note(s);
+        Ok(new)
     }
 
     fn parsed(&mut self, s: u64) -> Result<(), PlaceEnd> {
+        add_one(&mut self.tally.tries);
         self.seat.parsed(self.board, s)
     }
 
     fn arrive<C: Chains>(&mut self, code: &C, k: u64, s: u64) -> Result<Arrival, PlaceEnd> {
+        add_one(&mut self.tally.tries);
         self.seat.arrive_along(self.board, &Along(code), k, s)
     }
 
     fn settle(&mut self, k: u64, x: u64) -> Result<(), PlaceEnd> {
+        add_one(&mut self.tally.tries);
         self.seat.settle(self.board, k, x)
     }
 
     fn term(&mut self, k: u64) -> Result<bool, PlaceEnd> {
-        self.seat.term(self.board, k)
+        if self.terminators.has(k) {
+            return Ok(false);
+        }
+        add_one(&mut self.tally.tries);
+        let new = self.seat.term(self.board, k)?;
+        self.terminators.note(k);
+        Ok(new)
     }
 
     fn wait(&mut self, k: u64, w: Waiter) -> Result<bool, PlaceEnd> {
+        add_one(&mut self.tally.tries);
         self.seat.wait(self.board, k, w)
     }
 
+    fn place_waiter(&mut self, k: u64, w: Waiter) -> Result<bool, PlaceEnd> {
+        add_one(&mut self.tally.tries);
+        self.seat.place_waiter(self.board, k, w)
+    }
+
     fn returned(&mut self, k: u64) -> Result<bool, PlaceEnd> {
+        add_one(&mut self.tally.tries);
         self.seat.returned(self.board, k)
     }
 
     fn told(&mut self, k: u64, w: Waiter) -> Result<(), PlaceEnd> {
+        add_one(&mut self.tally.tries);
         self.seat.told(self.board, k, w)
     }
 
+    fn mark_told(&mut self, k: u64, w: Waiter) -> Result<bool, PlaceEnd> {
+        add_one(&mut self.tally.tries);
+        self.seat.mark_told(self.board, k, w)
+    }
+
     fn edges_done(&mut self, k: u64) -> Result<(), PlaceEnd> {
+        add_one(&mut self.tally.tries);
         self.seat.edges_done(self.board, k)
     }
 
     fn has_start(&mut self, s: u64) -> Result<bool, PlaceEnd> {
-        self.seat.has_start(self.board, s)
+        if self.starts.has(s) {
+            return Ok(true);
+        }
+        add_one(&mut self.tally.tries);
+        let is_start = self.seat.has_start(self.board, s)?;
+        if is_start {
+            self.starts.note(s);
+        }
+        Ok(is_start)
     }
 
     fn start_behind(&mut self, a: u64) -> Result<Option<u64>, PlaceEnd> {
-        self.seat.start_behind(self.board, a)
+        add_one(&mut self.tally.tries);
+        let next = self.seat.start_behind(self.board, a)?;
+        if let Some(t) = next {
+            self.starts.note(t);
+        }
+        Ok(next)
     }
 
     fn near(&mut self, k: u64) -> Result<Option<u64>, PlaceEnd> {
+        add_one(&mut self.tally.tries);
         self.seat.near(self.board, k)
     }
 
     fn moved(&mut self, k: u64) -> Result<Option<u64>, PlaceEnd> {
+        add_one(&mut self.tally.tries);
         self.seat.moved(self.board, k)
     }
 
     fn untold(&mut self, k: u64) -> Result<Option<Waiter>, PlaceEnd> {
+        add_one(&mut self.tally.tries);
         self.seat.untold(self.board, k)
     }
 
     fn found(&mut self, name: Name) {
-        self.names.keep(&mut self.hand, name);
+        self.names.keep(&mut self.hand, &mut self.tally, name);
     }
 
     ghost sound = { λ desk kept fact known. known.1 };

@@ -1,5 +1,6 @@
 //! A gate in front of each operation of a worker, by which a test holds workers.
 
+use crate::tally::Tally;
 use core_state::WorkKind;
 use std::marker::Sync;
 
@@ -7,6 +8,11 @@ use std::marker::Sync;
 pub trait Gate: Sync {
     /// Worker number `worker`, from 0, is about to do the work of this kind at the address `key`.
     fn before(&self, worker: u32, kind: WorkKind, key: u64);
+
+    /// Worker number `worker` has ended, and counted this.
+    fn ended(&self, worker: u32, tally: &Tally) {
+        let _told = (worker, tally.made);
+    }
 }
 
 /// The gate that holds nobody.

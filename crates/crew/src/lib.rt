@@ -7,17 +7,19 @@
 //!
 //! - [`work`], [`build`]: the state that workers leave, and the closed state.
 //! - [`Gate`]: what a worker passes before each operation, by which a test holds workers.
+//! - [`Tally`]: what a worker counted, which it gives to the gate when it ends.
 #![tactic(auto)]
 
 mod closed;
 mod desk;
-mod followed;
 mod gate;
 mod hall;
 mod hands;
+mod known;
 mod learn;
 mod names;
 mod station;
+mod tally;
 mod team;
 #[cfg(test)]
 mod tests;
@@ -25,3 +27,4 @@ mod worker;
 
 pub use closed::{build, work};
 pub use gate::{Gate, OpenGate};
+pub use tally::Tally;

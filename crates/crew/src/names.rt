@@ -2,6 +2,7 @@
 
 ghost use Rattle.steal_pool.specs.Pool.{IsSameHand};
 
+use crate::tally::{Tally, add_one};
 use core_state::Name;
 use std::alloc::Global;
 use std::collections::VecDeque;
@@ -43,17 +44,19 @@ impl Names {
     /// Keeps a name. Where there are many already, the oldest goes into the deque of `hand`; where
     /// that gives it back, or memory is missing, the new name is dropped, and its work is found
     /// when all workers have ended.
-    pub(crate) fn keep(&mut self, hand: &mut Hand, name: Name)
+    pub(crate) fn keep(&mut self, hand: &mut Hand, tally: &mut Tally, name: Name)
         ensures { IsSameHand hand.old hand.new }
     {
-        if self.names.len() >= KEPT && !self.pass_on(hand) {
+        if self.names.len() >= KEPT && !self.pass_on(hand, tally) {
             return;
         }
-        let _ = self.names.push_back(name);
+        if self.names.push_back(name).is_ok() {
+            add_one(&mut tally.kept);
+        }
     }
 
     /// Puts the oldest name into the deque. Whether there is room for another now.
-    fn pass_on(&mut self, hand: &mut Hand) -> bool
+    fn pass_on(&mut self, hand: &mut Hand, tally: &mut Tally) -> bool
         ensures { IsSameHand hand.old hand.new }
     {
         let Some(oldest) = self.names.front() else {
@@ -63,6 +66,7 @@ impl Names {
             return false;
         }
         self.names.pop_front();
+        add_one(&mut tally.put);
         true
     }
 

@@ -2,7 +2,7 @@
 
 ghost use Rattle.std.specs.Prelude.{◌≤◌};
 
-use crate::{Gate, OpenGate, build, work};
+use crate::{Gate, OpenGate, Tally, build, work};
 use alone::build_alone;
 use cfg_model::{Chains, Flow};
 use core_state::{State, WorkKind};
@@ -232,6 +232,64 @@ fn a_worker_steals(rt: HostRuntime) -> Result<(), Fail> {
     assert!(rt; gate.edges.load(Ordering::SeqCst).count_ones() >= 3);
     let one = build_alone(rt.alloc(), &code, code.seeds())?;
     same_ends(&rt, &one, &state);
+    Ok(())
+}
+
+/// Adds up what workers counted, and notes whether the counts of one do not fit together.
+#[derive(Drop)]
+struct Counts {
+    ended: AtomicU64,
+    put: AtomicU64,
+    from_deques: AtomicU64,
+    made: AtomicU64,
+    odd: AtomicU64,
+}
+
+impl Gate for Counts {
+    fn before(&self, _worker: u32, _kind: WorkKind, _key: u64) {}
+
+    fn ended(&self, worker: u32, tally: &Tally) {
+        self.ended.fetch_or(1 << (worker % 64), Ordering::SeqCst);
+        self.put.fetch_add(tally.put, Ordering::SeqCst);
+        self.from_deques
+            .fetch_add(tally.from_deques, Ordering::SeqCst);
+        self.made.fetch_add(tally.made, Ordering::SeqCst);
+        let kept = tally.kept.saturating_sub(tally.put);
+        let taken = tally.from_kept.saturating_add(tally.from_deques);
+        if tally.from_kept > kept || tally.made > taken || tally.lost > tally.tries {
+            self.odd.store(1, Ordering::SeqCst);
+        }
+    }
+}
+
+/// Each worker gives what it counted, once. Names are taken no more often than they were put, and no
+/// operation is made without a name.
+#[test]
+fn workers_count(rt: HostRuntime) -> Result<(), Fail> {
+    let code = four_returns(rt.alloc());
+    for workers in CREWS {
+        let gate = Counts {
+            ended: AtomicU64::new(0),
+            put: AtomicU64::new(0),
+            from_deques: AtomicU64::new(0),
+            made: AtomicU64::new(0),
+            odd: AtomicU64::new(0),
+        };
+        build(&rt, rt.alloc(), &code, code.seeds(), workers, &gate)?;
+        let ended = gate.ended.load(Ordering::SeqCst).count_ones();
+        assert_eq!(rt; ended, workers);
+        assert_eq!(rt; gate.odd.load(Ordering::SeqCst), 0);
+        let put = gate.put.load(Ordering::SeqCst);
+        let put = put.saturating_add(4);
+        assert!(rt;
+            gate.from_deques.load(Ordering::SeqCst) <= put,
+            "a name was never put"
+        );
+        assert!(rt;
+            gate.made.load(Ordering::SeqCst) >= 8,
+            "work was not counted"
+        );
+    }
     Ok(())
 }
 

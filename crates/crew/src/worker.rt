@@ -58,6 +58,7 @@ fn stay<J: Job, S: Station, R: Wait, C: Chains, G: Gate>(
 {
     let mut desk = Desk::<J, S>::new(alloc, hall.board, seat, hand);
     work_off(hall, &mut desk, number);
+    hall.gate.ended(number, &desk.tally());
     desk.into_parts()
 }
 
@@ -107,8 +108,14 @@ fn do_in_turn<J: Job, S: Station, R: Wait, C: Chains, G: Gate>(
     for _ in hall.rt.forever() {
         hall.gate.before(number, name.kind, name.key);
         match do_named(desk, hall.code, hall.seeds, name) {
-            Ok(Some(k)) => return go_on(hall, desk, number, k),
-            Ok(None) => return Ok(()),
+            Ok(Some(k)) => {
+                desk.count_made();
+                return go_on(hall, desk, number, k);
+            }
+            Ok(None) => {
+                desk.count_made();
+                return Ok(());
+            }
             Err(PlaceEnd::Memory) => return Err(Memory),
             Err(PlaceEnd::Busy { .. }) => {
                 name = desk.swap(name);
@@ -134,17 +141,15 @@ fn go_on<J: Job, S: Station, R: Wait, C: Chains, G: Gate>(
     match edges_op::<J, Desk<J, S>, C>(desk, hall.code, k) {
         Ok(()) => {
             desk.note_followed(k);
+            desk.count_made();
             Ok(())
         }
         Err(PlaceEnd::Memory) => Err(Memory),
         Err(PlaceEnd::Busy { .. }) => {
-            <Desk<J, S> as Place<J>>::found(
-                desk,
-                Name {
-                    kind: WorkKind::Edges,
-                    key: k,
-                },
-            );
+            desk.put_aside(Name {
+                kind: WorkKind::Edges,
+                key: k,
+            });
             Ok(())
         }
     }

@@ -36,6 +36,7 @@ pub struct Hand {
     own: Owner,
     ends: Vec<End>,
     noted: Noted,
+    stolen: u64,
 }
 
 impl Model for Hand {
@@ -72,7 +73,14 @@ impl Hand {
             own,
             ends,
             noted: Noted::new(),
+            stolen: 0,
         }
+    }
+
+    /// How many names it has taken from other hands' deques, for those who measure. It stops at
+    /// 2^64 - 1.
+    pub fn stolen(&self) -> u64 {
+        self.stolen
     }
 
     /// The hand's own deque, and its ends of all.
@@ -150,6 +158,7 @@ impl Hand {
         match self.ends[i as usize].steal() {
             Tried::Got { name } => {
                 self.noted = Noted::with(&self.noted, &Find { name });
+                self.stolen = self.stolen.saturating_add(1);
                 Tried::Got { name }
             }
             Tried::Beaten => Tried::Beaten,

@@ -1,7 +1,6 @@
 use Rattle.std.proofs.Common.{ℕ, subst}
-use Rattle.std.specs.Prelude.{Option, Some, IfSome}
+use Rattle.std.specs.Prelude.{Option, IfSome}
 use Rattle.cfg_model.specs.Builder.Fact.{Fact}
-use Rattle.cfg_model.specs.Builder.Reason.{WantReason}
 use Rattle.cfg_model.specs.Builder.Reason.WantReason.{stands}
 use Rattle.crew.specs.inner.Desk.{KnowsSoundly}
 use Rattle.crew.proofs.learn.enters.Goals as goal

@@ -1,5 +1,4 @@
-use Rattle.std.proofs.Common.{◌≡◌, List, ◌++◌, ◌∙◌, subst, sym, ap, arith, rules}
-use denote.Param.Send.{IsSend, IsSync}
+use Rattle.std.proofs.Common.{List, subst, sym, arith, rules}
 use Rattle.std.proofs.lemmas.Result.{IfOk-at_ok}
 use Rattle.steal_pool.specs.Pool.{HandValue}
 use Rattle.crew.specs.inner.Team.{IsBack, AreBack}

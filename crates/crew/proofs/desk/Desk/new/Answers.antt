@@ -1,0 +1,12 @@
+use Rattle.crew.proofs.desk.Desk.new.Goals as goal
+
+pub invariant_of-result : goal.invariant_of-result
+invariant_of-result g c = (
+  c.requires.board,
+  c.requires.seat,
+  c.requires.hand,
+  record {
+    started = λ a at. absurd (c.new-3.ensures a at);
+    entered = λ a at. absurd (c.new-4.ensures a at);
+  },
+)

@@ -1,0 +1,16 @@
+use Rattle.std.proofs.Common.{◌≤◌, subst}
+use Rattle.cfg_model.specs.Builder.Event.{Event}
+use Rattle.core_state.specs.declared.answer.ShardKind.TheVariants.{Terms}
+use Rattle.board.specs.Seat.{SeatState}
+use Rattle.crew.specs.inner.Desk.{all_lost}
+use Rattle.crew.proofs.Reasons.{seat_reason}
+use Rattle.crew.proofs.Losing.{never_fewer}
+use Rattle.crew.proofs.desk.DeskPlace.mark_told.Goals as goal
+
+pub mark_told-requires-clause-reason : goal.mark_told-requires-clause-reason
+mark_told-requires-clause-reason g c = seat_reason g.J.Job.map g.J.Job.seeds c.self.inside.seat c.args.self.now c.self.view_is (Event.Told c.args.k c.args.w) c.requires.reason
+
+pub returns-clause-counted : goal.returns-clause-counted
+returns-clause-counted g c =
+    subst (λ (s : SeatState). all_lost s ≤ all_lost c.mark_told.new.self) c.self.view_is
+    (never_fewer g.J.Job.map g.J.Job.seeds (Event.Told c.args.k c.args.w) Terms c.args.k c.self.inside.seat c.mark_told.new.self c.mark_told.result c.mark_told.ensures.event c.mark_told.ensures.busy)

@@ -1,0 +1,16 @@
+use Rattle.std.proofs.Common.{◌≤◌, subst}
+use Rattle.cfg_model.specs.Builder.Event.{Event}
+use Rattle.core_state.specs.declared.answer.ShardKind.TheVariants.{Terms}
+use Rattle.board.specs.Seat.{SeatState}
+use Rattle.crew.specs.inner.Desk.{all_lost}
+use Rattle.crew.proofs.Reasons.{seat_reason}
+use Rattle.crew.proofs.Losing.{never_fewer}
+use Rattle.crew.proofs.desk.DeskPlace.told.Goals as goal
+
+pub told-requires-clause-reason : goal.told-requires-clause-reason
+told-requires-clause-reason g c = seat_reason g.J.Job.map g.J.Job.seeds c.self.inside.seat c.args.self.now c.self.view_is (Event.Told c.args.k c.args.w) c.requires.reason
+
+pub returns-clause-counted : goal.returns-clause-counted
+returns-clause-counted g c =
+    subst (λ (s : SeatState). all_lost s ≤ all_lost c.told.new.self) c.self.view_is
+    (never_fewer g.J.Job.map g.J.Job.seeds (Event.Told c.args.k c.args.w) Terms c.args.k c.self.inside.seat c.told.new.self c.told.result c.told.ensures.event c.told.ensures.busy)

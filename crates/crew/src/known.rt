@@ -1,0 +1,68 @@
+//! Addresses that a worker keeps in mind.
+
+ghost use Rattle.std.specs.Prelude.{◌≡◌, ◌⊎◌, ℕ, IsTrue};
+ghost use Rattle.crew.specs.inner.Known.{Minds};
+
+use std::alloc::Global;
+use std::marker::Model;
+
+/// How many of them it keeps in mind.
+const PLACES: usize = 4096;
+
+/// What stands at a place that keeps none: an odd address, which no instruction has.
+const NONE: u64 = u64::MAX;
+
+/// Addresses of which a worker knows some one thing: the last one for each place that addresses are
+/// spread over. What is asked of a place that threads share costs a turn of a shard, and most of
+/// what a worker asks it knew a moment ago: that the start which it found is one, and that the
+/// terminator of many starts of one function is entered.
+#[derive(Drop)]
+pub(crate) struct Known {
+    /// Empty where memory for it was missing: then none is kept in mind.
+    places: Vec<u64>,
+}
+
+impl Model for Known {
+    ghost use Rattle.std.specs.Prelude.{ℕ, List};
+
+    ghost Value = { List ℕ };
+
+    ghost view = { λ known. known.places.items };
+
+    ghost invariant = { λ _. Unit {0} };
+}
+
+impl Known {
+    /// None yet.
+    pub(crate) fn new(alloc: Global) -> Known
+        ensures { (a : ℕ) → ¬ Minds result a }
+    {
+        match vec![in alloc; NONE; PLACES] {
+            Ok(places) => Known { places },
+            Err(_) => Known {
+                places: Vec::new(alloc),
+            },
+        }
+    }
+
+    /// Keeps the address in mind.
+    pub(crate) fn note(&mut self, a: u64)
+        ensures { (b : ℕ) → Minds self.new b → Minds self.old b ⊎ (b ≡ a) }
+    {
+        if let Some(place) = self.places.get_mut(place_of(a)) {
+            *place = a;
+        }
+    }
+
+    /// Whether the address is kept in mind. Where it is not, nothing is said of it.
+    pub(crate) fn has(&self, a: u64) -> bool
+        ensures { IsTrue result → Minds self.now a }
+    {
+        a != NONE && self.places.get(place_of(a)) == Some(&a)
+    }
+}
+
+/// The place of an address.
+fn place_of(a: u64) -> usize {
+    (a / 2 % 4096) as usize
+}

@@ -1,0 +1,28 @@
+//! What a worker counts of its own work.
+
+/// What a worker counted of its own work, for those who measure. It counts by itself: no other
+/// worker reads its counts or waits for them. Each stops at 2^64 - 1.
+#[derive(Clone, Copy, Debug, Default, PartialEq, Eq)]
+pub struct Tally {
+    /// Tries to take the turn of a shard.
+    pub tries: u64,
+    /// Those of them that found the shard in other hands. The operation was put aside then.
+    pub lost: u64,
+    /// Names of work that it found and kept for itself.
+    pub kept: u64,
+    /// Names that it kept first and put into its deque then.
+    pub put: u64,
+    /// Names that it took from those that it kept.
+    pub from_kept: u64,
+    /// Names that it took from deques, its own or others'.
+    pub from_deques: u64,
+    /// Those of them that it took from other workers' deques.
+    pub stolen: u64,
+    /// Operations that were made.
+    pub made: u64,
+}
+
+/// One more, where that is a number.
+pub(crate) fn add_one(count: &mut u64) {
+    *count = count.saturating_add(1);
+}
