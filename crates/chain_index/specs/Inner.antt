@@ -9,6 +9,7 @@ use Rattle.elf_image.specs.Header.{section_count}
 use Rattle.elf_image.specs.Sections.{section, is_code_section, holds_bytes}
 use Rattle.elf_image.specs.Number.{u16_at, u32_at}
 use Rattle.elf_image.specs.Faults.{IsImage}
+use Rattle.rv_flow.specs.Straight.{IsStraightLength}
 use Rattle.elf_image.specs.Code.{is_even, is_code, code_section_of, half_at}
 use Rattle.chain_index.specs.declared.lookup.SectionReaches.{SectionReaches}
 use Rattle.chain_index.specs.Chain.{IsChainEnd}
@@ -54,6 +55,20 @@ pub record AreReaches (bytes : List ℕ) (start : ℕ) (reaches : List ℕ) : Ty
 -- The word at an offset of a section's bytes, where all four of its bytes are there.
 abbrev pub word_of : List ℕ → ℕ → Option ℕ
 word_of code at = if nat_le (at + 4) (length code) then Some (u32_at code at) else None
+
+-- The length that a byte tells: 0 where control does not go straight on.
+abbrev pub told_length : ℕ → Option ℕ
+told_length byte = if byte == 0 then None else Some byte
+
+-- A byte tells the length of the instruction of the halfword with this number in a section's bytes.
+pub record IsTold (code : List ℕ) (i byte : ℕ) : Type 0 where
+  pub answer : IsStraightLength (u16_at code (2 * i)) (word_of code (2 * i)) (told_length byte)
+  pub bytes : IfSome (told_length byte)
+      (λ n. (n ≡ 2) ⊎ ((n ≡ 4) × (2 * i + 4 ≤ length code)))
+
+-- The lengths of a list of bytes: each byte tells that of the halfword with its number.
+abbrev pub AreTold : List ℕ → List ℕ → Type 0
+AreTold code lengths = (i d : ℕ) → i < length lengths → IsTold code i (get_or lengths i d)
 
 -- The length of a straight instruction that begins with this halfword: the low two bits of a 16-bit
 -- one are not 11.

@@ -1,18 +1,22 @@
 //! The index of an image's chains.
 
-ghost use Rattle.std.specs.Prelude.{◌≡◌, IsTrue, IfOk};
+ghost use Rattle.std.specs.Prelude.{◌≡◌, ◌≤◌, IsTrue, IfOk, vec_len};
+ghost use Rattle.std.specs.List.Sorted.{IsNonDecreasing};
 ghost use Rattle.elf_image.specs.Code.{is_code};
 ghost use Rattle.chain_index.specs.Chain.{next_of, IsChainEnd};
+ghost use Rattle.chain_index.specs.Found.{AreReachesOf};
 ghost use Rattle.chain_index.specs.Inner.{IsReachedAt, length_by};
 
 use crate::lookup::{SectionReaches, count_above, first_reach};
 use crate::memory::Memory;
 use crate::reach::section_reaches;
 use crate::sections::code_sections;
+use crate::sharing::{LEAST_SHARED, MOST_WORKERS, sections_by};
 use elf_image::Image;
 use rv_flow::StraightForms;
 use std::alloc::Global;
 use std::marker::Model;
+use std::thread::Threads;
 
 /// How far the chain of each code address of an image reaches. To a contract it is the list of the
 /// bytes of the file.
@@ -35,11 +39,28 @@ impl<'a> Model for ChainIndex<'a> {
     ghost invariant = { λ index. IsIndexOf index.image.now index.sections.items };
 }
 
-impl<'a> ChainIndex<'a> {
-    /// The index of an image. It takes time and memory linear in the sizes of the code sections:
-    /// four bytes for each halfword, taken once a section. The only error is that memory ran out.
-    pub fn new(alloc: Global, image: &'a Image) -> Result<ChainIndex<'a>, Memory>
-        ensures { IfOk result (λ index. index ≡ image.now) }
+/// What an index keeps beside the image, so that it can be made where no image can be borrowed for
+/// so long. Contracts see what is kept of each section.
+#[derive(Drop)]
+pub struct ChainReaches {
+    sections: Vec<SectionReaches>,
+}
+
+impl Model for ChainReaches {
+    ghost use Rattle.std.specs.Prelude.{List};
+    ghost use Rattle.chain_index.specs.declared.lookup.SectionReaches.{SectionReaches};
+
+    ghost Value = { List SectionReaches };
+
+    ghost view = { λ reaches. reaches.sections.items };
+}
+
+impl ChainReaches {
+    /// What an index keeps of an image. It takes time and memory linear in the sizes of the code
+    /// sections: four bytes for each halfword, taken once a section. The only error is that memory
+    /// ran out.
+    pub fn new(alloc: Global, image: &Image) -> Result<ChainReaches, Memory>
+        ensures { IfOk result (AreReachesOf image.now) }
     {
         let forms = StraightForms::new(alloc)?;
         let mut left = code_sections(alloc, image)?;
@@ -53,10 +74,63 @@ impl<'a> ChainIndex<'a> {
                 reaches,
             })?;
         }
-        Ok(ChainIndex {
+        Ok(ChainReaches { sections: found })
+    }
+
+    /// The same, made by so many workers, from 1 to 64. With one worker no thread is started, nor
+    /// for a section of fewer than 65,536 halfwords. A longer section takes one more byte for each
+    /// of its halfwords while it is gone over.
+    pub fn new_by<R: Threads + Sync>(
+        rt: &R,
+        alloc: Global,
+        image: &Image,
+        workers: u32,
+    ) -> Result<ChainReaches, Memory>
+        requires some { 1 ≤ workers }
+        requires most { workers ≤ MOST_WORKERS }
+        ensures { IfOk result (AreReachesOf image.now) }
+    {
+        if workers == 1 {
+            return ChainReaches::new(alloc, image);
+        }
+        ChainReaches::shared(rt, alloc, image, workers, LEAST_SHARED)
+    }
+
+    /// The same, with threads for sections of `least` halfwords or more.
+    pub(crate) fn shared<R: Threads + Sync>(
+        rt: &R,
+        alloc: Global,
+        image: &Image,
+        workers: u32,
+        least: u64,
+    ) -> Result<ChainReaches, Memory>
+        requires { 1 ≤ workers }
+        ensures { IfOk result (AreReachesOf image.now) }
+    {
+        let sections = sections_by(rt, alloc, image, workers as usize, least)?;
+        Ok(ChainReaches { sections })
+    }
+}
+
+impl<'a> ChainIndex<'a> {
+    /// The index of an image, made on this thread as [`ChainReaches::new`] makes what it keeps. The
+    /// only error is that memory ran out.
+    pub fn new(alloc: Global, image: &'a Image) -> Result<ChainIndex<'a>, Memory>
+        ensures { IfOk result (λ index. index ≡ image.now) }
+    {
+        let reaches = ChainReaches::new(alloc, image)?;
+        Ok(ChainIndex::of(image, reaches))
+    }
+
+    /// The index of an image with what is to be kept of it.
+    pub fn of(image: &'a Image, reaches: ChainReaches) -> ChainIndex<'a>
+        requires { AreReachesOf image.now reaches }
+        ensures { result ≡ image.now }
+    {
+        ChainIndex {
             image,
-            sections: found,
-        })
+            sections: reaches.sections,
+        }
     }
 
     /// The last address of the chain of the code address `a`: the first one from there on behind
@@ -82,6 +156,43 @@ impl<'a> ChainIndex<'a> {
             return None;
         }
         Some(a + straight_length(s.half(self.image, a)))
+    }
+
+    /// Addresses that cut the code into so many stretches of about the same size in bytes, over all
+    /// code sections in the order of their addresses: one fewer than stretches, where memory
+    /// suffices. They may be equal where there is little code.
+    pub fn bounds(&self, alloc: Global, count: u32) -> Result<Vec<u64>, Memory>
+        requires { 1 ≤ count }
+        ensures few { IfOk result (λ bounds. vec_len bounds ≤ count) }
+        ensures rising { IfOk result (λ bounds. IsNonDecreasing bounds.items) }
+    {
+        let share = self.halfwords() / u64::from(count);
+        let mut bounds = Vec::new(alloc);
+        for i in 1..count {
+            bounds.push(self.nth_halfword(share.saturating_mul(u64::from(i))))?;
+        }
+        bounds.sort_unstable();
+        Ok(bounds)
+    }
+
+    /// How many halfwords of code there are.
+    fn halfwords(&self) -> u64 {
+        self.sections
+            .iter()
+            .fold(0u64, |sum, s| sum.saturating_add(s.reaches.len() as u64))
+    }
+
+    /// The address of the `n`-th halfword of the code, from 0 on; 0 where there are not so many.
+    fn nth_halfword(&self, n: u64) -> u64 {
+        let mut left = n;
+        for s in self.sections.iter().rev() {
+            let size = s.reaches.len() as u64;
+            if left < size {
+                return s.address.saturating_add(left.saturating_mul(2));
+            }
+            left -= size;
+        }
+        0
     }
 
     /// The section of the code address `a`.

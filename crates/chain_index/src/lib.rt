@@ -9,6 +9,8 @@
 //! - `lookup`: what is kept of each section, and the search for one.
 //! - `sections`: the code sections of an image, in the order of their addresses.
 //! - `reach`: the pass over one section.
+//! - `telling`: the lengths of a section's instructions, told by several threads.
+//! - `sharing`: the passes over all sections, with such lengths.
 #![tactic(auto)]
 
 mod index;
@@ -17,10 +19,13 @@ mod lookup;
 mod memory;
 mod reach;
 mod sections;
+mod sharing;
+mod telling;
 
-pub use index::ChainIndex;
+pub use index::{ChainIndex, ChainReaches};
 pub use laws::one_chain_end;
 pub use memory::Memory;
+pub use sharing::MOST_WORKERS;
 
 #[cfg(test)]
 mod tests;

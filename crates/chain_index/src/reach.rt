@@ -43,7 +43,7 @@ pub(crate) fn section_reaches(
 
 /// The length of the instruction at an offset of a section's bytes, where control goes straight on
 /// behind it.
-fn length_at(forms: &StraightForms, code: &[u8], at: usize) -> Option<u8>
+pub(crate) fn length_at(forms: &StraightForms, code: &[u8], at: usize) -> Option<u8>
     requires { at + 2 ≤ length code.now }
     ensures answer { IsStraightLength (u16_at code.now at) (word_of code.now at) result }
     ensures bytes { IfSome result (λ n. (n ≡ 2) ⊎ ((n ≡ 4) × (at + 4 ≤ length code.now))) }
@@ -60,7 +60,11 @@ fn length_at(forms: &StraightForms, code: &[u8], at: usize) -> Option<u8>
 /// and it has this length; `near` and `far` are how far the chains of the first and the second
 /// halfword behind its first one reach, where code stands there. The only error is that the number
 /// is too large to be kept.
-fn reach_over(length: Option<u8>, near: Option<u32>, far: Option<u32>) -> Result<u32, Memory>
+pub(crate) fn reach_over(
+    length: Option<u8>,
+    near: Option<u32>,
+    far: Option<u32>,
+) -> Result<u32, Memory>
     ensures { IfOk result (λ reach. reach ≡ reach_over length near far) }
 {
     let (next, halfwords) = match length {

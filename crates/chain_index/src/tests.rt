@@ -66,6 +66,43 @@ fn chains_end_across_sections(rt: HostRuntime) -> Result<(), Fail> {
     Ok(())
 }
 
+/// The file has 13 halfwords of code: four at 10000 (hexadecimal), three at 10008, two at 1000E,
+/// two at 10012, and one each at 10018 and 10020.
+#[test]
+fn bounds_cut_evenly(rt: HostRuntime) -> Result<(), Fail> {
+    let image = image(rt.alloc())?;
+    let index = ChainIndex::new(rt.alloc(), &image)?;
+    assert!(rt; index.bounds(rt.alloc(), 1)?.is_empty());
+    assert_eq!(rt;
+        index.bounds(rt.alloc(), 2)?.as_slice(),
+        [0x1000C].as_slice()
+    );
+    let bounds = index.bounds(rt.alloc(), 4)?;
+    assert_eq!(rt; bounds.as_slice(), [0x10006, 0x1000C, 0x10012].as_slice());
+    assert_eq!(rt; index.bounds(rt.alloc(), 64)?.len(), 63);
+    Ok(())
+}
+
+/// So many workers, with threads for sections of each size, give what one thread does.
+#[test]
+fn more_workers(rt: HostRuntime) -> Result<(), Fail> {
+    let image = image(rt.alloc())?;
+    assert!(rt; image.is_code(0x10000));
+    let reaches = ChainReaches::new_by(&rt, rt.alloc(), &image, 64)?;
+    let short = ChainIndex::of(&image, reaches);
+    assert_eq!(rt; short.term(0x10000), 0x10010);
+    for workers in [1, 2, 4, 64] {
+        let reaches = ChainReaches::shared(&rt, rt.alloc(), &image, workers, 0)?;
+        let index = ChainIndex::of(&image, reaches);
+        for (a, end, next) in CASES {
+            assert!(rt; image.is_code(a));
+            assert_eq!(rt; index.term(a), end, "the end of the chain of {a}");
+            assert_eq!(rt; index.next(a), next, "the address behind {a}");
+        }
+    }
+    Ok(())
+}
+
 #[test]
 fn laws_hold() {
     one_chain_end();

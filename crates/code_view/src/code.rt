@@ -10,6 +10,7 @@ use chain_index::ChainIndex;
 use elf_image::Image;
 use jump_table::{Table, find_table, target_of};
 use rv_flow::{RawFlow, flow_of, insn_at};
+use std::alloc::Global;
 use std::marker::Model;
 
 /// The code of an image under table cuts, as a program: an instruction at each code address.
@@ -41,7 +42,8 @@ impl<'a> Model for Code<'a> {
 }
 
 impl<'a> Code<'a> {
-    ghost use Rattle.std.specs.Prelude.{◌≡◌, true, false, None, IsTrue};
+    ghost use Rattle.std.specs.Prelude.{◌≡◌, ◌≤◌, true, false, None, IsTrue, IfOk, vec_len};
+    ghost use Rattle.std.specs.List.Sorted.{IsNonDecreasing};
     ghost use Rattle.std.specs.Option.{option_map_or};
     ghost use Rattle.elf_image.specs.Code.{is_code, half_at};
     ghost use Rattle.rv_flow.specs.Placed.{placed_at};
@@ -89,6 +91,16 @@ impl<'a> Code<'a> {
             Some(half) => is_register_jump(half),
             None => false,
         }
+    }
+
+    /// Addresses that cut the code into so many stretches of about the same size in bytes:
+    /// [`ChainIndex::bounds`].
+    pub fn bounds(&self, alloc: Global, count: u32) -> Result<Vec<u64>, chain_index::Memory>
+        requires { 1 ≤ count }
+        ensures few { IfOk result (λ bounds. vec_len bounds ≤ count) }
+        ensures rising { IfOk result (λ bounds. IsNonDecreasing bounds.items) }
+    {
+        self.index.bounds(alloc, count)
     }
 
     /// The flow of the instruction at `a`, which is decoded.

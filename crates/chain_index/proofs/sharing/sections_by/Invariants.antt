@@ -1,10 +1,10 @@
 use Rattle.std.proofs.Common.{vec_len}
 use Rattle.chain_index.proofs.Looking.{IsLeft}
-use Rattle.chain_index.proofs.index.ChainIndex.new.Given as goal
+use Rattle.chain_index.proofs.sharing.sections_by.Given as goal
 
 -- what is left is in order, and all else is found
 abbrev pub invariant-loop-s : goal.invariant-loop-s
-invariant-loop-s l = IsLeft l.image l.left.items l.found.items
+invariant-loop-s g l = IsLeft l.image l.left.items l.found.items
 
 abbrev pub decreases-loop-s : goal.decreases-loop-s
-decreases-loop-s l = vec_len l.left
+decreases-loop-s g l = vec_len l.left

@@ -3,10 +3,10 @@ use Rattle.std.specs.Prelude.{IfSome, IfNone}
 use Rattle.chain_index.specs.declared.lookup.SectionReaches.{SectionReaches}
 use Rattle.chain_index.specs.Inner.{AreRight, BeginsAt, Reaches}
 use Rattle.chain_index.proofs.Looking.{IsLeft, less_left, behind_reaches, none_left, index_of}
-use Rattle.chain_index.proofs.index.ChainIndex.new.Goals as goal
+use Rattle.chain_index.proofs.sharing.sections_by.Goals as goal
 
-pub section_reaches-requires-clause-behind : goal.section_reaches-requires-clause-behind
-section_reaches-requires-clause-behind c =
+pub reaches_by-requires-clause-behind : goal.reaches_by-requires-clause-behind
+reaches_by-requires-clause-behind g c κs within =
     let bytes = c.args.image.now in
     let s = c.in-Some.s in
     let found : List SectionReaches = c.loop-s.found.items in
@@ -20,7 +20,7 @@ section_reaches-requires-clause-behind c =
     (subst (λ xs. IfNone o ((file : List ℕ) → AreRight file xs → BeginsAt xs e → ⊥)) c.deref.ensures.value c.first_reach-behind.ensures.none))
 
 pub loop-s-preserved : goal.loop-s-preserved
-loop-s-preserved c =
+loop-s-preserved g c =
     let bytes = c.args.image.now in
     let s = c.in-Some.s in
     let rest = c.pop.new.self.items in
@@ -30,5 +30,5 @@ loop-s-preserved c =
     subst (IsLeft bytes rest) (sym c.in_ok-push.ensures.items)
     (less_left bytes rest s found kept left refl refl c.in_ok-reaches.ensures.size c.in_ok-reaches.ensures.reaches)
 
-pub invariant_of-result : goal.invariant_of-result
-invariant_of-result c = index_of c.args.image.now c.loop-s.left.items c.loop-s.found.items c.loop-s.invariant (omega (arith, none_left _ c.in_default.ensures.variant.1))
+pub returns : goal.returns
+returns g c = index_of c.args.image.now c.loop-s.left.items c.loop-s.found.items c.loop-s.invariant (omega (arith, none_left _ c.in_default.ensures.variant.1))
