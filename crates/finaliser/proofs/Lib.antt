@@ -4,3 +4,4 @@ pub mod Read
 pub mod Whole
 pub mod Straight
 pub mod Moved
+pub mod Shared

@@ -1,2 +1,3 @@
 -- Words of private functions, which no public contract cites.
 pub mod Shown
+pub mod Parts

@@ -1,6 +1,8 @@
 //! The basic blocks and edges of a program, read off the closed state of its builder alone.
 //!
 //! - [`outline`]: the blocks and edges, in the order of the report.
+//! - `part`: those of one stretch of addresses.
+//! - [`sharing`]: all of them, made by several threads.
 //! - [`status`]: which starts return.
 //! - [`memory`]: the one free answer, want of memory.
 #![tactic(auto)]
@@ -9,10 +11,13 @@ mod blocks;
 mod edges;
 pub mod memory;
 pub mod outline;
+mod part;
+pub mod sharing;
 pub mod status;
 #[cfg(test)]
 mod tests;
 
 pub use memory::Memory;
 pub use outline::{Outline, blocks_and_edges};
+pub use sharing::blocks_and_edges_by;
 pub use status::may_return;

@@ -1,6 +1,9 @@
 //! Worked programs, at addresses from 0 on, from the closed states that one thread builds.
 
-use crate::{Outline, blocks_and_edges, may_return};
+ghost use Rattle.std.specs.Prelude.{IfOk};
+ghost use Rattle.std.specs.List.Sorted.{IsNonDecreasing};
+
+use crate::{Memory, Outline, blocks_and_edges, blocks_and_edges_by, may_return};
 use alone::build_alone;
 use cfg_model::{Block, Edge, EdgeKind, EndKind};
 use sample_program::{Sample, row_6, row_8, row_9, row_10, table_jump};
@@ -96,6 +99,40 @@ fn mutual_recursion(rt: HostRuntime) -> Result<(), Fail> {
     ];
     let code = row_10(rt.alloc());
     expect(&rt, &outline_of(rt.alloc(), &code)?, &blocks, &edges);
+    Ok(())
+}
+
+/// So many bounds, from 0 on, which are equal in threes.
+fn bounds(alloc: Global, count: u64) -> Result<Vec<u64>, Memory>
+    ensures { IfOk result (λ bounds. IsNonDecreasing bounds.items) }
+{
+    let mut bounds = Vec::new(alloc);
+    for k in 0..count {
+        bounds.push(k / 3)?;
+    }
+    bounds.sort_unstable();
+    Ok(bounds)
+}
+
+/// One, two, four and 64 threads give what one does.
+#[test]
+fn more_threads(rt: HostRuntime) -> Result<(), Fail> {
+    let alloc = rt.alloc();
+    for code in [
+        row_6(alloc),
+        row_8(alloc),
+        row_9(alloc),
+        row_10(alloc),
+        table_jump(alloc),
+    ] {
+        let state = build_alone(alloc, &code, code.seeds())?;
+        let alone = blocks_and_edges(alloc, &code, &state)?;
+        for threads in [1, 2, 4, 64] {
+            let bounds = bounds(alloc, threads - 1)?;
+            let made = blocks_and_edges_by(&rt, alloc, &code, &state, &bounds)?;
+            expect(&rt, &made, alone.blocks.as_slice(), alone.edges.as_slice());
+        }
+    }
     Ok(())
 }
 

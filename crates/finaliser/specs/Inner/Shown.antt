@@ -1,4 +1,4 @@
--- The blocks and edges that the ends of a state show.
+-- The blocks and edges that the ends of a state show in a stretch of addresses.
 use Rattle.std.specs.Prelude.{◌≢◌, ℕ}
 use Rattle.cfg_model.specs.declared.graph.Block.{Block}
 use Rattle.cfg_model.specs.declared.graph.Edge.{Edge}
@@ -7,16 +7,19 @@ use Rattle.cfg_model.specs.Graph.Edge.{LeadsTo}
 use Rattle.cfg_model.specs.Graph.Block.{IsBlockOf}
 use Rattle.cfg_model.specs.Program.Status.{Returns}
 use Rattle.cfg_model.specs.Builder.State.{BuilderState, IsNear}
+use Rattle.stretches.specs.declared.stretch.Stretch.{Stretch}
+use Rattle.stretches.specs.Stretch.{IsIn}
 
 -- The block from a start to the instruction at the end where that start is near.
-abbrev pub IsShownBlock : InstructionMap → BuilderState → Block → Type 0
-IsShownBlock map state block =
-    (k : ℕ) × IsNear state.ends k block.start × IsBlockOf map block.start k block
+abbrev pub IsShownBlock : InstructionMap → BuilderState → Stretch → Block → Type 0
+IsShownBlock map state stretch block =
+    (k : ℕ) × IsIn stretch k × IsNear state.ends k block.start × IsBlockOf map block.start k block
 
 -- An edge that leaves a start by a way on from the end where that start is near.
-abbrev pub IsShownEdge : InstructionMap → BuilderState → Edge → Type 0
-IsShownEdge map state edge =
-    (k : ℕ) × IsNear state.ends k edge.from × LeadsTo map (Returns map) k edge.to edge.kind
+abbrev pub IsShownEdge : InstructionMap → BuilderState → Stretch → Edge → Type 0
+IsShownEdge map state stretch edge =
+    (k : ℕ) × IsIn stretch k × IsNear state.ends k edge.from
+    × LeadsTo map (Returns map) k edge.to edge.kind
 
 -- Two blocks start at different addresses.
 abbrev pub StartApart : Block → Block → Type 0

@@ -1,7 +1,7 @@
 use Rattle.std.proofs.Common.{ap, ◌∙◌}
 use Rattle.std.specs.Prelude.{Some}
 use Rattle.finaliser.proofs.Straight.{straight_block}
-use Rattle.finaliser.proofs.outline.block_to.Goals as goal
+use Rattle.finaliser.proofs.part.block_to.Goals as goal
 
 pub returns-in-Straight : goal.returns-in-Straight
 returns-in-Straight g c =

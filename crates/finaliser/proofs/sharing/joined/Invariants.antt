@@ -1,0 +1,12 @@
+use Rattle.std.proofs.Common.{◌≡◌}
+use Rattle.std.specs.List.{All, flat_map}
+use Rattle.finaliser.specs.Inner.Parts.{AreMade, blocks_in, edges_in}
+use Rattle.finaliser.proofs.sharing.joined.Given as goal
+
+-- all parts so far were made, and their blocks and edges are joined
+abbrev pub invariant-loop-part : goal.invariant-loop-part
+invariant-loop-part l = record {
+  made : All AreMade l.yielded;
+  blocks : l.blocks.items ≡ flat_map blocks_in l.yielded;
+  edges : l.edges.items ≡ flat_map edges_in l.yielded;
+}

@@ -1,0 +1,47 @@
+-- The blocks and edges that the ends of a state show in one stretch of addresses.
+use Rattle.std.specs.Prelude.{◌⊎◌, ◌↔◌, ℕ, List, [], AllPairs, Contains, Result, Ok, Err, IsOk}
+use Rattle.cfg_model.specs.declared.graph.Block.{Block}
+use Rattle.cfg_model.specs.declared.graph.Edge.{Edge}
+use Rattle.cfg_model.specs.Program.Instructions.{InstructionMap, IsLawful}
+use Rattle.cfg_model.specs.Graph.Graph.{BlockBefore, EdgeBefore}
+use Rattle.cfg_model.specs.Graph.Listing.{Gains}
+use Rattle.cfg_model.specs.Builder.State.{BuilderState, HasEnd}
+use Rattle.stretches.specs.declared.stretch.Stretch.{Stretch}
+use Rattle.stretches.specs.Stretch.{IsIn}
+use Rattle.finaliser.specs.declared.memory.Memory.{Memory}
+use Rattle.finaliser.specs.declared.part.Part.{Part}
+use Rattle.finaliser.specs.Inner.Shown.{IsShownBlock, IsShownEdge, StartApart}
+
+-- These are the blocks and edges that the ends in a stretch show. The program is lawful where there
+-- is such an end.
+pub record ArePartOf
+    (map : InstructionMap) (state : BuilderState) (stretch : Stretch)
+    (blocks : List Block) (edges : List Edge) : Type 0 where
+  pub lawful : IsLawful map ⊎ ((k : ℕ) → HasEnd state.ends k → ¬ IsIn stretch k)
+  pub all_blocks : Gains [] blocks (IsShownBlock map state stretch)
+  pub apart : AllPairs StartApart blocks
+  pub all_edges : Gains [] edges (IsShownEdge map state stretch)
+
+-- These are the blocks and edges of a part, in the order of a graph.
+pub record AreInOrder (part : Part) (blocks : List Block) (edges : List Edge) : Type 0 where
+  pub rising_blocks : AllPairs BlockBefore blocks
+  pub same_blocks : (block : Block) → Contains blocks block ↔ Contains part.blocks.items block
+  pub rising_edges : AllPairs EdgeBefore edges
+  pub same_edges : (edge : Edge) → Contains edges edge ↔ Contains part.edges.items edge
+
+-- What a thread answers of its part.
+abbrev pub Answered : Type 0
+Answered = Result Part Memory
+
+-- The part was made.
+abbrev pub AreMade : Answered → Type 0
+AreMade answer = IsOk answer
+
+-- The blocks and edges of a part; none where memory ran out.
+abbrev pub blocks_in : Answered → List Block
+blocks_in (Ok part) = part.blocks.items
+blocks_in (Err e) = []
+
+abbrev pub edges_in : Answered → List Edge
+edges_in (Ok part) = part.edges.items
+edges_in (Err e) = []

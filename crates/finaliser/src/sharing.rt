@@ -1,0 +1,94 @@
+//! The blocks and edges of a program, made by several threads.
+
+ghost use Rattle.std.specs.Prelude.{◌≡◌, ℕ, ◌+◌, ◌≤◌, IfOk, length, vec_len, slice_index_or, All};
+ghost use Rattle.std.specs.List.{flat_map};
+ghost use Rattle.std.specs.List.Sorted.{IsNonDecreasing};
+ghost use Rattle.std.specs.Thread.{IsSync};
+ghost use Rattle.stretches.specs.Gaps.{gap};
+ghost use Rattle.finaliser.specs.Closed.{IsClosedFromSome, IsOutlineOf};
+ghost use Rattle.finaliser.specs.Inner.Parts.{AreMade, ArePartOf, blocks_in, edges_in};
+
+use crate::memory::Memory;
+use crate::outline::{Outline, blocks_and_edges, outline_from};
+use crate::part::{Part, read_ends};
+use cfg_model::Chains;
+use core_state::State;
+use std::alloc::Global;
+use std::thread::{self, Threads};
+use stretches::Stretch;
+
+/// The answer of [`blocks_and_edges`], made by one thread more than there are bounds: each makes
+/// the blocks that end in one gap between them, and their edges. So the bounds, which may be any
+/// addresses that do not fall, only say how the work is shared. With none no thread is started.
+/// [`Memory`] where memory ran out.
+pub fn blocks_and_edges_by<R: Threads + Sync, C: Chains>(
+    rt: &R,
+    alloc: Global,
+    code: &C,
+    state: &State,
+    bounds: &[u64],
+) -> Result<Outline, Memory>
+    requires closed { IsClosedFromSome (C.map code.now) state.now.maps }
+    requires rising { IsNonDecreasing bounds.now }
+    ensures outline { IfOk result (IsOutlineOf (C.map code.now) state.now.maps) }
+{
+    if bounds.is_empty() {
+        return blocks_and_edges(alloc, code, state);
+    }
+    let parts = made_by_gap(rt, alloc, code, state, bounds)?;
+    let part = joined(alloc, parts)?;
+    Ok(outline_from(part))
+}
+
+/// The blocks and edges of each gap, made on a thread of its own, in the order of the gaps.
+fn made_by_gap<R: Threads + Sync, C: Chains>(
+    rt: &R,
+    alloc: Global,
+    code: &C,
+    state: &State,
+    bounds: &[u64],
+) -> Result<Vec<Result<Part, Memory>>, Memory>
+    requires closed { IsClosedFromSome (C.map code.now) state.now.maps }
+    ensures as_many { IfOk result (λ v. vec_len v ≡ length bounds.now + 1) }
+    ensures each { IfOk result (λ v. (i : ℕ) (d : _) → i ≤ length bounds.now
+        → IfOk (slice_index_or v.items i d) (λ part. ArePartOf (C.map code.now) state.now.maps
+        (gap bounds.now i) part.blocks.items part.edges.items)) }
+{
+    let make = |i: usize| -> Result<Part, Memory>
+        requires { IsSync C.row × IsClosedFromSome (C.map code.now) state.now.maps }
+        ensures { IfOk result (λ part. ArePartOf (C.map code.entry.now) state.entry.now.maps
+            (gap bounds.entry.now i) part.blocks.items part.edges.items) }
+    { part_of(alloc, code, state, Stretch::gap(bounds, i)) };
+    Ok(thread::map_indices(rt, alloc, bounds.len() + 1, &make)?)
+}
+
+/// The blocks that end in a stretch, and the edges from there, in the order of a graph.
+fn part_of<C: Chains>(
+    alloc: Global,
+    code: &C,
+    state: &State,
+    stretch: Stretch,
+) -> Result<Part, Memory>
+    requires closed { IsClosedFromSome (C.map code.now) state.now.maps }
+    ensures { IfOk result (λ part.
+        ArePartOf (C.map code.now) state.now.maps stretch part.blocks.items part.edges.items) }
+{
+    let part = read_ends(alloc, code, state, stretch)?;
+    Ok(part.in_order())
+}
+
+/// The blocks and edges of all these parts, one after another, or the first of their errors.
+fn joined(alloc: Global, parts: Vec<Result<Part, Memory>>) -> Result<Part, Memory>
+    ensures all { IfOk result (λ _. All AreMade parts.items) }
+    ensures blocks { IfOk result (λ part. part.blocks.items ≡ flat_map blocks_in parts.items) }
+    ensures edges { IfOk result (λ part. part.edges.items ≡ flat_map edges_in parts.items) }
+{
+    let mut blocks = Vec::new(alloc);
+    let mut edges = Vec::new(alloc);
+    for part in parts {
+        let mut part = part?;
+        blocks.append(&mut part.blocks)?;
+        edges.append(&mut part.edges)?;
+    }
+    Ok(Part { blocks, edges })
+}

@@ -1,0 +1,16 @@
+-- The gaps that bounds leave between them, before the first and behind the last.
+use Rattle.std.specs.Prelude.{ℕ, zero, suc, List, Option, None, slice_get}
+use Rattle.stretches.specs.declared.stretch.Stretch.{Stretch}
+
+-- The bound in front of a gap.
+abbrev pub bound_before : List ℕ → ℕ → Option ℕ
+bound_before bounds zero = None
+bound_before bounds (suc i) = slice_get bounds i
+
+-- The gap of a number.
+abbrev pub gap : List ℕ → ℕ → Stretch
+gap bounds i = record { after = bound_before bounds i; last = slice_get bounds i }
+
+-- All addresses.
+abbrev pub whole : Stretch
+whole = record { after = None; last = None }

@@ -1,0 +1,9 @@
+//! Stretches of addresses that lie side by side, cut by bounds: what threads share their work by
+//! that go over the addresses of a state.
+#![tactic(auto)]
+
+mod stretch;
+#[cfg(test)]
+mod tests;
+
+pub use stretch::Stretch;
