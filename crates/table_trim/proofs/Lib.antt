@@ -4,3 +4,4 @@ pub mod Kept
 pub mod Flows
 pub mod Walk
 pub mod Reached
+pub mod Shared

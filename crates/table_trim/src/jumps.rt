@@ -1,17 +1,20 @@
 //! The table jumps that a closed state shows.
 
-ghost use Rattle.std.specs.Prelude.{◌≡◌, ◌↔◌, ◌⊎◌, ℕ, List, Contains, IsSome, IfOk};
+ghost use Rattle.std.specs.Prelude.{◌≡◌, ℕ, List, IsSome, IfOk};
 ghost use Rattle.jump_table.specs.Table.{table_at};
 ghost use Rattle.cfg_model.specs.Program.Instructions.{IsLawful};
 ghost use Rattle.cfg_model.specs.Builder.Kept.{IsClosed};
 ghost use Rattle.cfg_model.specs.Builder.State.{IsEntered};
+ghost use Rattle.core_state.specs.Least.{IsAbove, IsLeast};
+ghost use Rattle.stretches.specs.Stretch.{IsUpTo};
 ghost use Rattle.code_view.specs.FileCode.{program_of};
-ghost use Rattle.table_trim.specs.Inner.{AreTablesOf, addresses_of, IsTableJump};
+ghost use Rattle.table_trim.specs.Parts.{AreJumpsIn};
 
 use code_view::{Code, Memory};
 use core_state::State;
 use jump_table::Table;
 use std::alloc::Global;
+use stretches::Stretch;
 
 /// A jump through a table, and its table.
 #[derive(Clone, Copy, Debug, PartialEq, Eq)]
@@ -21,28 +24,39 @@ pub(crate) struct TableJump {
     pub(crate) table: Table,
 }
 
-/// The terminators of the state that jump through a table, in order, each with its table.
+/// The terminators of the state in a stretch that jump through a table, in order, each with its
+/// table.
 pub(crate) fn table_jumps(
     alloc: Global,
     code: &Code<'_>,
     state: &State,
+    stretch: Stretch,
 ) -> Result<Vec<TableJump>, Memory>
     requires closed { (seeds : List ℕ) × IsClosed (program_of code.now) seeds state.now.maps }
-    ensures tables { IfOk result (λ jumps. AreTablesOf code.now.bytes jumps.items) }
-    ensures jumps { IfOk result (λ jumps. (j : ℕ)
-        → Contains (addresses_of jumps.items) j ↔ IsTableJump code.now.bytes state.now.maps j) }
-    ensures lawful { IfOk result (λ _. IsLawful (program_of code.now) ⊎ ((k : ℕ)
-        → ¬ IsEntered state.now.maps.terminators k)) }
+    ensures jumps { IfOk result (λ jumps. AreJumpsIn (program_of code.now) code.now.bytes
+        state.now.maps stretch jumps.items) }
 {
     let mut jumps = Vec::new(alloc);
-    let mut at = None;
-    while let Some(k) = state.term_after(at) {
+    let mut at = stretch.after;
+    while let Some(k) = term_up_to(state, at, stretch.last) {
         if let Some(table) = table_of(code, k) {
             jumps.push(TableJump { jump: k, table })?;
         }
         at = Some(k);
     }
     Ok(jumps)
+}
+
+/// The least terminator above `at`, unless it lies above `last`.
+fn term_up_to(state: &State, at: Option<u64>, last: Option<u64>) -> Option<u64>
+    ensures { IsLeast (λ k. IsEntered state.now.maps.terminators k × IsAbove at k × IsUpTo last k)
+        result }
+{
+    let k = state.term_after(at)?;
+    match last {
+        Some(last) if last < k => None,
+        _ => Some(k),
+    }
 }
 
 /// The table of the instruction at `k`; `None` exactly where it has none. Most are told by their

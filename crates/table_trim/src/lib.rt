@@ -7,12 +7,15 @@
 //! - `jumps`: the table jumps that a closed state shows, with their tables.
 //! - `bases`: where these tables begin.
 //! - `trim`: their cuts.
+//! - `sharing`: the same, made by several threads.
 #![tactic(auto)]
 
 mod bases;
 mod jumps;
+mod sharing;
 #[cfg(test)]
 mod tests;
 mod trim;
 
+pub use sharing::cuts_by;
 pub use trim::cuts;

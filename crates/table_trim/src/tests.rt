@@ -3,7 +3,7 @@
 ghost use Rattle.std.specs.Prelude.{IsSome};
 ghost use Rattle.code_view.specs.FileCode.{program_of};
 
-use crate::cuts;
+use crate::{cuts, cuts_by};
 use alone::build_alone;
 use cfg_model::{Chains, Flow};
 use cfg_vectors::row_file;
@@ -53,6 +53,12 @@ fn cuts_a_table_where_another_begins(rt: HostRuntime) -> Result<(), Fail> {
 
     assert!(rt; code.has(SEEDS[0]) && code.has(SEEDS[1]));
     let state = build_alone(rt.alloc(), &code, &SEEDS)?;
+    for workers in [1, 2, 4, 64] {
+        let bounds = code.bounds(rt.alloc(), workers)?;
+        let made = cuts_by(&rt, rt.alloc(), &code, &state, &bounds)?;
+        assert_eq!(rt; made.count(FIRST), Some(2));
+        assert_eq!(rt; made.count(SECOND), None);
+    }
     let cuts = cuts(rt.alloc(), &code, &state)?;
     assert!(rt; none.is_empty() && !cuts.is_empty());
     assert_eq!(rt; cuts.count(FIRST), Some(2));

@@ -15,6 +15,7 @@ use crate::jumps::{TableJump, table_jumps};
 use code_view::{Code, Cuts, Memory};
 use core_state::State;
 use std::alloc::Global;
+use stretches::Stretch;
 
 /// The cuts of the jump tables of `code`, which has no cuts yet, from its closed state: a table is
 /// cut where the next one begins inside it. The tables that count are those whose jumps are
@@ -30,12 +31,12 @@ pub fn cuts(alloc: Global, code: &Code<'_>, state: &State) -> Result<Cuts, Memor
         → AreCuts (extent_at code.now.bytes) (Reached (program_of code.now) seeds) (cut_of cuts)) }
     ensures fits { IfOk result (λ cuts. CutsFit code.now.bytes (cut_of cuts)) }
 {
-    let jumps = table_jumps(alloc, code, state)?;
+    let jumps = table_jumps(alloc, code, state, Stretch::all())?;
     cuts_of(alloc, &jumps)
 }
 
 /// The cuts of the tables of `jumps`, where the tables of these jumps alone count.
-fn cuts_of(alloc: Global, jumps: &[TableJump]) -> Result<Cuts, Memory>
+pub(crate) fn cuts_of(alloc: Global, jumps: &[TableJump]) -> Result<Cuts, Memory>
     requires { (bytes : List ℕ) × AreTablesOf bytes jumps.now }
     ensures cuts { IfOk result (λ cuts. (bytes : List ℕ) → AreTablesOf bytes jumps.now
         → AreCuts (extent_at bytes) (λ j. Contains (addresses_of jumps.now) j) (cut_of cuts)) }

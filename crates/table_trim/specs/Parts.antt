@@ -1,0 +1,33 @@
+-- Words that no public clause cites: the table jumps of a state in one stretch of addresses.
+use Rattle.std.specs.Prelude.{◌⊎◌, ◌↔◌, ℕ, List, [], Vec, Contains, Result, Ok, Err, IsOk}
+use Rattle.std.specs.declared.alloc.Global.{Global}
+use Rattle.cfg_model.specs.Program.Instructions.{InstructionMap, IsLawful}
+use Rattle.cfg_model.specs.Builder.State.{BuilderState, IsEntered}
+use Rattle.stretches.specs.declared.stretch.Stretch.{Stretch}
+use Rattle.stretches.specs.Stretch.{IsIn}
+use Rattle.code_view.specs.declared.memory.Memory.{Memory}
+use Rattle.table_trim.specs.declared.jumps.TableJump.{TableJump}
+use Rattle.table_trim.specs.Inner.{AreTablesOf, addresses_of, IsTableJump}
+
+-- These are the table jumps in a stretch that a state shows, with their tables. The program is
+-- lawful where there is a terminator in it.
+pub record AreJumpsIn
+    (map : InstructionMap) (bytes : List ℕ) (state : BuilderState) (stretch : Stretch)
+    (jumps : List TableJump) : Type 0 where
+  pub tables : AreTablesOf bytes jumps
+  pub all_jumps : (j : ℕ) → Contains (addresses_of jumps) j
+      ↔ (IsIn stretch j × IsTableJump bytes state j)
+  pub lawful : IsLawful map ⊎ ((k : ℕ) → IsEntered state.terminators k → ¬ IsIn stretch k)
+
+-- What a thread answers of its stretch.
+abbrev pub Answered : Type 0
+Answered = Result (Vec TableJump Global) Memory
+
+-- Its jumps were found.
+abbrev pub AreMade : Answered → Type 0
+AreMade answer = IsOk answer
+
+-- These jumps; none where memory ran out.
+abbrev pub jumps_in : Answered → List TableJump
+jumps_in (Ok jumps) = jumps.items
+jumps_in (Err e) = []

@@ -1,0 +1,87 @@
+//! The cuts of jump tables, made by several threads.
+
+ghost use Rattle.std.specs.Prelude.{◌≡◌, ℕ, ◌+◌, ◌≤◌, List, length, vec_len, slice_index_or, All};
+ghost use Rattle.std.specs.Prelude.{IfOk};
+ghost use Rattle.std.specs.List.{flat_map};
+ghost use Rattle.std.specs.List.Sorted.{IsNonDecreasing};
+ghost use Rattle.std.specs.FinMap as map;
+ghost use Rattle.stretches.specs.Gaps.{gap};
+ghost use Rattle.cfg_model.specs.Program.Cuts.{AreCuts};
+ghost use Rattle.cfg_model.specs.Builder.Kept.{IsClosed};
+ghost use Rattle.cfg_model.specs.Program.Reach.{Reached};
+ghost use Rattle.code_view.specs.Cuts.{cut_of, CutsFit};
+ghost use Rattle.code_view.specs.FileCode.{program_of};
+ghost use Rattle.table_trim.specs.Extents.{extent_at};
+ghost use Rattle.table_trim.specs.Parts.{AreJumpsIn, AreMade, jumps_in};
+
+use crate::jumps::{TableJump, table_jumps};
+use crate::trim::{cuts, cuts_of};
+use code_view::{Code, Cuts, Memory};
+use core_state::State;
+use std::alloc::Global;
+use std::thread::{self, Threads};
+use stretches::Stretch;
+
+/// The answer of [`cuts`], for which one thread more than there are bounds go over the terminators
+/// of the state: each over those in one gap between the bounds. So the bounds, which may be any
+/// addresses that do not fall, only say how the work is shared. With none no thread is started.
+/// [`Memory`] where memory ran out.
+pub fn cuts_by<R: Threads + Sync>(
+    rt: &R,
+    alloc: Global,
+    code: &Code<'_>,
+    state: &State,
+    bounds: &[u64],
+) -> Result<Cuts, Memory>
+    requires uncut { code.now.cuts ≡ map.empty }
+    requires closed { (seeds : List ℕ) × IsClosed (program_of code.now) seeds state.now.maps }
+    requires rising { IsNonDecreasing bounds.now }
+    ensures cuts { IfOk result (λ cuts. (seeds : List ℕ)
+        → IsClosed (program_of code.now) seeds state.now.maps
+        → AreCuts (extent_at code.now.bytes) (Reached (program_of code.now) seeds) (cut_of cuts)) }
+    ensures fits { IfOk result (λ cuts. CutsFit code.now.bytes (cut_of cuts)) }
+{
+    if bounds.is_empty() {
+        return cuts(alloc, code, state);
+    }
+    let parts = jumps_by_gap(rt, alloc, code, state, bounds)?;
+    let jumps = joined(alloc, parts)?;
+    cuts_of(alloc, &jumps)
+}
+
+/// The table jumps of each gap, found on a thread of its own, in the order of the gaps.
+fn jumps_by_gap<R: Threads + Sync>(
+    rt: &R,
+    alloc: Global,
+    code: &Code<'_>,
+    state: &State,
+    bounds: &[u64],
+) -> Result<Vec<Result<Vec<TableJump>, Memory>>, Memory>
+    requires closed { (seeds : List ℕ) × IsClosed (program_of code.now) seeds state.now.maps }
+    ensures as_many { IfOk result (λ v. vec_len v ≡ length bounds.now + 1) }
+    ensures each { IfOk result (λ v. (i : ℕ) (d : _) → i ≤ length bounds.now
+        → IfOk (slice_index_or v.items i d) (λ jumps. AreJumpsIn (program_of code.now)
+        code.now.bytes state.now.maps (gap bounds.now i) jumps.items)) }
+{
+    let find = |i: usize| -> Result<Vec<TableJump>, Memory>
+        requires { (seeds : List ℕ) × IsClosed (program_of code.now) seeds state.now.maps }
+        ensures { IfOk result (λ jumps. AreJumpsIn (program_of code.entry.now)
+            code.entry.now.bytes state.entry.now.maps (gap bounds.entry.now i) jumps.items) }
+    { table_jumps(alloc, code, state, Stretch::gap(bounds, i)) };
+    Ok(thread::map_indices(rt, alloc, bounds.len() + 1, &find)?)
+}
+
+/// All these jumps, one list after another, or the first of the errors.
+fn joined(
+    alloc: Global,
+    parts: Vec<Result<Vec<TableJump>, Memory>>,
+) -> Result<Vec<TableJump>, Memory>
+    ensures all { IfOk result (λ _. All AreMade parts.items) }
+    ensures jumps { IfOk result (λ jumps. jumps.items ≡ flat_map jumps_in parts.items) }
+{
+    let mut jumps = Vec::new(alloc);
+    for part in parts {
+        jumps.append(&mut part?)?;
+    }
+    Ok(jumps)
+}
