@@ -1,18 +1,25 @@
 -- Words that no public clause cites: what the steps of a run tell one another.
 use Rattle.std.specs.Prelude.{◌≡◌, ℕ, List, Option, Some, None, IfSome, IfOk, Result, Ok, Err}
 use Rattle.std.proofs.Common.{Bor}
-use Rattle.cfg_model.specs.Program.Reach.{AreSeeds}
+use Rattle.std.specs.FinMap as map
+use Rattle.cfg_model.specs.Program.Cuts.{AreCuts}
+use Rattle.cfg_model.specs.Program.Reach.{AreSeeds, Reached}
+use Rattle.cfg_model.specs.Builder.State.{BuilderState}
 use Rattle.cfg_model.specs.Builder.Kept.{IsClosed}
 use Rattle.cfg_model.specs.declared.graph.Function.{Function}
 use Rattle.cfg_model.specs.Program.Instructions.{InstructionMap}
 use Rattle.cfg_model.specs.Graph.Function.{IsFunction}
 use Rattle.cfg_model.specs.Graph.Graph.{FunctionBefore}
 use Rattle.cfg_model.specs.Graph.Listing.{Lists}
+use Rattle.chain_index.specs.declared.lookup.SectionReaches.{SectionReaches}
+use Rattle.chain_index.specs.Found.{AreReachesOf}
 use Rattle.code_view.specs.declared.code.Code.{Code}
-use Rattle.code_view.specs.FileCode.{program_of}
+use Rattle.code_view.specs.Cuts.{Counts, cut_of, CutsFit}
+use Rattle.code_view.specs.FileCode.{FileCode, program_of}
+use Rattle.table_trim.specs.Extents.{extent_at}
 use Rattle.core_state.specs.declared.state.State.{State}
 use Rattle.finaliser.specs.declared.outline.Outline.{Outline}
-use Rattle.finaliser.specs.Closed.{IsOutlineOf}
+use Rattle.finaliser.specs.Closed.{IsClosedFromSome, IsOutlineOf}
 use Rattle.func_bodies.specs.Listed.{AreOrdered, HaveEachEntry}
 use Rattle.elf_image.specs.declared.fault.Fault.TheVariants.{TooLarge}
 use Rattle.elf_image.specs.Faults.{first_fault}
@@ -67,6 +74,15 @@ abbrev pub IsFaultless : {X : Type 0} → Result X Refusal → Type 0
 IsFaultless (Ok text) = Unit {0}
 IsFaultless (Err refusal) = ¬ IsMalformed refusal
 
+-- Whoever may be called of any image, and gives what an index of it keeps: by what it asks before a
+-- call, and what it says of its answer.
+abbrev pub Surveys :
+    {E : Type 0} → (Bor (List ℕ) → Type 0)
+    → (Bor (List ℕ) → Result (List SectionReaches) E → Type 0) → Type 0
+Surveys asks answers =
+    ((image : Bor (List ℕ)) → asks image)
+    × ((image : Bor (List ℕ)) (r : _) → answers image r → IfOk r (AreReachesOf image.now))
+
 -- Whoever may be called of any program of a file and its seeds, and gives the closed state: by what
 -- it asks before a call, and what it says of its answer.
 abbrev pub Builds :
@@ -84,6 +100,13 @@ abbrev pub AnswersFunctions :
 AnswersFunctions map seeds r = IfOk r (Lists FunctionBefore (IsFunction map seeds))
     × IfOk r (HaveEachEntry map seeds) × IfOk r AreOrdered
 
+-- An answer with the cuts of the jump tables of a program, wherever it is one.
+abbrev pub AnswersCuts : {E : Type 0} → FileCode → BuilderState → Result Counts E → Type 0
+AnswersCuts code state r =
+    IfOk r (λ cuts. (seeds : List ℕ) → IsClosed (program_of code) seeds state
+    → AreCuts (extent_at code.bytes) (Reached (program_of code) seeds) (cut_of cuts))
+    × IfOk r (λ cuts. CutsFit code.bytes (cut_of cuts))
+
 -- Whoever may be called of any program of a file with its seeds, a closed state and the outline of
 -- this, and gives the functions: by what it asks and what it says, as above.
 abbrev pub Makes :
@@ -98,3 +121,24 @@ Makes asks answers =
     × ((code : Bor Code) (seeds : Bor (List ℕ)) (state : Bor State) (outline : Bor Outline)
     → (r : _) → answers code seeds state outline r
     → AnswersFunctions (program_of code.now) seeds.now r)
+
+-- Whoever may be called of any program of a file without cuts, with its closed state, and gives the
+-- cuts of its jump tables.
+abbrev pub FindsCuts :
+    {E : Type 0} → (Bor Code → Bor State → Type 0)
+    → (Bor Code → Bor State → Result Counts E → Type 0) → Type 0
+FindsCuts asks answers =
+    ((code : Bor Code) (state : Bor State) → code.now.cuts ≡ map.empty
+    → IsClosedFromSome (program_of code.now) state.now.maps → asks code state)
+    × ((code : Bor Code) (state : Bor State) (r : _) → answers code state r
+    → AnswersCuts code.now state.now.maps r)
+
+-- Whoever may be called of any program of a file with its closed state, and gives the outline.
+abbrev pub ReadsOff :
+    {E : Type 0} → (Bor Code → Bor State → Type 0)
+    → (Bor Code → Bor State → Result Outline E → Type 0) → Type 0
+ReadsOff asks answers =
+    ((code : Bor Code) (state : Bor State)
+    → IsClosedFromSome (program_of code.now) state.now.maps → asks code state)
+    × ((code : Bor Code) (state : Bor State) (r : _) → answers code state r
+    → IfOk r (IsOutlineOf (program_of code.now) state.now.maps))

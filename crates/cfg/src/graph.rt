@@ -18,15 +18,17 @@ use chain_index::ChainIndex;
 use code_view::{Code, Cuts};
 use core_state::State;
 use elf_image::Image;
-use finaliser::{Outline, blocks_and_edges};
+use finaliser::Outline;
 use func_bodies::mark_tails;
 use std::alloc::Global;
-use table_trim::cuts;
+use std::mem;
 
-/// The graph of a file from its seeds. `by` builds the closed states and makes the functions.
+/// The graph of a file from its seeds. `by` builds the closed states, finds the cuts, and makes
+/// the outline and the functions.
 ///
 /// Where a table is cut, the closed state under the cuts is made anew: what only the entries that
-/// are cut away lead to is not in it.
+/// are cut away lead to is not in it. The one without cuts is freed before, so that memory holds
+/// one closed state at a time.
 pub fn graph_of<B: Builder>(
     alloc: Global,
     by: &B,
@@ -42,36 +44,40 @@ pub fn graph_of<B: Builder>(
     ensures graph { IfOk result (IsGraphOf image.now) }
     ensures memory { IfErr result (λ refusal. refusal ≡ Refusal.Memory) }
 {
-    let index = ChainIndex::new(alloc, image)?;
+    let index = ChainIndex::of(image, by.reaches(image)?);
     let none = Cuts::none(alloc);
     let uncut = Code::new(image, &index, &none);
     let state = by.state(&uncut, seeds)?;
-    let cuts = cuts(alloc, &uncut, &state)?;
+    let cuts = by.cuts(&uncut, &state)?;
     if cuts.is_empty() {
-        return graph_from(alloc, by, &uncut, seeds, &state, image.entry());
+        return graph_from(by, &uncut, seeds, state, image.entry());
     }
+    drop(state);
     let code = Code::new(image, &index, &cuts);
     let state = by.state(&code, seeds)?;
-    graph_from(alloc, by, &code, seeds, &state, image.entry())
+    graph_from(by, &code, seeds, state, image.entry())
 }
 
 /// The graph that a closed state shows: its outline, the functions, and the tail calls among the
 /// edges.
+///
+/// The state's memory is left to the end of the process, which comes when the graph is printed: to
+/// give its many small blocks back one by one would take up to a tenth of a run.
 fn graph_from<B: Builder>(
-    alloc: Global,
     by: &B,
     code: &Code,
     seeds: &[u64],
-    state: &State,
+    state: State,
     entry: u64,
 ) -> Result<Graph, Refusal>
     requires build { B.ready by.now }
-    requires closed { IsClosed (program_of code.now) seeds.now state.now.maps }
+    requires closed { IsClosed (program_of code.now) seeds.now state.maps }
     ensures graph { IfOk result (IsGraph (program_of code.now) seeds.now entry) }
     ensures memory { IfErr result (λ refusal. refusal ≡ Refusal.Memory) }
 {
-    let outline = blocks_and_edges(alloc, code, state)?;
-    let functions = by.functions(code, seeds, state, &outline)?;
+    let outline = by.outline(code, &state)?;
+    let functions = by.functions(code, seeds, &state, &outline)?;
+    mem::forget(state);
     let Outline { blocks, mut edges } = outline;
     mark_tails(&functions, &mut edges);
     Ok(Graph {

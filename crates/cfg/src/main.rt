@@ -3,6 +3,7 @@
 //! - `run`: a whole run over any input and any sinks, and what is proved of it.
 //! - `reading`: the bytes of the file. `answer`: from these to the report.
 //! - `graph`: the graph of a file, under the cuts of its jump tables. `builder`: who builds it.
+//!   `sharing`: what workers do of it in stretches of the code.
 //! - `text`: the text of an answer, written piece by piece.
 //! - `safe`: a run where neither the input nor standard output can fail.
 //! - `status`, `refusal`: how a run ends, and the line that tells it.
@@ -16,6 +17,7 @@ mod reading;
 mod refusal;
 mod run;
 mod safe;
+mod sharing;
 mod status;
 #[cfg(test)]
 mod tests;

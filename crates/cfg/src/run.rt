@@ -3,11 +3,13 @@
 ghost use Rattle.std.specs.Prelude.{◌≡◌, ◌≢◌, ℕ, ◌+◌, ◌≤◌, ◌<◌, ◌⊎◌, List, [], Some};
 ghost use Rattle.std.specs.Prelude.{None, length, string_bytes, IfSome, IfOk, IfErr};
 ghost use Rattle.std.specs.Thread.{IsSync};
+ghost use Rattle.std.specs.FinMap as map;
 ghost use Rattle.cfg_io.specs.Fault.{Rose};
 ghost use Rattle.cfg_model.specs.Program.Reach.{AreSeeds};
 ghost use Rattle.cfg_model.specs.Builder.Kept.{IsClosed};
+ghost use Rattle.chain_index.specs.Found.{AreReachesOf};
 ghost use Rattle.code_view.specs.FileCode.{program_of};
-ghost use Rattle.finaliser.specs.Closed.{IsOutlineOf};
+ghost use Rattle.finaliser.specs.Closed.{IsClosedFromSome, IsOutlineOf};
 ghost use Rattle.cfg_io.specs.Opened.{Nothing};
 ghost use Rattle.cfg_io.specs.Told.{TakesCount, TakesAtMost};
 ghost use Rattle.cfg_words.specs.Request.{asked, of_file};
@@ -16,7 +18,7 @@ ghost use Rattle.cfg.specs.Answer.{IsAnswer, text_answer};
 ghost use Rattle.cfg.specs.Refusal.{status_of};
 ghost use Rattle.cfg.specs.Lines.{refusal_line};
 ghost use Rattle.cfg.specs.Text.{bytes_of};
-ghost use Rattle.cfg.specs.Inner.{AnswersFunctions, IsTrueOf, IsOfFile, IsFaultless};
+ghost use Rattle.cfg.specs.Inner.{AnswersCuts, AnswersFunctions, IsTrueOf, IsOfFile, IsFaultless};
 ghost use Rattle.cfg.specs.Run.{Grows, Tells, IsDecided, HasRead};
 ghost use Rattle.cfg.specs.Run.{Gives, GivesPart, IsLineOf, OpenedFor};
 
@@ -24,14 +26,17 @@ use crate::answer::{report_of, summary_of};
 use crate::builder::{Alone, Builder, Workers};
 use crate::reading::{FILE_LIMIT, read_file};
 use crate::refusal::Refusal;
+use crate::sharing::{cuts_with, outline_with};
 use crate::status::Status;
 use crate::text::{Text, Unwritten};
 use cfg_io::{Input, Sink};
 use cfg_model::Functions;
 use cfg_words::{Request, request};
-use code_view::Code;
+use chain_index::ChainReaches;
+use code_view::{Code, Cuts};
 use core_state::State;
 use crew::{Gate, build};
+use elf_image::Image;
 use finaliser::Outline;
 use func_bodies::functions_by;
 use graph_report::ReportKind;
@@ -107,11 +112,25 @@ pub fn run<R: Threads + Wait + Sync, I: Input, O: Sink, E: Sink, G: Gate>(
     };
     let count = workers_of(&request);
     if 2 <= count && count <= 64 {
+        let reaches = |image: &Image| -> Result<ChainReaches, chain_index::Memory>
+            requires { IsSync R.row × (1 ≤ count) × (count ≤ 64) }
+            ensures { IfOk result (AreReachesOf image.now) }
+        { ChainReaches::new_by(rt, alloc, image, count) };
         let state = |code: &Code, seeds: &[u64]| -> Result<State, core_state::Memory>
             requires { IsSync R.row × IsSync G.row × (2 ≤ count) × (count ≤ 64)
                 × AreSeeds (program_of code.now) seeds.now }
             ensures { IfOk result (λ state. IsClosed (program_of code.now) seeds.now state.maps) }
         { build(rt, alloc, code, seeds, count, gate) };
+        let cuts = |code: &Code, state: &State| -> Result<Cuts, code_view::Memory>
+            requires { IsSync R.row × (1 ≤ count) × (code.now.cuts ≡ map.empty)
+                × IsClosedFromSome (program_of code.now) state.now.maps }
+            ensures { AnswersCuts code.now state.now.maps result }
+        { cuts_with(rt, alloc, code, state, count) };
+        let outline = |code: &Code, state: &State| -> Result<Outline, finaliser::Memory>
+            requires { IsSync R.row × (1 ≤ count)
+                × IsClosedFromSome (program_of code.now) state.now.maps }
+            ensures { IfOk result (IsOutlineOf (program_of code.now) state.now.maps) }
+        { outline_with(rt, alloc, code, state, count) };
         let functions = |code: &Code, seeds: &[u64], state: &State, outline: &Outline| -> Result<
             Functions,
             func_bodies::Memory,
@@ -121,7 +140,13 @@ pub fn run<R: Threads + Wait + Sync, I: Input, O: Sink, E: Sink, G: Gate>(
                 × IsOutlineOf (program_of code.now) state.now.maps outline.now }
             ensures { AnswersFunctions (program_of code.now) seeds.now result }
         { functions_by(rt, alloc, code, seeds, state, outline, count) };
-        let by = Workers { state, functions };
+        let by = Workers {
+            reaches,
+            state,
+            cuts,
+            outline,
+            functions,
+        };
         return run_by(alloc, &by, &request, input, out, err);
     }
     run_one(alloc, &request, input, out, err)
