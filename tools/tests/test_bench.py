@@ -8,11 +8,13 @@ import sys
 import tempfile
 import unittest
 from pathlib import Path
-from typing import List
+from typing import List, Optional
 
 import rows
 import contrived
 from elf_file import Elf
+
+DUMP = rows.TOOLS.parent / "crates" / "workers_dump" / "out" / "workers_dump"
 
 
 class Contrived(unittest.TestCase):
@@ -64,6 +66,53 @@ class Bench(unittest.TestCase):
             again = self.said(folder, "--earlier", str(earlier))
             self.assertEqual(again[2][5], "3.00 s")
             self.assertGreater(float(again[2][6]), 1)
+
+
+class WorkersOf(unittest.TestCase):
+    """The table of what workers counted, by a script in the place of workers_dump and by workers_dump itself."""
+
+    def said(self, folder: str, workers: int, *, program: Optional[Path] = None) -> "subprocess.CompletedProcess[str]":
+        path = Path(folder) / "row.elf"
+        path.write_bytes(rows.elf(8))
+        environment = dict(os.environ, **({"WORKERS_DUMP": str(program)} if program else {}))
+        command = [sys.executable, "-B", str(rows.TOOLS / "bench"), "--workers-of", str(workers), str(path)]
+        return subprocess.run(command, env=environment, capture_output=True, text=True)
+
+    def answering(self, folder: str, text: str, status: int = 0) -> Path:
+        program = Path(folder) / "dump"
+        program.write_text(f"#!/bin/sh\ncat <<'END'\n{text}END\nexit {status}\n")
+        program.chmod(0o755)
+        return program
+
+    def test_sums(self) -> None:
+        with tempfile.TemporaryDirectory() as folder:
+            program = self.answering(folder, "worker=0 turns=7 from_kept=1\nworker=1 turns=5 from_kept=0\n")
+            done = self.said(folder, 2, program=program)
+        self.assertEqual((done.returncode, done.stderr), (0, ""))
+        lines = ["| worker | turns | from kept |", "|---|---|---|", "| 0 | 7 | 1 |", "| 1 | 5 | 0 |", "| all | 12 | 1 |"]
+        self.assertEqual(done.stdout.splitlines(), lines)
+
+    def test_what_is_wrong_is_one_line(self) -> None:
+        with tempfile.TemporaryDirectory() as folder:
+            for program in (Path(folder) / "none", self.answering(folder, "fault BadMagic\n"), self.answering(folder, "", 1)):
+                done = self.said(folder, 2, program=program)
+                self.assertEqual((done.returncode, done.stdout, done.stderr.count("\n")), (2, "", 1))
+
+    @unittest.skipUnless(os.access(DUMP, os.X_OK), "workers_dump is not built")
+    def test_what_workers_count(self) -> None:
+        for workers in (2, 5, 64):
+            with self.subTest(workers), tempfile.TemporaryDirectory() as folder:
+                done = self.said(folder, workers)
+                self.assertEqual((done.returncode, done.stderr), (0, ""))
+                table = [[cell.strip() for cell in line.strip("|").split("|")] for line in done.stdout.splitlines()]
+                self.assertEqual([cells[0] for cells in table[2:]], [*map(str, range(workers)), "all"])
+                for cells in table[2:]:
+                    count = dict(zip(table[0][1:], map(int, cells[1:])))
+                    self.assertLessEqual(count["from kept"] + count["put"], count["kept"])
+                    self.assertLessEqual(count["made"], count["from kept"] + count["from deques"])
+                # Two names are dealt out, at most.
+                self.assertLessEqual(count["from deques"], count["put"] + 2)
+                self.assertGreater(count["turns"], 0)
 
 
 if __name__ == "__main__":
