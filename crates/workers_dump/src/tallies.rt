@@ -9,13 +9,13 @@ use std::sync::OnceLock;
 
 /// A place for the tally of each worker.
 #[derive(Drop)]
-pub struct Tallies {
+pub(crate) struct Tallies {
     by_worker: Vec<OnceLock<Tally>>,
 }
 
 impl Tallies {
     /// Empty places for so many workers.
-    pub fn new(alloc: Global, workers: u32) -> Result<Tallies> {
+    pub(crate) fn new(alloc: Global, workers: u32) -> Result<Tallies> {
         let mut by_worker = Vec::new(alloc);
         for _ in 0..workers {
             by_worker.push(OnceLock::new())?;
@@ -24,7 +24,7 @@ impl Tallies {
     }
 
     /// A line for each worker that has ended, by rising number.
-    pub fn write<W: Write>(&self, out: &mut W) -> Result<()> {
+    pub(crate) fn write<W: Write>(&self, out: &mut W) -> Result<()> {
         for (worker, place) in self.by_worker.iter().enumerate() {
             if let Some(tally) = place.get() {
                 write_tally(out, worker, tally)?;
