@@ -65,13 +65,19 @@ laid_out-once xs out a n some s t s_there t_there s_holds t_holds =
       ]
     ]
 
+-- a section that has the bytes is the first that has them
+pub find-held : (xs : List Section) → IsLaidOut xs → (a n i : ℕ) (d : Section) → 0 < n → i < length xs → holds_bytes a n (get_or xs i d) ≡ true → find (holds_bytes a n) xs ≡ Some (get_or xs i d)
+find-held xs out a n i d some within holds =
+    let held = holds-true a n (get_or xs i d) holds in
+    find-at (holds_bytes a n) xs i d within
+    (λ k below. holds-above a n (get_or xs k d) (omega (arith, held.0, end-le-start xs out k i d below within))) holds
+
 -- the section before the first that begins past the address is the only one that may have the bytes
 pub find-laid_out : (xs : List Section) → IsLaidOut xs → (a n i : ℕ) (d : Section) → 0 < n → i < length xs → ((k : ℕ) → suc i ≤ k → k < length xs → a < (get_or xs k d).address) → (get_or xs i d).address ≤ a → find (holds_bytes a n) xs ≡ cond (holds_bytes a n (get_or xs i d)) (Some (get_or xs i d)) None
 find-laid_out xs out a n i d some within after here =
     elim (cases_Bool (holds_bytes a n (get_or xs i d))) [
       | inl passes ↦
-          find-at (holds_bytes a n) xs i d within
-          (λ k below. holds-above a n (get_or xs k d) (omega (arith, end-le-start xs out k i d below within))) passes
+          find-held xs out a n i d some within passes
           ∙ sym (cond-true _ (Some (get_or xs i d)) None passes)
       | inr fails ↦
           find-none (holds_bytes a n) xs (list_any_none (holds_bytes a n) xs (λ k e below. others k e below fails))

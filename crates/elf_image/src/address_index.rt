@@ -18,6 +18,8 @@ use std::alloc::{AllocError, Global};
 #[derive(Drop)]
 pub(crate) struct AddressIndex {
     sections: Vec<Section>,
+    /// The place of the widest of them, where most addresses lie; 0 where there is none.
+    widest: usize,
     is_laid_out: bool,
     ghost laid_out: { IsTrue is_laid_out → IsLaidOut sections.items },
 }
@@ -33,11 +35,13 @@ impl AddressIndex {
         let sorted = sorted_by_address(alloc, &sections)?;
         if is_laid_out(&sorted) {
             return Ok(AddressIndex {
+                widest: widest(&sorted),
                 sections: sorted,
                 is_laid_out: true,
             });
         }
         Ok(AddressIndex {
+            widest: widest(&sections),
             sections,
             is_laid_out: false,
         })
@@ -50,14 +54,16 @@ impl AddressIndex {
         !self.is_laid_out
     }
 
-    /// The first section that has the `n` bytes from address `a` on. It takes logarithmic time
-    /// where no two sections share an address, and else looks through all.
+    /// The first section that has the `n` bytes from address `a` on. Where no two sections share an
+    /// address, it asks the widest first, and else takes logarithmic time; where two do, it looks
+    /// through all.
+    #[inline]
     pub(crate) fn find(&self, a: u64, n: u64) -> Option<&Section>
         requires { 0 < n }
         ensures { option_copied result ≡ find (holds_bytes a n) self.now.sections.items }
     {
         if self.is_laid_out {
-            find_laid_out(&self.sections, a, n)
+            find_laid_out(&self.sections, self.widest, a, n)
         } else {
             find_first(&self.sections, a, n)
         }
@@ -95,8 +101,31 @@ fn find_first(sections: &[Section], a: u64, n: u64) -> Option<&Section>
     sections.iter().find(|s| s.holds_bytes(a, n))
 }
 
+/// The place of the widest section; 0 where there is none.
+fn widest(sections: &[Section]) -> usize {
+    sections
+        .iter()
+        .enumerate()
+        .max_by_key(|(_, s)| s.size)
+        .map_or(0, |(place, _)| place)
+}
+
+/// Looks at the section at the place `likely` first. Any place is right: at most one section has
+/// the bytes.
+#[inline]
+fn find_laid_out(sections: &[Section], likely: usize, a: u64, n: u64) -> Option<&Section>
+    requires some { 0 < n }
+    requires laid_out { IsLaidOut sections.now }
+    ensures { option_copied result ≡ find (holds_bytes a n) sections.now }
+{
+    match sections.get(likely) {
+        Some(s) if s.holds_bytes(a, n) => Some(s),
+        _ => find_before(sections, a, n),
+    }
+}
+
 /// Looks at one section alone: the last that begins at `a` or before.
-fn find_laid_out(sections: &[Section], a: u64, n: u64) -> Option<&Section>
+fn find_before(sections: &[Section], a: u64, n: u64) -> Option<&Section>
     requires some { 0 < n }
     requires laid_out { IsLaidOut sections.now }
     ensures { option_copied result ≡ find (holds_bytes a n) sections.now }

@@ -68,6 +68,7 @@ impl Image {
     }
 
     /// The code section of a code address.
+    #[inline]
     fn code_section(&self, a: u64) -> Option<&Section>
         ensures value { option_copied result ≡ code_section_of self.now a }
         ensures found { IfSome (option_copied result) (IsFoundAt self.now a 2) }
@@ -85,7 +86,8 @@ impl Image {
     }
 
     /// Whether `a` is a code address: an even address whose two bytes lie inside one code section.
-    /// It takes time logarithmic in the number of code sections, and so do the other reads of code.
+    /// The widest code section is asked first; elsewhere it takes time logarithmic in the number of
+    /// code sections. So do the other reads of code.
     pub fn is_code(&self, a: u64) -> bool
         ensures value { result ≡ is_code self.now a }
         ensures in_memory { IsTrue result → a + 2 < 2 ^ 64 }
@@ -132,8 +134,9 @@ impl Image {
         }
     }
 
-    /// Whether the byte at `a` lies in a read-only section. It takes time logarithmic in the number
-    /// of those sections where no two of them share an address, and else looks through all.
+    /// Whether the byte at `a` lies in a read-only section. The widest is asked first, and else it
+    /// takes time logarithmic in the number of those sections, where no two of them share an
+    /// address; where two do, it looks through all.
     pub fn is_read_only(&self, a: u64) -> bool
         ensures { result ≡ is_read_only self.now a }
     {

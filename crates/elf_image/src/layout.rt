@@ -74,6 +74,7 @@ fn filled_read_only(alloc: Global, sections: &[Section]) -> Result<Vec<Section>,
 }
 
 /// The section that has both bytes of the halfword at `a`, where `a` is even.
+#[inline]
 pub(crate) fn code_section(code: &AddressIndex, a: u64) -> Option<&Section>
     ensures { option_copied result ≡ (if is_even a
         then find (holds_bytes a 2) code.now.sections.items else None) }

@@ -70,6 +70,7 @@ impl Section {
     }
 
     /// Whether the `n` bytes from address `a` on all lie in it.
+    #[inline]
     pub fn holds_bytes(&self, a: u64, n: u64) -> bool
         ensures { result ≡ holds_bytes a n self.now }
     {

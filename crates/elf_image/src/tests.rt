@@ -256,7 +256,7 @@ fn tables(rt: HostRuntime) -> Result<(), Fail> {
 }
 
 /// Read-only sections that share addresses: the first in table order that has all four bytes
-/// counts.
+/// counts, though the second is wider.
 #[test]
 fn overlapping_data(rt: HostRuntime) -> Result<(), Fail> {
     let alloc = rt.alloc();
@@ -267,5 +267,58 @@ fn overlapping_data(rt: HostRuntime) -> Result<(), Fail> {
     assert_eq!(rt; image.data_word(0x10005), None);
     assert!(rt; image.is_read_only(0x10007));
     assert!(rt; !image.is_read_only(0x10008));
+    Ok(())
+}
+
+/// The file with three code sections in place of its own: of each the address, and the offset and
+/// the number of its bytes, which are those of the file.
+fn with_code(alloc: Global, sections: [(u32, u8, u8); 3]) -> Result<Vec<u8>, AllocError> {
+    let mut bytes = edited(alloc, &[(60, 4)])?;
+    bytes.truncate(136);
+    for (address, offset, size) in sections {
+        let mut header = [0u8; 64];
+        header[4] = 1;
+        header[8] = 6;
+        header[16..20].copy_from_slice(&address.to_le_bytes());
+        header[24] = offset;
+        header[32] = size;
+        bytes.extend_from_slice(&header)?;
+    }
+    Ok(bytes)
+}
+
+/// Sections of different widths: the widest is the first, the second or the last in memory.
+#[test]
+fn sections_of_different_widths(rt: HostRuntime) -> Result<(), Fail> {
+    for sections in [
+        [(0x20000, 64, 2), (0x10000, 0, 8), (0x10010, 4, 4)],
+        [(0x20000, 64, 2), (0x10000, 0, 8), (0x10010, 4, 12)],
+        [(0x20000, 64, 16), (0x10000, 0, 8), (0x10010, 4, 4)],
+    ] {
+        let image = Image::parse(rt.alloc(), with_code(rt.alloc(), sections)?)?;
+        for (a, start, half) in [
+            (0xFFFE, None, None),
+            (0x10000, Some(0x10000), Some(0x457F)),
+            (0x10002, Some(0x10000), Some(0x464C)),
+            (0x10006, Some(0x10000), Some(0x0001)),
+            (0x10008, None, None),
+            (0x1000E, None, None),
+            (0x10010, Some(0x10010), Some(0x0102)),
+            (0x10012, Some(0x10010), Some(0x0001)),
+            (0x1FFFE, None, None),
+            (0x20000, Some(0x20000), Some(0x8067)),
+            (0x20010, None, None),
+        ] {
+            assert_eq!(rt; image.is_code(a), start.is_some(), "{a:x}");
+            assert_eq!(rt; image.section_start(a), start, "{a:x}");
+            assert_eq!(rt; image.half_at(a), half, "{a:x}");
+            assert_eq!(rt; image.is_read_only(a), start.is_some(), "{a:x}");
+        }
+        assert_eq!(rt; image.word_at(0x10004), Some(0x0001_0102));
+        assert_eq!(rt; image.word_at(0x10006), None);
+        assert_eq!(rt; image.data_word(0x10001), Some(0x0246_4C45));
+        assert_eq!(rt; image.data_word(0x10005), None);
+        assert_eq!(rt; image.data_word(0x10010), Some(0x0001_0102));
+    }
     Ok(())
 }

@@ -1,4 +1,4 @@
-use Rattle.std.proofs.Common.{◌≡◌, Bool, Option, Some, None, ◌∙◌, ap, is_some, lit<, refl, sym}
+use Rattle.std.proofs.Common.{◌≡◌, Option, Some, None, ◌∙◌, ap, is_some, lit<, refl, sym}
 use Rattle.std.specs.Borrow.{Bor}
 use Rattle.std.specs.Option.{option_copied}
 use Rattle.elf_image.specs.Sections.{sections}
