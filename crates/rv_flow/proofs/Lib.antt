@@ -1,2 +1,3 @@
 pub mod Expanded
 pub mod Written
+mod Uppers

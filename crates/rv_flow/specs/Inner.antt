@@ -1,6 +1,7 @@
 -- Words that no public clause cites.
-use Rattle.std.specs.Prelude.{◌≡◌, ℕ, ◌<◌, ◌^◌, not, Bool, true, false, List, Option, Some, None}
+use Rattle.std.specs.Prelude.{◌≡◌, ℕ, ◌<◌, ◌^◌, ◌==◌, ◌||◌, not, Bool, true, false, List, Option, Some, None}
 use Rattle.std.specs.Prelude.{length, get_or}
+use Rattle.rv_decode.specs.Fields.{opcode}
 use Rattle.rv_decode.specs.declared.instructions.Insn.{Insn}
 use Rattle.rv_decode.specs.declared.instructions.Insn.TheVariants as insns
 use Rattle.rv_flow.specs.Placed.{compressed_insn}
@@ -25,3 +26,7 @@ pub record IsTable (shorts : List Bool) : Type 0 where
   pub size : length shorts ≡ 2 ^ 16
   pub told : (half : ℕ) → half < 2 ^ 16
       → get_or shorts half false ≡ goes_on_behind (compressed_insn half)
+
+-- The opcode of a word is that of LUI or AUIPC.
+abbrev pub is_upper : ℕ → Bool
+is_upper word = (opcode word == 0x37) || (opcode word == 0x17)

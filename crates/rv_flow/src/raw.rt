@@ -6,10 +6,17 @@ ghost use Rattle.elf_image.specs.Code.{is_code};
 ghost use Rattle.elf_image.specs.Faults.{IsImage};
 ghost use Rattle.rv_flow.specs.Raw.{raw_flow_at, raw_flow_by, insn_flow, jalr_flow, pair_target};
 ghost use Rattle.rv_flow.specs.Raw.{upper_before, upper_of, word_before, address_plus, is_unimp};
+ghost use Rattle.rv_flow.specs.Inner.{is_upper};
 
 use crate::placed::insn_at;
 use elf_image::Image;
+use rv_decode::fields::opcode;
 use rv_decode::{CsrKind, Insn, decode};
+
+/// The opcodes of LUI and AUIPC (section 2.4.1).
+const LUI: u8 = 0x37;
+
+const AUIPC: u8 = 0x17;
 
 /// The control flow of one instruction, judged from the instruction alone. Targets may lie outside
 /// the code.
@@ -126,9 +133,21 @@ fn upper_before(image: &Image, a: u64, register: u8) -> Option<u64>
         return None;
     }
     let before = a - 4;
-    match decode(image.word_at(before)?)? {
+    let word = image.word_at(before)?;
+    if !is_upper(word) {
+        return None;
+    }
+    match decode(word)? {
         Insn::Lui { rd, imm } if rd == register => Some(imm.cast_unsigned()),
         Insn::Auipc { rd, imm } if rd == register => Some(before.wrapping_add_signed(imm)),
         _ => None,
     }
+}
+
+// Whether a word is a LUI or an AUIPC, told by its opcode: most words in front of a JALR are
+// neither, and are not decoded.
+fn is_upper(word: u32) -> bool
+    ensures { result ≡ is_upper word }
+{
+    matches!(opcode(word), LUI | AUIPC)
 }
