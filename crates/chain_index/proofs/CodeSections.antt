@@ -17,7 +17,8 @@ use Rattle.elf_image.proofs.Finds.{any-contained}
 use Rattle.elf_image.proofs.LaidOut.{holds-true}
 use Rattle.elf_image.proofs.OneSection.{code_section-is, code_section-same}
 use Rattle.elf_image.proofs.Ranges.{Contains-section, length-sections, get_or-sections}
-use Rattle.chain_index.specs.Inner.{IsCodeOf, AreFirst}
+use Rattle.chain_index.specs.Found.{IsCodeOf}
+use Rattle.chain_index.specs.Inner.{AreFirst}
 
 -- what is code has a type, and is in memory
 code-kind : (s : Section) → is_code_section s ≡ true → (is_null s ≡ false) × (is_nobits s ≡ false) × (is_allocated s ≡ true)

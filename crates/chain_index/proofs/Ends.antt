@@ -73,11 +73,11 @@ module _ (bytes : List ℕ) (a : ℕ) where
       let far : a + n + 2 * reach ≡ a + 2 * (reach + m) = omega arith in
       subst (IsChainEnd bytes a) far (IsChainEnd.on goes there.1)
 
-  pub reach_is : (n near far : Option ℕ) → straight_length_at bytes a ≡ n → IfSome n (λ k. (k ≡ 2) ⊎ (k ≡ 4)) → Reaches bytes (a + 2) near → (n ≡ Some 4 → Reaches bytes (a + 4) far) → IsChainEnd bytes a (a + 2 * reach_over n near far)
+  pub reach_is : (n near far : Option ℕ) → straight_length_at bytes a ≡ n → IfSome n (λ k. (k ≡ 2) ⊎ (k ≡ 4)) → (n ≡ Some 2 → Reaches bytes (a + 2) near) → (n ≡ Some 4 → Reaches bytes (a + 4) far) → IsChainEnd bytes a (a + 2 * reach_over n near far)
   reach_is None near far is sizes behind beyond = ends_here (ap (next_behind bytes a) is)
   reach_is (Some n) near far is (inl two) behind beyond =
       let at : straight_length_at bytes a ≡ Some 2 = is ∙ ap Some two in
-      subst (λ k. IsChainEnd bytes a (a + 2 * reach_over (Some k) near far)) (sym two) (reach_behind 2 1 near at refl behind)
+      subst (λ k. IsChainEnd bytes a (a + 2 * reach_over (Some k) near far)) (sym two) (reach_behind 2 1 near at refl (behind (ap Some two)))
   reach_is (Some n) near far is (inr four) behind beyond =
       let at : straight_length_at bytes a ≡ Some 4 = is ∙ ap Some four in
       subst (λ k. IsChainEnd bytes a (a + 2 * reach_over (Some k) near far)) (sym four) (reach_behind 4 2 far at refl (beyond (ap Some four)))

@@ -10,7 +10,8 @@ use Rattle.elf_image.specs.Code.{is_even, is_code, code_section_of}
 use Rattle.elf_image.proofs.LaidOut.{holds-true}
 use Rattle.elf_image.proofs.OneSection.{code_section-is}
 use Rattle.chain_index.specs.declared.lookup.SectionReaches.{SectionReaches}
-use Rattle.chain_index.specs.Inner.{IsCodeOf, BeginsAt, AreFoundBut}
+use Rattle.chain_index.specs.Found.{IsCodeOf, BeginsAt}
+use Rattle.chain_index.specs.Inner.{AreFoundBut}
 use Rattle.chain_index.proofs.CodeSections.{section-half, section-at, code-of, holds-at}
 
 pub one_section : {s t : Section} → Some s ≡ Some t → s ≡ t

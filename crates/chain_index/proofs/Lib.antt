@@ -3,6 +3,6 @@ pub mod Spans
 pub mod Ends
 pub mod Lengths
 pub mod Passes
-pub mod Told
+pub mod Walks
 pub mod Joins
 pub mod Looking

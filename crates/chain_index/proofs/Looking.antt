@@ -15,7 +15,8 @@ use Rattle.elf_image.proofs.LaidOut.{holds-true}
 use Rattle.elf_image.proofs.OneSection.{code_section-is}
 use Rattle.chain_index.specs.declared.lookup.SectionReaches.{SectionReaches}
 use Rattle.chain_index.specs.Chain.{IsChainEnd}
-use Rattle.chain_index.specs.Inner.{IsCodeOf, Reaches, AreReaches, IsSectionReaches, AreRight, AreFalling, IsCountAbove, BeginsAt, AreFoundBut, IsIndexOf, IsReachedAt}
+use Rattle.chain_index.specs.Found.{IsCodeOf, AreReaches, IsSectionReaches, AreFalling, BeginsAt, AreReachesOf}
+use Rattle.chain_index.specs.Inner.{Reaches, AreRight, IsCountAbove, AreFoundBut, IsReachedAt}
 use Rattle.chain_index.proofs.CodeSections.{section-at, section-half, code-of, holds-at}
 use Rattle.chain_index.proofs.Joins.{one_section, none_behind}
 
@@ -39,17 +40,19 @@ all_left bytes left code sorted but = record {
   but = but;
 }
 
+-- the last that is left is one of them
+pub last_code : (bytes : List ℕ) (rest : List Section) (s : Section) (found : List SectionReaches) → IsLeft bytes (rest ++ s ∷ []) found → IsCodeOf bytes s
+last_code bytes rest s found left =
+    let last = Contains-push rest s in subst (IsCodeOf bytes) last.2 (left.code last.0 s last.1)
+
 module _ (bytes : List ℕ) (rest : List Section) (s : Section) (found : List SectionReaches) (kept : SectionReaches)
     (left : IsLeft bytes (rest ++ s ∷ []) found)
     (address : kept.address ≡ s.address)
     (offset : kept.offset ≡ s.offset)
     (size : length kept.reaches.items ≡ s.size / 2)
     (right : AreReaches bytes s.address kept.reaches.items) where
-  is_one : IsCodeOf bytes s
-  is_one = let last = Contains-push rest s in subst (IsCodeOf bytes) last.2 (left.code last.0 s last.1)
-
   kept_right : IsSectionReaches bytes kept
-  kept_right = record { section = s; of = is_one; address = address; offset = offset; size = size; reaches = subst (λ a. AreReaches bytes a kept.reaches.items) (sym address) right }
+  kept_right = record { section = s; of = last_code bytes rest s found left; address = address; offset = offset; size = size; reaches = subst (λ a. AreReaches bytes a kept.reaches.items) (sym address) right }
 
   -- it begins no higher than what was found before
   lowest : (i : ℕ) (d : SectionReaches) → i < length found → kept.address ≤ (get_or found i d).address
@@ -125,8 +128,7 @@ module _ (bytes : List ℕ) (rest : List Section) (s : Section) (found : List Se
 pub behind_reaches : (bytes : List ℕ) (rest : List Section) (s : Section) (found : List SectionReaches) (e : ℕ) (o : Option ℕ) → IsLeft bytes (rest ++ s ∷ []) found → e ≡ s.address + 2 * (s.size / 2)
     → IfSome o (λ _. (file : List ℕ) → AreRight file found → Reaches file e o) → IfNone o ((file : List ℕ) → AreRight file found → BeginsAt found e → ⊥) → Reaches bytes e o
 behind_reaches bytes rest s found e None left at some none =
-    let last = Contains-push rest s in
-    none_behind bytes rest s found (subst (IsCodeOf bytes) last.2 (left.code last.0 s last.1)) left.sorted left.but e at (none bytes left.right)
+    none_behind bytes rest s found (last_code bytes rest s found left) left.sorted left.but e at (none bytes left.right)
 behind_reaches bytes rest s found e (Some reach) left at some none = some bytes left.right
 
 -- nothing is left where nothing was taken
@@ -135,7 +137,7 @@ none_left zero some = refl
 none_left (suc n) some = let wrong = some (omega arith) in absurd (cc)
 
 -- all is found
-pub index_of : (bytes : List ℕ) (left : List Section) (found : List SectionReaches) → IsLeft bytes left found → length left ≡ 0 → IsIndexOf bytes found
+pub index_of : (bytes : List ℕ) (left : List Section) (found : List SectionReaches) → IsLeft bytes left found → length left ≡ 0 → AreReachesOf bytes found
 index_of bytes left found all none = record { right = all.right; falling = all.falling; whole = λ a. at (code_section_of bytes a) a refl }
   where
     at : (o : Option Section) (a : ℕ) → code_section_of bytes a ≡ o → IfSome o (λ s. BeginsAt found s.address)
@@ -177,7 +179,29 @@ even_code bytes a code = at (code_section_of bytes a) refl code
     at None is there = absurd (cc)
     at (Some s) is there = (code_section-is bytes a s is).0
 
-module _ (bytes : List ℕ) (found : List SectionReaches) (index : IsIndexOf bytes found) (a : ℕ) (code : is_code bytes a ≡ true) (count : ℕ) (counted : IsCountAbove found a count) where
+-- a section that is kept is that of each code address of its halfwords
+pub reached : (bytes : List ℕ) (a : ℕ) (kept : SectionReaches) → is_code bytes a ≡ true → IsSectionReaches bytes kept → kept.address ≤ a → (a - kept.address) / 2 < length kept.reaches.items → IsReachedAt bytes a kept
+reached bytes a kept code right low within =
+    let s = right.section in
+    let i : ℕ = (a - kept.address) / 2 in
+    let a_even : a % 2 ≡ 0 = eqb-true (a % 2) 0 (even_code bytes a code) in
+    let start_even : kept.address % 2 ≡ 0 = eqb-true (kept.address % 2) 0 (even_code bytes kept.address right.reaches.code) in
+    let at : kept.address + 2 * i ≡ a = omega (arith, low) in
+    let at_s : s.address + 2 * i ≡ a = omega (arith, at, right.address) in
+    let inside : 2 * i + 2 ≤ s.size = omega (arith, within, right.size) in
+    let is : code_section_of bytes a ≡ Some s = subst (λ b. code_section_of bytes b ≡ Some s) at_s (section-half bytes s right.of i inside) in
+    let place : file_offset s a ≡ kept.offset + (a - kept.address) = omega (arith, right.offset, right.address) in
+    record {
+      image = right.of.image;
+      start = low;
+      within = within;
+      end = λ d. subst (λ b. IsChainEnd bytes b (b + 2 * get_or kept.reaches.items i d)) at (right.reaches.ends i d within);
+      half = ap (option_map (λ t. u16_at bytes (file_offset t a))) is ∙ ap (λ o. Some (u16_at bytes o)) place;
+      in_file = omega (arith, right.of.in_file, at, inside, right.offset);
+      small = right.of.small;
+    }
+
+module _ (bytes : List ℕ) (found : List SectionReaches) (index : AreReachesOf bytes found) (a : ℕ) (code : is_code bytes a ≡ true) (count : ℕ) (counted : IsCountAbove found a count) where
   section-of : (s : Section) × (code_section_of bytes a ≡ Some s)
   section-of = at (code_section_of bytes a) refl code
     where
@@ -230,31 +254,8 @@ module _ (bytes : List ℕ) (found : List SectionReaches) (index : IsIndexOf byt
     address : kept.address ≡ section-of.0.address
     address = right.address ∙ ap (λ (t : Section). t.address) same
 
-    offset : kept.offset ≡ section-of.0.offset
-    offset = right.offset ∙ ap (λ (t : Section). t.offset) same
-
     size : length kept.reaches.items ≡ section-of.0.size / 2
     size = right.size ∙ ap (λ (t : Section). t.size / 2) same
 
-    within : (a - kept.address) / 2 < length kept.reaches.items
-    within = omega (arith, held.0, held.1, size, address)
-
-    -- a is the halfword of that number
-    look_at : kept.address + 2 * ((a - kept.address) / 2) ≡ a
-    look_at =
-        let a_even : a % 2 ≡ 0 = eqb-true (a % 2) 0 (even_code bytes a code) in
-        let start_even : kept.address % 2 ≡ 0 = eqb-true (kept.address % 2) 0 (even_code bytes kept.address right.reaches.code) in
-        omega (arith, low)
-
     pub look : IsReachedAt bytes a kept
-    look =
-        let place : file_offset section-of.0 a ≡ kept.offset + (a - kept.address) = omega (arith, offset, address) in
-        record {
-          image = right.of.image;
-          start = low;
-          within = within;
-          end = λ e. subst (λ b. IsChainEnd bytes b (b + 2 * get_or kept.reaches.items ((a - kept.address) / 2) e)) look_at (right.reaches.ends ((a - kept.address) / 2) e within);
-          half = ap (option_map (λ t. u16_at bytes (file_offset t a))) section-of.1 ∙ ap (λ o. Some (u16_at bytes o)) place;
-          in_file = omega (arith, section-is.in_file, held.0, held.1, offset, address);
-          small = section-is.small;
-        }
+    look = reached bytes a kept code right low (omega (arith, held.0, held.1, size, address))

@@ -9,7 +9,8 @@ use Rattle.elf_image.specs.declared.section.Section.{Section}
 use Rattle.elf_image.specs.Number.{u16_at, u32_at}
 use Rattle.elf_image.specs.Sections.{holds_bytes, file_offset}
 use Rattle.elf_image.specs.Code.{half_at, word_at, word_in}
-use Rattle.chain_index.specs.Inner.{IsCodeOf, word_of}
+use Rattle.chain_index.specs.Found.{IsCodeOf}
+use Rattle.chain_index.specs.Inner.{word_of}
 use Rattle.chain_index.proofs.CodeSections.{section-half}
 
 -- the part of a file from o on, n bytes long, read at i

@@ -1,17 +1,17 @@
 //! The index of an image's chains.
 
-ghost use Rattle.std.specs.Prelude.{◌≡◌, ◌≤◌, IsTrue, IfOk, vec_len};
+ghost use Rattle.std.specs.Prelude.{◌≡◌, ◌+◌, ◌*◌, ◌/◌, ◌<◌, ◌≤◌, IsTrue, IfOk, vec_len};
 ghost use Rattle.std.specs.List.Sorted.{IsNonDecreasing};
 ghost use Rattle.elf_image.specs.Code.{is_code};
 ghost use Rattle.chain_index.specs.Chain.{next_of, IsChainEnd};
-ghost use Rattle.chain_index.specs.Found.{AreReachesOf};
-ghost use Rattle.chain_index.specs.Inner.{IsReachedAt, length_by};
+ghost use Rattle.chain_index.specs.Found.{AreReachesOf, IsCodeOf};
+ghost use Rattle.chain_index.specs.Inner.{IsReachedAt, Reaches, length_by};
 
-use crate::lookup::{SectionReaches, count_above, first_reach};
+use crate::lookup::{SectionReaches, count_above, widest};
 use crate::memory::Memory;
+use crate::over_sections::over_sections;
 use crate::reach::section_reaches;
-use crate::sections::code_sections;
-use crate::sharing::{LEAST_SHARED, MOST_WORKERS, sections_by};
+use crate::sharing::{LEAST_SHARED, MOST_WORKERS, reaches_by, workers_for};
 use elf_image::Image;
 use rv_flow::StraightForms;
 use std::alloc::Global;
@@ -25,6 +25,8 @@ pub struct ChainIndex<'a> {
     image: &'a Image,
     /// The code sections that hold a halfword, from the highest address down.
     sections: Vec<SectionReaches>,
+    /// The place of the widest of them, where most addresses lie; 0 where there is none.
+    widest: usize,
 }
 
 impl<'a> Model for ChainIndex<'a> {
@@ -34,9 +36,9 @@ impl<'a> Model for ChainIndex<'a> {
 
     ghost view = { λ index. index.image.now };
 
-    ghost use Rattle.chain_index.specs.Inner.{IsIndexOf};
+    ghost use Rattle.chain_index.specs.Found.{AreReachesOf};
 
-    ghost invariant = { λ index. IsIndexOf index.image.now index.sections.items };
+    ghost invariant = { λ index. AreReachesOf index.image.now index.sections.items };
 }
 
 /// What an index keeps beside the image, so that it can be made where no image can be borrowed for
@@ -63,23 +65,17 @@ impl ChainReaches {
         ensures { IfOk result (AreReachesOf image.now) }
     {
         let forms = StraightForms::new(alloc)?;
-        let mut left = code_sections(alloc, image)?;
-        let mut found = Vec::new(alloc);
-        while let Some(s) = left.pop() {
-            let behind = first_reach(&found, s.address + s.size / 2 * 2);
-            let reaches = section_reaches(alloc, image, &forms, s, behind)?;
-            found.push(SectionReaches {
-                address: s.address,
-                offset: s.offset,
-                reaches,
-            })?;
-        }
-        Ok(ChainReaches { sections: found })
+        let sections = over_sections(alloc, image, |s, behind| {
+            section_reaches(alloc, image, &forms, s, behind)
+        })?;
+        Ok(ChainReaches { sections })
     }
 
     /// The same, made by so many workers, from 1 to 64. With one worker no thread is started, nor
-    /// for a section of fewer than 65,536 halfwords. A longer section takes one more byte for each
-    /// of its halfwords while it is gone over.
+    /// for a section of fewer than 65,536 halfwords. In a longer one each worker makes the reaches
+    /// of a stretch; before that it walks the chains of the two halfwords behind its stretch, which
+    /// takes time linear in their lengths, and so on one long straight run in that of all the rest
+    /// of the section.
     pub fn new_by<R: Threads + Sync>(
         rt: &R,
         alloc: Global,
@@ -107,7 +103,20 @@ impl ChainReaches {
         requires { 1 ≤ workers }
         ensures { IfOk result (AreReachesOf image.now) }
     {
-        let sections = sections_by(rt, alloc, image, workers as usize, least)?;
+        let forms = StraightForms::new(alloc)?;
+        let workers = workers as usize;
+        let sections = over_sections(
+            alloc,
+            image,
+            |s, behind|
+                requires section { IsCodeOf image.now s }
+                requires behind { Reaches image.now (s.address + 2 * (s.size / 2)) behind }
+                requires workers { 0 < workers }
+            {
+                let count = workers_for(s.size / 2, workers, least);
+                reaches_by(rt, alloc, image, &forms, s, behind, count)
+            },
+        )?;
         Ok(ChainReaches { sections })
     }
 }
@@ -129,13 +138,14 @@ impl<'a> ChainIndex<'a> {
     {
         ChainIndex {
             image,
+            widest: widest(&reaches.sections),
             sections: reaches.sections,
         }
     }
 
     /// The last address of the chain of the code address `a`: the first one from there on behind
-    /// which control does not go straight on to code. It takes time logarithmic in the number of
-    /// code sections.
+    /// which control does not go straight on to code. The widest code section is asked first;
+    /// elsewhere it takes time logarithmic in the number of code sections.
     pub fn term(&self, a: u64) -> u64
         requires { IsTrue (is_code self.now a) }
         ensures { IsChainEnd self.now a result }
@@ -195,8 +205,20 @@ impl<'a> ChainIndex<'a> {
         0
     }
 
-    /// The section of the code address `a`.
+    /// The section of the code address `a`: the widest is asked first.
+    #[inline]
     fn section(&self, a: u64) -> &SectionReaches
+        requires { IsTrue (is_code self.now a) }
+        ensures { IsReachedAt self.now a result.now }
+    {
+        match self.sections.get(self.widest) {
+            Some(s) if s.holds(a) => s,
+            _ => self.section_before(a),
+        }
+    }
+
+    /// The section of the code address `a`: the last that begins at `a` or before.
+    fn section_before(&self, a: u64) -> &SectionReaches
         requires { IsTrue (is_code self.now a) }
         ensures { IsReachedAt self.now a result.now }
     {

@@ -8,19 +8,21 @@
 //! - `laws`: that a chain has one end.
 //! - `lookup`: what is kept of each section, and the search for one.
 //! - `sections`: the code sections of an image, in the order of their addresses.
-//! - `reach`: the pass over one section.
-//! - `telling`: the lengths of a section's instructions, told by several threads.
-//! - `sharing`: the passes over all sections, with such lengths.
+//! - `reach`: the pass over one section, or over a stretch of it.
+//! - `walk`: the chain of one halfword, walked.
+//! - `sharing`: the passes over the stretches of one section, by several threads.
+//! - `over_sections`: the passes over all sections.
 #![tactic(auto)]
 
 mod index;
 mod laws;
 mod lookup;
 mod memory;
+mod over_sections;
 mod reach;
 mod sections;
 mod sharing;
-mod telling;
+mod walk;
 
 pub use index::{ChainIndex, ChainReaches};
 pub use laws::one_chain_end;

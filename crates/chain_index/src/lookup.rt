@@ -1,10 +1,11 @@
 //! Code sections with the reaches of their halfwords, looked up by address.
 
 ghost use Rattle.std.specs.Prelude.{◌≡◌, ℕ, ◌+◌, ◌-◌, ◌*◌, ◌/◌, ◌≤◌, ◌<◌, List, length, Some};
-ghost use Rattle.std.specs.Prelude.{IfSome, IfNone};
+ghost use Rattle.std.specs.Prelude.{IfSome, IfNone, nat_le, nat_lt, ◌&&◌};
 ghost use Rattle.elf_image.specs.Code.{half_at};
 ghost use Rattle.chain_index.specs.Chain.{IsChainEnd};
-ghost use Rattle.chain_index.specs.Inner.{AreRight, AreFalling, IsCountAbove, BeginsAt};
+ghost use Rattle.chain_index.specs.Found.{AreFalling, BeginsAt};
+ghost use Rattle.chain_index.specs.Inner.{AreRight, IsCountAbove};
 ghost use Rattle.chain_index.specs.Inner.{IsReachedAt, Reaches};
 
 use elf_image::{Image, Span, u16_at};
@@ -21,6 +22,15 @@ pub(crate) struct SectionReaches {
 }
 
 impl SectionReaches {
+    /// Whether the halfword at the even address `a` is one of its.
+    #[inline]
+    pub(crate) fn holds(&self, a: u64) -> bool
+        ensures { result ≡ (nat_le self.now.address a
+            && nat_lt ((a - self.now.address) / 2) (length self.now.reaches.items)) }
+    {
+        a >= self.address && (a - self.address) / 2 < self.reaches.len() as u64
+    }
+
     /// How many halfwords the end of the chain of its address `a` lies ahead.
     pub(crate) fn reach(&self, a: u64) -> u32
         requires start { self.now.address ≤ a }
@@ -43,6 +53,15 @@ impl SectionReaches {
         });
         u16_at(bytes, 0)
     }
+}
+
+/// The place of the section with the most halfwords; 0 where there is none.
+pub(crate) fn widest(sections: &[SectionReaches]) -> usize {
+    sections
+        .iter()
+        .enumerate()
+        .max_by_key(|(_, s)| s.reaches.len())
+        .map_or(0, |(place, _)| place)
 }
 
 /// How many of the sections begin above `a`: the next one, where there is one, is the last that

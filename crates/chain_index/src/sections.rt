@@ -4,7 +4,8 @@ ghost use Rattle.std.specs.Prelude.{◌≡◌, ◌≤◌, ◌<◌, ℕ, IfOk, Al
 ghost use Rattle.std.specs.List.{Contains};
 ghost use Rattle.std.specs.List.Sorted.{IsNonDecreasingBy, IsPermutation};
 ghost use Rattle.elf_image.specs.Faults.{IsImage};
-ghost use Rattle.chain_index.specs.Inner.{IsCodeOf, AreListed};
+ghost use Rattle.chain_index.specs.Found.{IsCodeOf};
+ghost use Rattle.chain_index.specs.Inner.{AreListed};
 
 use elf_image::{Image, Section};
 use std::alloc::{AllocError, Global};

@@ -1,17 +1,16 @@
-//! The reaches of all code sections, made by several threads.
+//! The reaches of a code section, made by several threads.
 
 ghost use Rattle.std.specs.Prelude.{◌≡◌, ℕ, ◌+◌, ◌*◌, ◌/◌, ◌≤◌, ◌<◌, IfOk, length};
-ghost use Rattle.chain_index.specs.Inner.{IsCodeOf, IsIndexOf, AreReaches, Reaches};
+ghost use Rattle.std.specs.Prelude.{slice_index_or};
+ghost use Rattle.chain_index.specs.Found.{IsCodeOf, AreReaches};
+ghost use Rattle.chain_index.specs.Inner.{Reaches, ReachesFrom, IsReach};
 
-use crate::lookup::{SectionReaches, first_reach};
 use crate::memory::Memory;
-use crate::reach::{reach_over, section_reaches};
-use crate::sections::code_sections;
-use crate::telling::{lengths_by, told_length};
-use elf_image::{Image, Section, Span};
+use crate::reach::{pass_back, room_for, section_reaches};
+use elf_image::{Image, Section};
 use rv_flow::StraightForms;
 use std::alloc::Global;
-use std::thread::Threads;
+use std::thread::{self, Threads};
 
 /// The most workers that an index is made by.
 pub const MOST_WORKERS: u32 = 64;
@@ -19,45 +18,17 @@ pub const MOST_WORKERS: u32 = 64;
 /// How many halfwords a section has at least for which threads are started.
 pub(crate) const LEAST_SHARED: u64 = 1 << 16;
 
-/// The code sections that hold a halfword, from the highest address down, made by so many workers.
-/// Those of fewer than `least` halfwords start no thread.
-pub(crate) fn sections_by<R: Threads + Sync>(
-    rt: &R,
-    alloc: Global,
-    image: &Image,
-    workers: usize,
-    least: u64,
-) -> Result<Vec<SectionReaches>, Memory>
-    requires { 0 < workers }
-    ensures { IfOk result (λ found. IsIndexOf image.now found.items) }
-{
-    let forms = StraightForms::new(alloc)?;
-    let mut left = code_sections(alloc, image)?;
-    let mut found = Vec::new(alloc);
-    while let Some(s) = left.pop() {
-        let behind = first_reach(&found, s.address + s.size / 2 * 2);
-        let count = workers_for(s.size / 2, workers, least);
-        let reaches = reaches_by(rt, alloc, image, &forms, s, behind, count)?;
-        found.push(SectionReaches {
-            address: s.address,
-            offset: s.offset,
-            reaches,
-        })?;
-    }
-    Ok(found)
-}
-
-/// How many of the workers a section of so many halfwords takes.
-fn workers_for(halfwords: u64, workers: usize, least: u64) -> usize
+/// How many of the workers a section of so many halfwords takes: one, where it has fewer than
+/// `least`.
+pub(crate) fn workers_for(halfwords: u64, workers: usize, least: u64) -> usize
     requires { 0 < workers }
     ensures { 0 < result }
 {
     if halfwords < least { 1 } else { workers }
 }
 
-/// The answer of [`section_reaches`]. Where there is more than one worker, they tell the lengths of
-/// all instructions first; that takes one more byte for each halfword while it runs.
-fn reaches_by<R: Threads + Sync>(
+/// The answer of [`section_reaches`]. Each worker makes the reaches of a stretch.
+pub(crate) fn reaches_by<R: Threads + Sync>(
     rt: &R,
     alloc: Global,
     image: &Image,
@@ -75,19 +46,33 @@ fn reaches_by<R: Threads + Sync>(
     if workers == 1 {
         return section_reaches(alloc, image, forms, s, behind);
     }
-    let code = image.bytes(Span {
-        at: s.offset as u32,
-        len: s.size as u32,
-    });
-    let lengths = lengths_by(rt, alloc, forms, code, workers)?;
-    let mut reaches = vec![in alloc; 0; lengths.len()]?;
-    let mut near = behind;
-    let mut far = None;
-    for i in (0..lengths.len()).rev() {
-        let reach = reach_over(told_length(lengths[i]), near, far)?;
-        reaches[i] = reach;
-        far = near;
-        near = Some(reach);
-    }
+    let mut reaches = room_for(alloc, s, behind)?;
+    pass_all(rt, image, forms, s, behind, &mut reaches, workers);
     Ok(reaches)
+}
+
+/// Makes the reaches of all halfwords, a stretch of them on a thread of its own for each worker.
+fn pass_all<R: Threads + Sync>(
+    rt: &R,
+    image: &Image,
+    forms: &StraightForms,
+    s: Section,
+    behind: Option<u32>,
+    reaches: &mut [u32],
+    workers: usize,
+)
+    requires section { IsCodeOf image.now s }
+    requires behind { ReachesFrom image.now s (s.size / 2) behind }
+    requires size { length reaches.old ≡ s.size / 2 }
+    requires workers { 0 < workers }
+    ensures { (i d : ℕ) → i < length reaches.old
+        → IsReach image.now s i (slice_index_or reaches.new i d) }
+{
+    let share = reaches.len() / workers + 1;
+    thread::for_each_chunk_mut(
+        rt,
+        reaches,
+        share,
+        &|from, part| pass_back(image, forms, s, behind, from, part),
+    );
 }

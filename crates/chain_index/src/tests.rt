@@ -45,8 +45,13 @@ const CASES: [(u64, u64, Option<u64>); 13] = [
     (0x10020, 0x10020, None),
 ];
 
-fn image(alloc: Global) -> Result<Image, ElfError> {
-    let bytes = Vec::from_slice(alloc, &FILE).map_err(|_| ElfError::Memory)?;
+/// The image of the file with so many bytes of code at 10020 (hexadecimal), up to 10: behind its
+/// `c.nop` they are zeros, which are no instruction.
+fn image(alloc: Global, last_size: u8) -> Result<Image, ElfError> {
+    let mut bytes = Vec::from_slice(alloc, &FILE).map_err(|_| ElfError::Memory)?;
+    if let Some(place) = bytes.get_mut(256) {
+        *place = last_size;
+    }
     Image::parse(alloc, bytes)
 }
 
@@ -55,10 +60,28 @@ fn shared<T: Sync>(_value: &T) {}
 
 #[test]
 fn chains_end_across_sections(rt: HostRuntime) -> Result<(), Fail> {
-    let image = image(rt.alloc())?;
+    let image = image(rt.alloc(), 2)?;
     let index = ChainIndex::new(rt.alloc(), &image)?;
     shared(&index);
     for (a, end, next) in CASES {
+        assert!(rt; image.is_code(a));
+        assert_eq!(rt; index.term(a), end, "the end of the chain of {a}");
+        assert_eq!(rt; index.next(a), next, "the address behind {a}");
+    }
+    Ok(())
+}
+
+/// The widest section is the last in memory, and no longer the first.
+#[test]
+fn widest_section_elsewhere(rt: HostRuntime) -> Result<(), Fail> {
+    let image = image(rt.alloc(), 10)?;
+    let index = ChainIndex::new(rt.alloc(), &image)?;
+    let last = [
+        (0x10020, 0x10022, Some(0x10022)),
+        (0x10022, 0x10022, None),
+        (0x10028, 0x10028, None),
+    ];
+    for (a, end, next) in CASES[..12].iter().chain(&last).copied() {
         assert!(rt; image.is_code(a));
         assert_eq!(rt; index.term(a), end, "the end of the chain of {a}");
         assert_eq!(rt; index.next(a), next, "the address behind {a}");
@@ -70,7 +93,7 @@ fn chains_end_across_sections(rt: HostRuntime) -> Result<(), Fail> {
 /// two at 10012, and one each at 10018 and 10020.
 #[test]
 fn bounds_cut_evenly(rt: HostRuntime) -> Result<(), Fail> {
-    let image = image(rt.alloc())?;
+    let image = image(rt.alloc(), 2)?;
     let index = ChainIndex::new(rt.alloc(), &image)?;
     assert!(rt; index.bounds(rt.alloc(), 1)?.is_empty());
     assert_eq!(rt;
@@ -86,7 +109,7 @@ fn bounds_cut_evenly(rt: HostRuntime) -> Result<(), Fail> {
 /// So many workers, with threads for sections of each size, give what one thread does.
 #[test]
 fn more_workers(rt: HostRuntime) -> Result<(), Fail> {
-    let image = image(rt.alloc())?;
+    let image = image(rt.alloc(), 2)?;
     assert!(rt; image.is_code(0x10000));
     let reaches = ChainReaches::new_by(&rt, rt.alloc(), &image, 64)?;
     let short = ChainIndex::of(&image, reaches);
@@ -98,6 +121,62 @@ fn more_workers(rt: HostRuntime) -> Result<(), Fail> {
             assert!(rt; image.is_code(a));
             assert_eq!(rt; index.term(a), end, "the end of the chain of {a}");
             assert_eq!(rt; index.next(a), next, "the address behind {a}");
+        }
+    }
+    Ok(())
+}
+
+/// The address, the offset and the size of a section of 60 bytes at 20000 (hexadecimal), at the end
+/// of the file above.
+const LONG_RUN: [u8; 24] = [
+    0, 0, 2, 0, 0, 0, 0, 0, 0xE0, 1, 0, 0, 0, 0, 0, 0, 60, 0, 0, 0, 0, 0, 0, 0,
+];
+
+/// Those of a section of 33 bytes that joins it.
+const ITS_REST: [u8; 24] = [
+    0x3C, 0, 2, 0, 0, 0, 0, 0, 0x1C, 2, 0, 0, 0, 0, 0, 0, 33, 0, 0, 0, 0, 0, 0, 0,
+];
+
+/// An image with one long run at 20000 (hexadecimal), over two sections that join: `addi x0, x0, 0`
+/// and `c.nop` by turns, 46 halfwords, of which the second section has the last 16, and behind them
+/// a single byte. The last halfword is the lower half of an instruction that is not there whole.
+fn long_run(alloc: Global) -> Result<Image, ElfError> {
+    let mut bytes = Vec::new(alloc);
+    let parts = [
+        &FILE[..240],
+        LONG_RUN.as_slice(),
+        &FILE[264..368],
+        ITS_REST.as_slice(),
+        &FILE[392..],
+    ];
+    for part in parts {
+        bytes.extend_from_slice(part).map_err(|_| ElfError::Memory)?;
+    }
+    for _ in 0..16 {
+        bytes
+            .extend_from_slice(&[0x13, 0, 0, 0, 1, 0])
+            .map_err(|_| ElfError::Memory)?;
+    }
+    Image::parse(alloc, bytes)
+}
+
+/// The run goes over several stretches, which begin at either instruction and, of two workers, in
+/// the middle of the one of four bytes.
+#[test]
+fn long_run_in_stretches(rt: HostRuntime) -> Result<(), Fail> {
+    let image = long_run(rt.alloc())?;
+    for workers in [1, 2, 3, 4, 7, 64] {
+        let reaches = ChainReaches::shared(&rt, rt.alloc(), &image, workers, 0)?;
+        let index = ChainIndex::of(&image, reaches);
+        for i in 0..46u64 {
+            let a = 0x20000 + 2 * i;
+            let end = if i % 3 == 1 { a } else { 0x2005A };
+            assert!(rt; image.is_code(a));
+            assert_eq!(rt;
+                index.term(a),
+                end,
+                "the end of the chain of {a}, {workers} workers"
+            );
         }
     }
     Ok(())

@@ -3,7 +3,7 @@ use Rattle.std.specs.List.Sorted.{IsPartitionedBy}
 use Rattle.std.proofs.lemmas.Bool.{ltb-true, ltb-false, lt-ltb}
 use Rattle.std.proofs.lemmas.List.Sorted.{IsPartitionPoint-from_clause}
 use Rattle.chain_index.specs.declared.lookup.SectionReaches.{SectionReaches}
-use Rattle.chain_index.specs.Inner.{AreFalling}
+use Rattle.chain_index.specs.Found.{AreFalling}
 use Rattle.chain_index.proofs.lookup.count_above.Goals as goal
 
 -- the sections that begin above come first

@@ -1,7 +1,7 @@
 use Rattle.std.proofs.Common.{◌≡◌, ◌∙◌, true, ap, sym, subst, arith, inl, inr}
 use Rattle.elf_image.specs.declared.section.Section.{Section}
 use Rattle.elf_image.specs.Sections.{section, is_code_section}
-use Rattle.chain_index.specs.Inner.{IsCodeOf}
+use Rattle.chain_index.specs.Found.{IsCodeOf}
 use Rattle.chain_index.proofs.CodeSections.{code-of, first_more, first_none}
 use Rattle.chain_index.proofs.sections.filled_sections.Goals as goal
 use Rattle.chain_index.proofs.sections.filled_sections.Goals.{then-is_code+then-s-ge2+in_ok-push, else-is_code, else-is_code-via-then-is_code+else-s-ge2, else-is_code-via-else-is_code}

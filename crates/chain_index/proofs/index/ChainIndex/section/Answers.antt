@@ -1,30 +1,19 @@
-use Rattle.std.proofs.Common.{◌≡◌, List, length, true, sym, ap, subst, arith}
+use Rattle.std.proofs.Common.{◌≡◌, ◌-◌, ◌/◌, true, length, sym, ◌∙◌, subst, leb, ltb}
+use Rattle.std.proofs.lemmas.Bool.{and_parts, leb-true, ltb-true}
 use Rattle.elf_image.specs.Code.{is_code}
-use Rattle.chain_index.specs.declared.lookup.SectionReaches.{SectionReaches}
-use Rattle.chain_index.specs.Inner.{IsCountAbove, IsReachedAt}
-use Rattle.chain_index.proofs.Looking.{look_within, look}
+use Rattle.chain_index.specs.Found.{IsSectionReaches}
+use Rattle.chain_index.specs.Inner.{AreRight, IsReachedAt}
+use Rattle.chain_index.proofs.Looking.{reached}
 use Rattle.chain_index.proofs.index.ChainIndex.section.Goals as goal
-use Rattle.chain_index.proofs.index.ChainIndex.section.Goals.{After-count_above}
 
--- the search is in the sections that are kept, for a code address of their file
-counted : (c : After-count_above) → IsCountAbove c.self.inside.sections.items c.args.a c.count_above.result
-counted c = subst (λ found. IsCountAbove found c.args.a c.count_above.result) c.deref.ensures.value c.count_above.ensures
-
-code : (c : After-count_above) → is_code c.self.inside.image.now c.args.a ≡ true
-code c = subst (λ file. is_code file c.args.a ≡ true) (sym c.self.view_is) c.requires
-
-pub index-requires : goal.index-requires
-index-requires c =
-    omega (
-      arith,
-      look_within c.self.inside.image.now c.self.inside.sections.items c.self.invariant c.args.a (code c) c.count_above.result (counted c),
-      c.deref.ensures.len,
-      ap (λ (found : List SectionReaches). length found) c.deref.ensures.value,
-    )
-
-pub returns : goal.returns
-returns c =
-    let at = (goal.at.returns c).After-count_above in
-    subst (λ file. IsReachedAt file c.args.a c.index.result.now) c.self.view_is
-    (subst (IsReachedAt c.self.inside.image.now c.args.a) (sym c.index.ensures)
-    (look c.self.inside.image.now c.self.inside.sections.items c.self.invariant c.args.a (code at) c.count_above.result (counted at) c.index.result.now))
+pub returns-in-Some : goal.returns-in-Some
+returns-in-Some c =
+    let file = c.self.inside.image.now in
+    let kept = c.in-Some.s.now in
+    let at = c.in-Some.ensures.lookup in
+    let all : AreRight file c.deref.result.now = subst (AreRight file) (sym c.deref.ensures.value) c.self.invariant.right in
+    let right : IsSectionReaches file kept = subst (IsSectionReaches file) (sym at.1) (all _ kept (ltb-true _ _ (sym at.0))) in
+    let holds = and_parts (leb kept.address c.args.a) (ltb ((c.args.a - kept.address) / 2) (length kept.reaches.items)) (sym c.holds.ensures ∙ c.if-holds.true) in
+    let code : is_code file c.args.a ≡ true = subst (λ bytes. is_code bytes c.args.a ≡ true) (sym c.self.view_is) c.requires in
+    subst (λ bytes. IsReachedAt bytes c.args.a kept) c.self.view_is
+    (reached file c.args.a kept code right (leb-true _ _ holds.0) (ltb-true _ _ holds.1))

@@ -1,6 +1,6 @@
 use Rattle.std.proofs.Common.{vec_len}
 use Rattle.chain_index.proofs.Looking.{IsLeft}
-use Rattle.chain_index.proofs.sharing.sections_by.Given as goal
+use Rattle.chain_index.proofs.over_sections.over_sections.Given as goal
 
 -- what is left is in order, and all else is found
 abbrev pub invariant-loop-s : goal.invariant-loop-s

@@ -1,0 +1,41 @@
+//! The passes over all code sections, one after the other.
+
+ghost use Rattle.std.specs.Prelude.{◌≡◌, ◌+◌, ◌*◌, ◌/◌, IfOk, length};
+ghost use Rattle.chain_index.specs.Found.{IsCodeOf, AreReaches, AreReachesOf};
+ghost use Rattle.chain_index.specs.Inner.{Reaches};
+
+use crate::lookup::{SectionReaches, first_reach};
+use crate::memory::Memory;
+use crate::sections::code_sections;
+use elf_image::{Image, Section};
+use std::alloc::Global;
+
+/// The code sections that hold a halfword, from the highest address down, with the reaches that
+/// `pass` makes of each; it also gets how far the chain of the address behind the section's last
+/// halfword reaches, where code stands there.
+pub(crate) fn over_sections<F: Fn(Section, Option<u32>) -> Result<Vec<u32>, Memory>>(
+    alloc: Global,
+    image: &Image,
+    pass: F,
+) -> Result<Vec<SectionReaches>, Memory>
+    requires callable { (s : _) (behind : _) → IsCodeOf image.now s
+        → Reaches image.now (s.address + 2 * (s.size / 2)) behind → F.pre pass s behind }
+    requires right { (s : _) (behind : _) (made : _) → IsCodeOf image.now s
+        → Reaches image.now (s.address + 2 * (s.size / 2)) behind → F.post pass s behind made
+        → IfOk made (λ reaches. (length reaches.items ≡ s.size / 2)
+        × AreReaches image.now s.address reaches.items) }
+    ensures { IfOk result (λ found. AreReachesOf image.now found.items) }
+{
+    let mut left = code_sections(alloc, image)?;
+    let mut found = Vec::new(alloc);
+    while let Some(s) = left.pop() {
+        let behind = first_reach(&found, s.address + s.size / 2 * 2);
+        let reaches = pass(s, behind)?;
+        found.push(SectionReaches {
+            address: s.address,
+            offset: s.offset,
+            reaches,
+        })?;
+    }
+    Ok(found)
+}
