@@ -1,4 +1,4 @@
--- Work that is left among the entries of a map by lines: what a look at each of them has shown.
+-- Work that is left among the entries of an address map: what a look at each of them has shown.
 use Rattle.std.proofs.Common.{◌≡◌, ℕ, suc, ◌+◌, ◌<◌, ◌≤◌, Bool, cond, true, false, refl, List, [], ◌∷◌, ◌++◌, length, get_or, subst, sym, ap, ◌∙◌, arith, below_more}
 use Rattle.std.specs.Prelude.{Option, Some, None, is_some}
 use Rattle.std.specs.Ordering.{nat_cmp, eq_by_cmp}
@@ -17,7 +17,7 @@ use Rattle.core_state.specs.inner.Remaining.{LeftAmong}
 use Rattle.core_state.proofs.SeenSet.{is_equal}
 use Rattle.core_state.proofs.Shards.{or_else, find_append}
 use Rattle.core_state.proofs.PairsInRow.{stands_there}
-use Rattle.core_state.proofs.LinesKept.{line_has}
+use Rattle.core_state.proofs.PairsKept.{row_has}
 use Rattle.core_state.proofs.ChunksJoined.{in_its_chunk}
 
 module _ {X : Type 0} (At : ℕ → X → Work → Type 0) where
@@ -49,14 +49,14 @@ module _ {X : Type 0} (At : ℕ → X → Work → Type 0) where
         key = e.0;
         entry = e.1;
         has =
-            sym (line_has es m seen e.0)
+            sym (row_has es m seen e.0)
             ∙ subst (λ (p : ℕ × X). find nat_cmp p.0 es ≡ Some p.1) (sym is) (stands_there nat_cmp_total es apart n e below);
         left = left;
       }
 
       pub all_done : length es ≤ n → AreDone es n → (work : Work) → ¬ LeftAmong At m work
       all_done all done work left =
-          none_found es (λ i below. done i (omega arith)) left.key left.entry (line_has es m seen left.key ∙ left.has) work left.left
+          none_found es (λ i below. done i (omega arith)) left.key left.entry (row_has es m seen left.key ∙ left.has) work left.left
 
   -- the chunks of a map, of which some are still to be looked over
   abbrev pub LeftOver : List (ℕ × maps.FinMap nat_cmp X) → Work → Type 0

@@ -1,91 +1,23 @@
--- The next key of a map by lines: in a line, in a chunk, and in the whole.
-use Rattle.std.proofs.Common.{◌≡◌, ◌≢◌, ℕ, ◌+◌, ◌-◌, ◌^◌, ◌%◌, ◌==◌, ◌<◌, ◌≤◌, Bool, cond, true, false, refl, List, [], ◌∷◌, ◌++◌, length, get_or, take, subst, sym, ap, ◌∙◌, arith}
+-- The next key of an address map: in a part, in a chunk, and in the whole.
+use Rattle.std.proofs.Common.{◌≡◌, ◌≢◌, ℕ, ◌+◌, ◌-◌, ◌^◌, ◌%◌, ◌==◌, ◌<◌, ◌≤◌, false, refl, List, length, get_or, subst, sym, ap, ◌∙◌, arith}
 use Rattle.std.specs.Prelude.{Option, Some, None, IsSome, is_some, ◌⊎◌, if◌then◌else◌}
 use Rattle.std.specs.Option.{option_map}
 use mathlib.Core.Logic.{inl, inr}
-use Rattle.std.specs.Ordering.{nat_cmp, eq_by_cmp}
-use Rattle.std.specs.Cmp.{nat_cmp_total, unsigned_tied}
+use Rattle.std.specs.Ordering.{nat_cmp}
 use Rattle.std.proofs.lemmas.Bool.{eq-eqb, ne_eqb}
 use Rattle.std.proofs.lemmas.Option.{same_Some}
 use Rattle.std.specs.List.Sorted.{IsStrictlySortedBy}
 use Rattle.std.specs.FinMap as maps
-use Rattle.std.specs.FinMap.{find}
 use Rattle.std.specs.BTreeMap.{is_at}
 use Rattle.std.specs.Map.{lookup, keys_of}
-use Rattle.std.proofs.lemmas.List.{take_more, take_all, get_or_default}
+use Rattle.std.proofs.lemmas.List.{get_or_default}
 use Rattle.cfg_model.proofs.Builder.MapFacts.{same_or_other}
 use Rattle.core_state.specs.Joined.{joined}
 use Rattle.core_state.specs.Least.{IsLeast, IsAbove}
-use Rattle.core_state.specs.inner.Walk.{lesser_of}
 use Rattle.core_state.specs.inner.Grouped.{chunk_of, page_of, place_of, region_of, chunk_entries, AreChunks, AreParts, AreTogether, IsKeyAbove, IsInChunk, IsNextInChunk, IsNextInPage}
-use Rattle.core_state.proofs.SeenSet.{is_equal}
-use Rattle.core_state.proofs.Shards.{or_else, find_append}
 use Rattle.core_state.proofs.PartsJoined.{read_joined, inside_of}
 use Rattle.core_state.proofs.ChunksJoined.{at_chunk, read_chunks, in_its_chunk}
-use Rattle.core_state.proofs.Walks.{least_as, least_either}
-
-tied_same : (k : ℕ) → eq_by_cmp nat_cmp k k ≡ true
-tied_same k = unsigned_tied k k ∙ eq-eqb k k refl
-
--- the keys of a row's front, with one more
-module _ {X : Type 0} (es : List (ℕ × X)) (n : ℕ) (e : ℕ × X) (below : n < length es) (is : e ≡ get_or es n e) (a : Option ℕ) where
-  abbrev Among : List (ℕ × X) → ℕ → Type 0
-  Among fs k = IsSome (find nat_cmp k fs) × IsAbove a k
-
-  one_more : (k : ℕ) → find nat_cmp k (take (n + 1) es) ≡ or_else (find nat_cmp k (take n es)) (cond (eq_by_cmp nat_cmp k e.0) (Some e.1) None)
-  one_more k = ap (find nat_cmp k) (take_more es n e below ∙ ap (λ f. take n es ++ f ∷ []) (sym is)) ∙ find_append k (take n es) (e ∷ [])
-
-  some_in : (o : Option X) (b : Bool) → IsSome o → IsSome (or_else o (cond b (Some e.1) None))
-  some_in None b has = cc has
-  some_in (Some x) b has = refl
-
-  was_in : (o : Option X) (k : ℕ) (b : Bool) → eq_by_cmp nat_cmp k e.0 ≡ b → IsSome (or_else o (cond b (Some e.1) None)) → IsSome o ⊎ (k ≡ e.0)
-  was_in (Some x) k b same has = inl refl
-  was_in None k true same has = inr (maps.nat_cmp-IsAntisymmetric k e.0 (is_equal (nat_cmp k e.0) same))
-  was_in None k false same has = cc has
-
-  stays : (k : ℕ) → Among (take n es) k → Among (take (n + 1) es) k
-  stays k h = (ap is_some (one_more k) ∙ some_in (find nat_cmp k (take n es)) (eq_by_cmp nat_cmp k e.0) h.0, h.1)
-
-  splits : (k : ℕ) → Among (take (n + 1) es) k → Among (take n es) k ⊎ ((k ≡ e.0) × IsAbove a k)
-  splits k h = split (was_in (find nat_cmp k (take n es)) k (eq_by_cmp nat_cmp k e.0) refl (sym (ap is_some (one_more k)) ∙ h.0))
-    where
-      split : IsSome (find nat_cmp k (take n es)) ⊎ (k ≡ e.0) → Among (take n es) k ⊎ ((k ≡ e.0) × IsAbove a k)
-      split (inl has) = inl (has, h.1)
-      split (inr same) = inr (same, h.1)
-
-  itself : IsSome (find nat_cmp e.0 (take (n + 1) es))
-  itself = ap is_some (one_more e.0) ∙ last (find nat_cmp e.0 (take n es))
-    where
-      last : (o : Option X) → IsSome (or_else o (cond (eq_by_cmp nat_cmp e.0 e.0) (Some e.1) None))
-      last None = ap (λ b. is_some (cond b (Some e.1) None)) (tied_same e.0)
-      last (Some x) = refl
-
-  pub with_above : IsAbove a e.0 → (least : Option ℕ) → IsLeast (Among (take n es)) least → IsLeast (Among (take (n + 1) es)) (lesser_of least (Some e.0))
-  with_above above least is_least =
-      least_as (λ k. Among (take n es) k ⊎ (k ≡ e.0)) (Among (take (n + 1) es)) (lesser_of least (Some e.0))
-      (λ k h. elim h [ inl was ↦ stays k was | inr same ↦ subst (Among (take (n + 1) es)) (sym same) (itself, above) ])
-      (λ k h. elim (splits k h) [ inl was ↦ inl was | inr new ↦ inr new.0 ])
-      (least_either (Among (take n es)) (λ k. k ≡ e.0) least (Some e.0) is_least (refl, λ y same. omega arith))
-
-  pub with_below : ¬ IsAbove a e.0 → (least : Option ℕ) → IsLeast (Among (take n es)) least → IsLeast (Among (take (n + 1) es)) least
-  with_below not_above least is_least =
-      least_as (Among (take n es)) (Among (take (n + 1) es)) least stays
-      (λ k h. elim (splits k h) [ inl was ↦ was | inr new ↦ absurd (not_above (subst (IsAbove a) new.0 new.1)) ]) is_least
-
-pub none_among : {X : Type 0} (es : List (ℕ × X)) (a : Option ℕ) → IsLeast (λ k. IsSome (find nat_cmp k (take 0 es)) × IsAbove a k) None
-none_among es a k h = cc h.0
-
-pub all_among : {X : Type 0} (es : List (ℕ × X)) (n : ℕ) (a least : Option ℕ) → length es ≤ n → IsLeast (λ k. IsSome (find nat_cmp k (take n es)) × IsAbove a k) least
-    → IsLeast (λ k. IsSome (find nat_cmp k es) × IsAbove a k) least
-all_among es n a least all is_least = subst (λ (fs : List (ℕ × _)). IsLeast (λ k. IsSome (find nat_cmp k fs) × IsAbove a k) least) (take_all n es all) is_least
-
--- a line's pairs, seen as its map
-pub after_line : {X : Type 0} (es : List (ℕ × X)) (m : maps.FinMap nat_cmp X) → maps.from_entries es ≡ m → (a o : Option ℕ) → IsLeast (λ k. IsSome (find nat_cmp k es) × IsAbove a k) o
-    → IsLeast (IsKeyAbove m a) o
-after_line es m seen a o least =
-    let same : (k : ℕ) → is_some (find nat_cmp k es) ≡ maps.contains_key m k = λ k. ap is_some (sym (maps.get-from_entries nat_cmp_total es k) ∙ ap (λ n. maps.get n k) seen) in
-    least_as _ (IsKeyAbove m a) o (λ k h. (sym (same k) ∙ h.0, h.1)) (λ k h. (same k ∙ h.0, h.1)) least
+use Rattle.core_state.proofs.Walks.{least_as}
 
 -- a key of an earlier page of the same chunk is less; one of an earlier chunk of the same region is less
 pub page_order : (x y : ℕ) → chunk_of x ≡ chunk_of y → page_of x < page_of y → x ≤ y
@@ -138,11 +70,6 @@ module _ {X : Type 0} (home : ℕ → ℕ) (ms : List (maps.FinMap nat_cmp X)) (
           where
             less : (p q j : ℕ) → p ≡ j → j ≤ q → q ≢ j → p < q
             less p q j same from other = omega arith
-
-    pub next_in_part : (b : ℕ) → j ≡ home b → (o : Option ℕ) → IsLeast (IsKeyAbove part (Some b)) o → IsLeast (λ k. IsKeyAbove m (Some b) k × (home k ≡ home b)) o
-    next_in_part b place o least =
-        least_as (IsKeyAbove part (Some b)) (λ k. IsKeyAbove m (Some b) k × (home k ≡ home b)) o
-        (λ k h. ((from_part k h.0, h.1), home_is k h.0 ∙ place)) (λ k h. (to_part k (h.1 ∙ sym place) h.0.0, h.0.1)) least
 
     pub past_part : AreAhead j → IsLeast (IsKeyAbove part a) None → AreAhead (j + 1)
     past_part ahead_of none x h = next (home x) j (ahead_of x h) (λ place. none x (to_part x place h.0, h.1))

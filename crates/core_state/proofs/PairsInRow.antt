@@ -1,6 +1,6 @@
 -- Pairs in a row, read as a map, and a map with such pairs put into it: what they have, and what one more
 -- pair and another value of a pair do.
-use Rattle.std.proofs.Common.{◌≡◌, ℕ, zero, suc, ◌+◌, ◌<◌, ◌≤◌, Bool, cond, true, false, refl, List, [], ◌∷◌, ◌++◌, length, get_or, set, take, subst, sym, ap, ◌∙◌, arith}
+use Rattle.std.proofs.Common.{◌≡◌, ℕ, zero, suc, ◌<◌, Bool, cond, true, false, refl, List, [], ◌∷◌, ◌++◌, length, get_or, set, take, subst, sym, ap, ◌∙◌, arith}
 use Rattle.std.specs.Prelude.{Option, Some, None, slice_get}
 use Rattle.std.specs.Option.{option_or}
 use Rattle.std.specs.declared.cmp.Ordering.{Ordering}
@@ -10,7 +10,6 @@ use Rattle.std.specs.FinMap as maps
 use Rattle.std.specs.FinMap.{find}
 use Rattle.std.specs.FinMap.Entries.{find-append}
 use Rattle.std.proofs.lemmas.Option.{slice_get-get_or, get_or_from_slice_get, same_Some}
-use Rattle.std.proofs.lemmas.List.{take_more, take_all}
 use Rattle.core_state.specs.inner.Pairs.{AreApart, IsFirstAt, over}
 use Rattle.core_state.proofs.SeenSet.{is_equal}
 
@@ -129,16 +128,6 @@ module _ {K X : Type 0} (R : K → K → Ordering) (es : List (K × X)) (k : K) 
   module _ (e : K × X) (below : i < length es) (is : e ≡ get_or es i e) where
     pub first_found : is_eq (R k e.0) ≡ true → find R k (take i es) ≡ None → IsFirstAt R es k i
     first_found same none = record { pair = e; at = slice_get-get_or es i e below ∙ ap Some (sym is); is = is_equal (R k e.0) same; first = none }
-
-    pub none_more : is_eq (R k e.0) ≡ false → find R k (take i es) ≡ None → find R k (take (i + 1) es) ≡ None
-    none_more other none = ap (find R k) (take_more es i e below ∙ ap (λ x. take i es ++ x ∷ []) (sym is)) ∙ none_one (take i es) none
-      where
-        none_one : (fs : List (K × X)) → find R k fs ≡ None → find R k (fs ++ e ∷ []) ≡ None
-        none_one [] none = none_from _ _ _ other refl
-        none_one (f ∷ fs) none = let split = none_left _ _ _ none in none_from _ _ _ split.0 (none_one fs split.1)
-
-  pub none_whole : length es ≤ i → find R k (take i es) ≡ None → find R k es ≡ None
-  none_whole all none = subst (λ fs. find R k fs ≡ None) (take_all i es all) none
 
 -- the place of the first pair of a key
 module _ {K X : Type 0} {R : K → K → Ordering} (es : List (K × X)) (k : K) (i : ℕ) (first : IsFirstAt R es k i) where

@@ -14,8 +14,14 @@ from_0 = OnChain.on refl OnChain.here
 pub from_2 : OnChain row_23 0x10002 0x10004
 from_2 = OnChain.on refl OnChain.here
 
+pub from_last : OnChain row_23 0x10fc0 0x10fc2
+from_last = OnChain.on refl OnChain.here
+
+pub near_on : (ends : EndMap) (k s : ℕ) → OnChain row_23 s k → near_at ends k ≡ Some s → (p : ℕ) → IsNear ends k p → OnChain row_23 p k
+near_on ends k s on is p near = subst (λ q. OnChain row_23 q k) (one_value s p (sym is ∙ near)) on
+
 pub near_0 : (ends : EndMap) → near_at ends 0x10004 ≡ Some 0x10000 → (p : ℕ) → IsNear ends 0x10004 p → OnChain row_23 p 0x10004
-near_0 ends is p near = subst (λ q. OnChain row_23 q 0x10004) (one_value 0x10000 p (sym is ∙ near)) from_0
+near_0 ends is = near_on ends 0x10004 0x10000 from_0 is
 
 -- what a test of an answer says of it
 pub answer_is : (o : Option ℕ) (x : ℕ) (differs : Bool) → differs ≡ not (option_eq eqb o (Some x)) → differs ≡ false → o ≡ Some x

@@ -1,38 +1,29 @@
 -- Waiters in a row and in a crowd, seen as one map.
-use Rattle.std.proofs.Common.{◌≡◌, ◌≢◌, ℕ, ◌+◌, ◌<◌, ◌≤◌, Bool, cond, true, false, refl, List, [], ◌∷◌, ◌++◌, length, get_or, set, take, subst, sym, ap, ◌∙◌}
-use Rattle.std.specs.Prelude.{Option, Some, None, is_some, IfSome, IfNone, ◌⊎◌}
+use Rattle.std.proofs.Common.{◌≡◌, ◌≢◌, ℕ, Bool, cond, true, false, refl, List, [], ◌∷◌, ◌++◌, get_or, set, subst, sym, ap, ◌∙◌}
+use Rattle.std.specs.Prelude.{Option, Some, None, IsSome, IsTrue, is_some, ◌⊎◌, ◌↔◌}
 use mathlib.Core.Logic.{inl, inr}
+use Rattle.std.specs.List.{insert}
 use Rattle.std.specs.Option.{option_or}
 use Rattle.std.specs.declared.cmp.Ordering.{Ordering}
 use Rattle.std.specs.declared.cmp.Ordering.TheVariants.{Less, Equal, Greater}
-use Rattle.std.specs.Ordering.{eq_by_cmp, is_eq, is_gt, ordering_reverse}
-use Rattle.std.specs.Cmp.{tied_itself}
+use Rattle.std.specs.Ordering.{eq_by_cmp, is_gt, ordering_reverse}
 use Rattle.std.specs.FinMap as maps
 use Rattle.std.specs.FinMap.{find}
-use Rattle.std.proofs.lemmas.Option.{same_Some}
-use Rattle.std.proofs.lemmas.List.{take_more, take_all}
+use Rattle.std.specs.FinMap.Entries.{put, is_sorted-put, find-put}
 use Rattle.cfg_model.specs.declared.state.Waiter.{Waiter}
 use Rattle.cfg_model.specs.Builder.Waiter.{waiter_cmp}
 use Rattle.cfg_model.proofs.Builder.WaiterOrder.{waiter_cmp_total, exact_waiters}
 use Rattle.core_state.specs.Least.{IsLeastBy}
-use Rattle.core_state.specs.inner.Pairs.{AreApart, IsFirstAt, over}
+use Rattle.core_state.specs.inner.Pairs.{AreApart, AreRising, IsFirstAt, IsGapAt, over}
 use Rattle.core_state.specs.inner.Waiting.{WaiterMap, AreAway, AwaitsTelling, with_waiter, with_told, lesser_by}
 use Rattle.core_state.proofs.SeenSet.{is_equal}
 use Rattle.core_state.proofs.Seen.{not_there}
 use Rattle.core_state.proofs.WaiterChanges.{least_as}
-use Rattle.core_state.proofs.PairsInRow.{get_over, find_push, apart_push, find_set, apart_set, over_push, over_set, over_behind, new_there, inside, found_at, pair_there}
+use Rattle.core_state.proofs.RowInOrder.{over_put, put_gap, put_there, gap_none}
+use Rattle.core_state.proofs.PairsInRow.{get_over, find_push, apart_push, over_push, over_set, over_behind, inside, found_at, pair_there}
 
 abbrev pub Row : Type 0
 Row = List (Waiter × Bool)
-
--- what a search found, and what it did not
-pub found_some : (row : Row) (w : Waiter) (r : Option ℕ) → IfSome r (IsFirstAt waiter_cmp row w) → is_some r ≡ true → is_some (find waiter_cmp w row) ≡ true
-found_some row w None first e = cc e
-found_some row w (Some i) first e = ap is_some (found_at row w i first)
-
-pub found_none : (row : Row) (w : Waiter) (r : Option ℕ) → IfNone r (find waiter_cmp w row ≡ None) → is_some r ≡ false → find waiter_cmp w row ≡ None
-found_none row w None none e = none
-found_none row w (Some i) none e = cc e
 
 or_none : (s t : Option Bool) → is_some (option_or s t) ≡ false → (s ≡ None) × (t ≡ None)
 or_none None None e = (refl, refl)
@@ -42,13 +33,6 @@ or_none (Some x) t e = cc e
 module _ (row : Row) (crowd m : WaiterMap) (seen : over row crowd ≡ m) (w : Waiter) where
   pub there : maps.get m w ≡ option_or (find waiter_cmp w row) (maps.get crowd w)
   there = sym (ap (λ n. maps.get n w) seen) ∙ get_over waiter_cmp_total row crowd w
-
-  pub has_row : is_some (find waiter_cmp w row) ≡ true → true ≡ maps.contains_key m w
-  has_row is = sym (ap is_some there ∙ some (find waiter_cmp w row) _ is)
-    where
-      some : (s t : Option Bool) → is_some s ≡ true → is_some (option_or s t) ≡ true
-      some None t is = cc is
-      some (Some x) t is = refl
 
   pub has_crowd : find waiter_cmp w row ≡ None → maps.contains_key crowd w ≡ maps.contains_key m w
   has_crowd none = sym (ap is_some (there ∙ ap (λ p. option_or p (maps.get crowd w)) none))
@@ -90,9 +74,6 @@ module _ (row : Row) (crowd m : WaiterMap) (seen : over row crowd ≡ m) (w : Wa
   pushed_apart told none out =
       (apart_push waiter_cmp_total row w told apart none, away_put crowd w told row _ (λ q. find_push waiter_cmp_total row w told q none) out away)
 
-  pub crowded : (told : Bool) → find waiter_cmp w row ≡ None → over row (maps.insert crowd w told) ≡ maps.insert m w told
-  crowded told none = over_behind waiter_cmp_total exact_waiters w told row crowd none ∙ ap (λ n. maps.insert n w told) seen
-
   module _ (i : ℕ) (first : IsFirstAt waiter_cmp row w i) where
     is_w : (d : Waiter × Bool) → (get_or row i d).0 ≡ w
     is_w d = ap (λ (p : Waiter × Bool). p.0) (pair_there row w i first d) ∙ sym (exact_waiters w first.pair.0 first.is)
@@ -101,21 +82,65 @@ module _ (row : Row) (crowd m : WaiterMap) (seen : over row crowd ≡ m) (w : Wa
     marked told =
         over_set waiter_cmp_total exact_waiters w told row crowd i (w, told) (inside row w i first) (is_w (w, told)) first.first ∙ ap (λ n. maps.insert n w told) seen
 
-    pub marked_apart : (told : Bool) → AreApart waiter_cmp (set row i (w, told)) × AreAway (set row i (w, told)) crowd
-    marked_apart told = (
-      apart_set waiter_cmp_total exact_waiters w told row i (w, told) (inside row w i first) (is_w (w, told)) first.first apart,
-      away_put crowd w told row _ (λ q. find_set waiter_cmp_total exact_waiters w told row i (w, told) (inside row w i first) (is_w (w, told)) first.first q)
-          (away w (ap is_some (found_at row w i first))) away,
-    )
-
     pub waits_marked : maps.contains_key m w ≡ true
     waits_marked = ap is_some (sym (ap (λ n. maps.get n w) seen) ∙ get_over waiter_cmp_total row crowd w ∙ ap (λ p. option_or p (maps.get crowd w)) (found_at row w i first))
 
-pub told_where : (m : WaiterMap) (w : Waiter) → maps.contains_key m w ≡ true → maps.insert m w true ≡ with_told m w
-told_where m w had = rw had
+-- a waiter that is put into the row at its place
+module _ (row new : Row) (w : Waiter) (told : Bool) (is : new ≡ put waiter_cmp w told row) (crowd : WaiterMap) where
+  pub put_over : (m : WaiterMap) → over row crowd ≡ m → over new crowd ≡ maps.insert m w told
+  put_over m seen = ap (λ r. over r crowd) is ∙ over_put waiter_cmp_total exact_waiters row crowd w told ∙ ap (λ n. maps.insert n w told) seen
+
+  pub put_kept : AreRising waiter_cmp row × AreAway row crowd → maps.get crowd w ≡ None → AreRising waiter_cmp new × AreAway new crowd
+  put_kept kept out = (
+    subst (λ (r : Row). AreRising waiter_cmp r) (sym is) (is_sorted-put waiter_cmp waiter_cmp_total w told row kept.0),
+    away_put crowd w told row new (λ q. ap (find waiter_cmp q) is ∙ find-put waiter_cmp waiter_cmp_total q w told row) out kept.1,
+  )
+
+-- a mark at the place of a waiter that stands in the row
+module _ (row : Row) (rising : AreRising waiter_cmp row) (w : Waiter) (i : ℕ) (first : IsFirstAt waiter_cmp row w i) where
+  pub put_first : (told : Bool) → set row i (w, told) ≡ put waiter_cmp w told row
+  put_first told =
+      put_there waiter_cmp_total row rising w told i (w, told) (inside row w i first)
+      (ap (λ (p : Waiter × Bool). p.0) (pair_there row w i first (w, told)) ∙ sym (exact_waiters w first.pair.0 first.is))
+
+  pub out_of_crowd : (crowd : WaiterMap) → AreAway row crowd → maps.get crowd w ≡ None
+  out_of_crowd crowd away = away w (ap is_some (found_at row w i first))
+
+  pub stands_in : (crowd m : WaiterMap) → over row crowd ≡ m → maps.contains_key m w ≡ true
+  stands_in crowd m seen = ap is_some (there row crowd m seen w ∙ ap (λ p. option_or p (maps.get crowd w)) (found_at row w i first))
 
 pub waits_new : (m : WaiterMap) (w : Waiter) → maps.contains_key m w ≡ false → maps.insert m w false ≡ with_waiter m w
 waits_new m w none = rw none
+
+-- a waiter that stands not in the row
+module _ (row : Row) (crowd m : WaiterMap) (seen : over row crowd ≡ m) (w : Waiter) (i : ℕ) (gap : IsGapAt waiter_cmp row w i) where
+  pub not_in_row : find waiter_cmp w row ≡ None
+  not_in_row = gap_none waiter_cmp_total row w i gap
+
+  pub as_in_crowd : (b : Bool) → maps.contains_key crowd w ≡ b → maps.contains_key m w ≡ b
+  as_in_crowd b is = sym (has_crowd row crowd m seen w not_in_row) ∙ is
+
+  pub put_in_gap : insert row i (w, false) ≡ put waiter_cmp w false row
+  put_in_gap = put_gap waiter_cmp_total row w false i gap
+
+  pub crowd_without : maps.contains_key crowd w ≡ false → maps.get crowd w ≡ None
+  crowd_without out = (nowhere row crowd m seen w (as_in_crowd false out)).1
+
+  pub crowd_put : maps.contains_key crowd w ≡ false → over row (maps.insert crowd w false) ≡ with_waiter m w
+  crowd_put out = over_behind waiter_cmp_total exact_waiters w false row crowd not_in_row ∙ ap (λ n. maps.insert n w false) seen ∙ waits_new m w (as_in_crowd false out)
+
+-- what is answered of a waiter that is new, and of one that waits already
+pub is_new : (m : WaiterMap) (w : Waiter) → maps.contains_key m w ≡ false → IsTrue true ↔ (¬ IsSome (maps.get m w))
+is_new m w none = (λ _. not_there (maps.get m w) none, λ _. refl)
+
+pub not_new : (m : WaiterMap) (w : Waiter) → maps.contains_key m w ≡ true → IsTrue false ↔ (¬ IsSome (maps.get m w))
+not_new m w had = (λ f. cc f, λ none. absurd (none had))
+
+pub waits_already : (m : WaiterMap) (w : Waiter) → maps.contains_key m w ≡ true → m ≡ with_waiter m w
+waits_already m w had = rw had
+
+pub told_where : (m : WaiterMap) (w : Waiter) → maps.contains_key m w ≡ true → maps.insert m w true ≡ with_told m w
+told_where m w had = rw had
 
 module _ (row : Row) (crowd m : WaiterMap) (seen : over row crowd ≡ m) (w : Waiter) (none : find waiter_cmp w row ≡ None) where
   told_by : (b : Bool) → maps.contains_key crowd w ≡ b → over row (cond b (maps.insert crowd w true) crowd) ≡ cond b (maps.insert m w true) m
@@ -166,52 +191,6 @@ module _ (P Q : Waiter → Type 0) where
 -- a waiter whose pair says that it was not told
 abbrev UntoldIn : Row → Waiter → Type 0
 UntoldIn pairs w = find waiter_cmp w pairs ≡ Some false
-
--- the least untold waiter of a row's front
-module _ (row : Row) (apart : AreApart waiter_cmp row) (n : ℕ) (below : n < length row) (d e : Waiter × Bool) (is : e ≡ get_or row n d) where
-  new_here : find waiter_cmp e.0 (take n row) ≡ None
-  new_here = subst (λ (f : Waiter × Bool). find waiter_cmp f.0 (take n row) ≡ None) (sym is) (new_there waiter_cmp_total row apart n d below)
-
-  more : (q : Waiter) → find waiter_cmp q (take (n + 1) row) ≡ cond (eq_by_cmp waiter_cmp q e.0) (Some e.1) (find waiter_cmp q (take n row))
-  more q =
-      ap (find waiter_cmp q) (take_more row n d below ∙ ap (λ f. take n row ++ f ∷ []) (sym is)) ∙ find_push waiter_cmp_total (take n row) e.0 e.1 q new_here
-
-  stays_in : (q : Waiter) → UntoldIn (take n row) q → UntoldIn (take (n + 1) row) q
-  stays_in q untold = by_key (at_key q e.0 (eq_by_cmp waiter_cmp q e.0) refl)
-    where
-      by_key : (q ≡ e.0) ⊎ (eq_by_cmp waiter_cmp q e.0 ≡ false) → UntoldIn (take (n + 1) row) q
-      by_key (inl same) = cc (sym new_here ∙ ap (λ v. find waiter_cmp v (take n row)) (sym same) ∙ untold)
-      by_key (inr other) = more q ∙ ap (λ b. cond b (Some e.1) (find waiter_cmp q (take n row))) other ∙ untold
-
-  was_in : (q : Waiter) → UntoldIn (take (n + 1) row) q → UntoldIn (take n row) q ⊎ ((q ≡ e.0) × (e.1 ≡ false))
-  was_in q untold = by_key (at_key q e.0 (eq_by_cmp waiter_cmp q e.0) refl) (sym (more q) ∙ untold)
-    where
-      by_key : (q ≡ e.0) ⊎ (eq_by_cmp waiter_cmp q e.0 ≡ false) → cond (eq_by_cmp waiter_cmp q e.0) (Some e.1) (find waiter_cmp q (take n row)) ≡ Some false
-          → UntoldIn (take n row) q ⊎ ((q ≡ e.0) × (e.1 ≡ false))
-      by_key (inl same) h = inr (same, same_Some e.1 false (ap (λ b. cond b (Some e.1) (find waiter_cmp q (take n row))) (sym (ap is_eq (ap (λ v. waiter_cmp v e.0) same ∙ tied_itself waiter_cmp_total e.0))) ∙ h))
-      by_key (inr other) h = inl (ap (λ b. cond b (Some e.1) (find waiter_cmp q (take n row))) (sym other) ∙ h)
-
-  pub passed_told : e.1 ≡ true → (least : Option Waiter) → IsLeastBy waiter_cmp (UntoldIn (take n row)) least → IsLeastBy waiter_cmp (UntoldIn (take (n + 1) row)) least
-  passed_told told least is_least =
-      least_as (UntoldIn (take n row)) (UntoldIn (take (n + 1) row)) least stays_in (λ q h. elim (was_in q h) [ inl was ↦ was | inr new ↦ cc (new.1, told) ]) is_least
-
-  pub passed_untold : e.1 ≡ false → (least : Option Waiter) → IsLeastBy waiter_cmp (UntoldIn (take n row)) least
-      → IsLeastBy waiter_cmp (UntoldIn (take (n + 1) row)) (lesser_by waiter_cmp least (Some e.0))
-  passed_untold untold least is_least =
-      least_as (λ q. UntoldIn (take n row) q ⊎ (q ≡ e.0)) (UntoldIn (take (n + 1) row)) (lesser_by waiter_cmp least (Some e.0))
-      (λ q h. elim h [ inl was ↦ stays_in q was | inr same ↦ here q same ]) (λ q h. elim (was_in q h) [ inl was ↦ inl was | inr new ↦ inr new.0 ])
-      (least_of_both (UntoldIn (take n row)) (λ q. q ≡ e.0) least (Some e.0) is_least (refl, λ q same g. cc (sym (tied_itself waiter_cmp_total e.0) ∙ ap (waiter_cmp e.0) (sym same) ∙ g)))
-    where
-      here : (q : Waiter) → q ≡ e.0 → UntoldIn (take (n + 1) row) q
-      here q same =
-          more q ∙ ap (λ b. cond b (Some e.1) (find waiter_cmp q (take n row))) (ap is_eq (ap (λ v. waiter_cmp v e.0) same ∙ tied_itself waiter_cmp_total e.0)) ∙ ap Some untold
-
-pub none_yet : (row : Row) → IsLeastBy waiter_cmp (λ w. find waiter_cmp w (take 0 row) ≡ Some false) None
-none_yet row w h = cc h
-
-pub whole_row : (row : Row) (n : ℕ) → length row ≤ n → (least : Option Waiter) → IsLeastBy waiter_cmp (λ w. find waiter_cmp w (take n row) ≡ Some false) least
-    → IsLeastBy waiter_cmp (λ w. find waiter_cmp w row ≡ Some false) least
-whole_row row n all least is_least = subst (λ (r : Row). IsLeastBy waiter_cmp (λ w. find waiter_cmp w r ≡ Some false) least) (take_all n row all) is_least
 
 -- the least untold one of a row and a crowd
 pub least_of_all : (row : Row) (crowd m : WaiterMap) → over row crowd ≡ m → AreAway row crowd

@@ -1,4 +1,4 @@
-//! A chunk of a map by lines: 64 pages, each with its line.
+//! A chunk of an address map: 64 pages, whose addresses with their values lie in one block.
 
 ghost use Rattle.std.specs.Prelude.{◌≡◌, ◌≤◌, ℕ, not, length, slice_index_or};
 ghost use Rattle.std.specs.Prelude.{Some, IsSome, OnOk, OnErr, IfOk};
@@ -15,45 +15,40 @@ ghost use Rattle.core_state.specs.Least.{IsLeast};
 ghost use Rattle.core_state.specs.inner.Grouped.{page_of, with_new, AreTogether, IsKeyAbove};
 
 use crate::answer::Name;
-use crate::line::Line;
+use crate::entry::{Entry, append, least_in_page, one_more, page, place_in_page};
 use crate::look::Look;
 use crate::memory::Memory;
 use std::alloc::Global;
 use std::marker::Model;
 
-/// The lines of 64 pages, by the page's place among them; or none of the lines, where there are no
-/// addresses.
+/// The addresses of 64 pages with their values, in the order in which they came. Those of a page
+/// are found one after the other, from the last one on.
 #[derive(Drop)]
 pub(crate) struct Chunk<T> {
     alloc: Global,
-    lines: Vec<Line<T>>,
+    /// Of each page, by its place, how many entries there are up to its last one; 0 where it has
+    /// none. Empty, where there are no addresses.
+    upto: Vec<u32>,
+    entries: Vec<Entry<T>>,
 }
 
 impl<T> Model for Chunk<T> {
     ghost use Rattle.std.specs.FinMap as maps;
     ghost use Rattle.std.specs.Ordering.{nat_cmp};
     ghost use Rattle.std.specs.Coded.{coded_ℕ};
-    ghost use Rattle.core_state.specs.Joined.{joined};
-    ghost use Rattle.core_state.specs.inner.Grouped.{page_of, AreParts};
+    ghost use Rattle.core_state.specs.inner.Entries.{pairs, AreLinked};
 
     ghost Value = { maps.FinMap nat_cmp T };
 
     ghost coded = { maps.code coded_ℕ T.code };
 
-    ghost view = { λ c. joined c.lines.items };
+    ghost view = { λ c. maps.from_entries (pairs c.entries.items) };
 
-    ghost invariant = { λ c. AreParts page_of c.lines.items };
+    ghost invariant = { λ c. AreLinked c.upto.items c.entries.items };
 }
 
 /// How many pages a chunk has.
 const PAGES: usize = 64;
-
-/// The place of the page of `k` in its chunk.
-pub(crate) fn page(k: u64) -> usize
-    ensures { result ≡ page_of k }
-{
-    (k / 4096 % 64) as usize
-}
 
 impl<T> Chunk<T> {
     /// A chunk without addresses. It takes no memory before one is added.
@@ -62,7 +57,8 @@ impl<T> Chunk<T> {
     {
         Chunk {
             alloc,
-            lines: Vec::new(alloc),
+            upto: Vec::new(alloc),
+            entries: Vec::new(alloc),
         }
     }
 
@@ -70,11 +66,9 @@ impl<T> Chunk<T> {
     pub(crate) fn get(&self, k: u64) -> Option<&T>
         ensures { option_copied result ≡ maps.get self.now k }
     {
-        let place = page(k);
-        if place < self.lines.len() {
-            self.lines[place].get(k)
-        } else {
-            None
+        match place_in_page(self.upto.as_slice(), self.entries.as_slice(), k) {
+            Some(place) => Some(&self.entries[place].value),
+            None => None,
         }
     }
 
@@ -84,11 +78,13 @@ impl<T> Chunk<T> {
         ensures* writes_back { sem 𝓛 (lends_of_chunk T.row self.entry k result) }
         ensures value { maps.get self.old k ≡ Some result.now }
     {
-        let line = &mut self.lines[page(k)];
-        line.value_mut(k)
+        let place = place_in_page(self.upto.as_slice(), self.entries.as_slice(), k).unwrap();
+        let entry = &mut self.entries[place];
+        &mut entry.value
     }
 
-    /// Adds `k` with this value, where it is not there. Answers whether it is new.
+    /// Adds `k` with this value, where it is not there. Answers whether it is new. More than
+    /// 2^32 - 1 addresses would be answered as want of memory; 64 pages have 2^18.
     pub(crate) fn add(&mut self, k: u64, value: T) -> Result<bool, Memory>
     where
         T: Drop,
@@ -96,20 +92,27 @@ impl<T> Chunk<T> {
         ensures answer { IfOk result (λ new. new ≡ not (maps.contains_key self.old k)) }
         ensures unchanged { OnErr result (self.new ≡ self.old) }
     {
-        fill(self.alloc, &mut self.lines)?;
-        self.lines[page(k)].add(k, value)
+        if place_in_page(self.upto.as_slice(), self.entries.as_slice(), k).is_some() {
+            return Ok(false);
+        }
+        let upto = one_more(self.entries.len())?;
+        fill(self.alloc, &mut self.upto)?;
+        let place = page(k);
+        let entry = Entry {
+            key: k,
+            value,
+            before: self.upto[place],
+        };
+        append(&mut self.entries, entry)?;
+        self.upto[place] = upto;
+        Ok(true)
     }
 
     /// The least address above `a` in the page of `a`.
     pub(crate) fn after_in_page(&self, a: u64) -> Option<u64>
         ensures { IsLeast (λ k. IsKeyAbove self.now (Some a) k × (page_of k ≡ page_of a)) result }
     {
-        let place = page(a);
-        if place < self.lines.len() {
-            self.lines[place].after(Some(a))
-        } else {
-            None
-        }
+        self.least_above(page(a), Some(a))
     }
 
     /// The least address above `a`, or the least of all where there is no `a`; none lies in a page
@@ -119,12 +122,19 @@ impl<T> Chunk<T> {
         requires ahead { (x : ℕ) → IsKeyAbove self.now a x → start ≤ page_of x }
         ensures { IsLeast (IsKeyAbove self.now a) result }
     {
-        for place in start..self.lines.len() {
-            if let Some(k) = self.lines[place].after(a) {
+        for page in start..self.upto.len() {
+            if let Some(k) = self.least_above(page, a) {
                 return Some(k);
             }
         }
         None
+    }
+
+    /// The least address above `a`, or the least of all where there is no `a`, in the page.
+    fn least_above(&self, page: usize, a: Option<u64>) -> Option<u64>
+        ensures { IsLeast (λ k. IsKeyAbove self.now a k × (page_of k ≡ page)) result }
+    {
+        least_in_page(self.upto.as_slice(), self.entries.as_slice(), page, a)
     }
 
     /// Work that is left at an address, by a look at each.
@@ -134,8 +144,8 @@ impl<T> Chunk<T> {
         ensures none { IfNone result
             ((work : Work) → ¬ LeftAmong (L.left look.now) self.now work) }
     {
-        for line in self.lines.as_slice() {
-            if let Some(name) = line.first_left(look) {
+        for entry in self.entries.as_slice() {
+            if let Some(name) = look.left_at(entry.key, &entry.value) {
                 return Some(name);
             }
         }
@@ -143,14 +153,17 @@ impl<T> Chunk<T> {
     }
 }
 
-/// Adds lines without addresses until there is one for each page.
-fn fill<T: Drop>(alloc: Global, lines: &mut Vec<Line<T>>) -> Result<(), Memory>
-    ensures same { (i : ℕ) → slice_index_or lines.new.items i maps.empty
-        ≡ slice_index_or lines.old.items i maps.empty }
-    ensures all { OnOk result (64 ≤ length lines.new.items) }
+/// Makes the table of the pages, where there is none yet.
+fn fill(alloc: Global, upto: &mut Vec<u32>) -> Result<(), Memory>
+    ensures same { (p : ℕ) → slice_index_or upto.new.items p 0
+        ≡ slice_index_or upto.old.items p 0 }
+    ensures all { OnOk result (64 ≤ length upto.new.items) }
 {
-    for _place in lines.len()..PAGES {
-        lines.push(Line::new(alloc))?;
+    if upto.len() < PAGES {
+        upto.reserve_exact(PAGES - upto.len())?;
+    }
+    for _page in upto.len()..PAGES {
+        upto.push(0)?;
     }
     Ok(())
 }

@@ -12,10 +12,10 @@ ghost use Rattle.core_state.specs.Least.{IsLeast};
 ghost use Rattle.core_state.specs.Work.{work_of};
 ghost use Rattle.core_state.specs.inner.Remaining.{LeftAmong, LeftAtEnd};
 
+use crate::address_map::AddressMap;
 use crate::along::{Along, Walk};
 use crate::answer::{Arrival, Name};
 use crate::end::End;
-use crate::line_map::LineMap;
 use crate::look::Look;
 use crate::maps::Maps;
 use crate::memory::Memory;
@@ -28,7 +28,7 @@ use std::marker::Model;
 #[derive(Drop)]
 pub struct Ends {
     alloc: Global,
-    ends: LineMap<End>,
+    ends: AddressMap<End>,
 }
 
 impl Model for Ends {
@@ -50,7 +50,7 @@ impl Ends {
     {
         Ends {
             alloc,
-            ends: LineMap::new(alloc),
+            ends: AddressMap::new(alloc),
         }
     }
 

@@ -1,6 +1,6 @@
 //! The three maps of a state, in shards.
 
-ghost use Rattle.std.specs.Prelude.{◌≡◌, ◌↔◌, ℕ, All, length, IsTrue};
+ghost use Rattle.std.specs.Prelude.{◌≡◌, ◌↔◌, ◌<◌, ℕ, All, length, IsTrue};
 ghost use Rattle.std.specs.Prelude.{OnOk, OnErr, IfOk, IfSome, IfNone};
 ghost use Rattle.std.specs.FinMap as maps;
 ghost use Rattle.cfg_model.specs.Program.Chain.{OnChain};
@@ -16,7 +16,9 @@ ghost use Rattle.core_state.specs.Reads.{done_at, returned_at, IsNextToTell, Has
 ghost use Rattle.core_state.specs.Work.{work_of};
 ghost use Rattle.core_state.specs.inner.Remaining.{LeftAmong, LeftAtStart};
 ghost use Rattle.core_state.specs.inner.Remaining.{LeftAtEnd, LeftAtTerminator};
-ghost use Rattle.cfg_model.specs.Builder.Left.{Work};
+ghost use Rattle.core_state.specs.inner.Shares.{HasNothingAt};
+ghost use Rattle.cfg_model.specs.Builder.Left.{Work, IsLeft};
+ghost use Rattle.cfg_model.specs.Builder.Shard.{shard_of};
 
 use crate::along::Walk;
 use crate::answer::{Arrival, Name};
@@ -32,7 +34,7 @@ use std::alloc::Global;
 use std::marker::Model;
 
 /// How many shards there are of each kind.
-const SHARDS: usize = 64;
+pub(crate) const SHARDS: usize = 64;
 
 /// The maps of a state: the starts, the ends and the terminators that are known, each kind in 64
 /// shards by address. Each of the nine changes goes to the shard of its key.
@@ -307,6 +309,21 @@ impl Maps {
             ((work : Work) → ¬ LeftAmong LeftAtTerminator self.now.terminators work) }
     {
         left_of_terms(self.terms.as_slice())
+    }
+
+    /// Work that is left in the shard with this number, of any kind.
+    pub(crate) fn left_in(&self, number: usize) -> Option<Name>
+        requires { number < 64 }
+        ensures some { IfSome result (λ name. (seeds : _) → IsLeft seeds self.now (work_of name)) }
+        ensures none { IfNone result (HasNothingAt (λ a. shard_of a ≡ number) self.now) }
+    {
+        if let Some(name) = self.starts[number].left() {
+            return Some(name);
+        }
+        if let Some(name) = self.ends[number].left(self) {
+            return Some(name);
+        }
+        self.terms[number].left()
     }
 }
 

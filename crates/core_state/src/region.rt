@@ -1,4 +1,4 @@
-//! A region of a map by lines: 256 chunks next to each other, found at once.
+//! A region of an address map: 256 chunks next to each other, found at once.
 
 ghost use Rattle.std.specs.Prelude.{◌≡◌, ◌≤◌, ℕ, not, length, slice_index_or, if◌then◌else◌, ◌==◌};
 ghost use Rattle.std.specs.Prelude.{Some, IsSome, IsTrue, OnOk, OnErr, IfOk, IfSome, IfNone};
@@ -15,7 +15,8 @@ ghost use Rattle.core_state.specs.inner.Grouped.{place_of, region_of, with_new};
 ghost use Rattle.core_state.specs.inner.Grouped.{IsKeyAbove, IsNextInPage, IsFrom, AreInRegion};
 
 use crate::answer::Name;
-use crate::chunk::{Chunk, page};
+use crate::chunk::Chunk;
+use crate::entry::page;
 use crate::look::Look;
 use crate::memory::Memory;
 use std::alloc::Global;

@@ -1,35 +1,64 @@
-//! Waiters in a row, few enough to be looked at one by one.
+//! Waiters in a row, in their order, few enough to be looked at one by one.
 
-ghost use Rattle.std.specs.Prelude.{◌≡◌, false, Some, None, IfSome, IfNone};
+ghost use Rattle.std.specs.Prelude.{◌≡◌, false, Some, OnOk, IfOk, IfErr};
 ghost use Rattle.std.specs.FinMap.{find};
+ghost use Rattle.std.specs.FinMap.Entries.{put};
 ghost use Rattle.cfg_model.specs.Builder.Waiter.{waiter_cmp};
 ghost use Rattle.core_state.specs.Least.{IsLeastBy};
-ghost use Rattle.core_state.specs.inner.Pairs.{AreApart, IsFirstAt};
+ghost use Rattle.core_state.specs.inner.Pairs.{AreRising, IsFirstAt, IsGapAt};
 ghost use Rattle.core_state.specs.inner.Waiting.{lesser_by};
 
-use crate::pairs::place_of;
+use crate::memory::Memory;
 use cfg_model::Waiter;
+use std::cmp::Ordering;
 
-/// The first place of `w` in a row.
-pub(crate) fn spot(row: &[(Waiter, bool)], w: Waiter) -> Option<usize>
-    ensures some { IfSome result (IsFirstAt waiter_cmp row.now w) }
-    ensures none { IfNone result (find waiter_cmp w row.now ≡ None) }
+/// The place at which `w` stands in a row, or else the one at which it would stand.
+pub(crate) fn spot(row: &[(Waiter, bool)], w: Waiter) -> Result<usize, usize>
+    requires { AreRising waiter_cmp row.now }
+    ensures here { IfOk result (IsFirstAt waiter_cmp row.now w) }
+    ensures gap { IfErr result (IsGapAt waiter_cmp row.now w) }
 {
-    place_of(row, &w)
+    for (i, pair) in row.iter().enumerate() {
+        match order(pair.0, w) {
+            Ordering::Less => {}
+            Ordering::Equal => return Ok(i),
+            Ordering::Greater => return Err(i),
+        }
+    }
+    Err(row.len())
+}
+
+/// How a waiter stands to another one in their order.
+#[inline]
+fn order(v: Waiter, w: Waiter) -> Ordering
+    ensures { result ≡ waiter_cmp v w }
+{
+    v.cmp(&w)
+}
+
+/// Puts `w` into a row, told or not: at its place where it is new, and else over what stands there.
+pub(crate) fn put(row: &mut Vec<(Waiter, bool)>, w: Waiter, told: bool) -> Result<(), Memory>
+    requires { AreRising waiter_cmp row.old.items }
+    ensures { OnOk result (row.new.items ≡ put waiter_cmp w told row.old.items) }
+{
+    match spot(row.as_slice(), w) {
+        Ok(place) => row[place] = (w, told),
+        Err(place) => row.insert(place, (w, told))?,
+    }
+    Ok(())
 }
 
 /// The least untold waiter of a row.
 pub(crate) fn untold_among(row: &[(Waiter, bool)]) -> Option<Waiter>
-    requires { AreApart waiter_cmp row.now }
+    requires { AreRising waiter_cmp row.now }
     ensures { IsLeastBy waiter_cmp (λ w. find waiter_cmp w row.now ≡ Some false) result }
 {
-    let mut least = None;
     for (w, told) in row {
         if !*told {
-            least = lesser(least, Some(*w));
+            return Some(*w);
         }
     }
-    least
+    None
 }
 
 /// The lesser of two waiters, either of which may be none.

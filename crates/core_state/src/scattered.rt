@@ -1,4 +1,4 @@
-//! A map by address, in lines whose chunks may lie anywhere.
+//! An address map whose chunks may lie anywhere.
 
 ghost use Rattle.std.specs.Prelude.{◌≡◌, ◌<◌, ◌^◌, not, Some, IsSome, IsTrue, OnOk, OnErr, IfOk};
 ghost use Rattle.std.specs.Prelude.{IfSome, IfNone};
@@ -15,7 +15,8 @@ ghost use Rattle.core_state.specs.inner.Grouped.{chunk_of, with_new, IsKeyAbove}
 ghost use Rattle.core_state.specs.inner.Grouped.{IsInChunk, IsNextInChunk, IsNextInPage};
 
 use crate::answer::Name;
-use crate::chunk::{Chunk, page};
+use crate::chunk::Chunk;
+use crate::entry::page;
 use crate::look::Look;
 use crate::memory::Memory;
 use crate::walk::least_above;

@@ -1,15 +1,15 @@
 //! Three waiters and more.
 
-ghost use Rattle.std.specs.Prelude.{◌≡◌, false, OnOk, OnErr, IfOk};
+ghost use Rattle.std.specs.Prelude.{◌≡◌, ◌↔◌, [], ◌∷◌, IsTrue, IsSome, OnOk, OnErr, IfOk};
 ghost use Rattle.std.specs.FinMap as maps;
 ghost use Rattle.cfg_model.specs.Builder.Waiter.{waiter_cmp};
 ghost use Rattle.core_state.specs.Least.{IsLeastBy};
-ghost use Rattle.core_state.specs.inner.Pairs.{AreApart, over};
-ghost use Rattle.core_state.specs.inner.Waiting.{AwaitsTelling, with_told};
+ghost use Rattle.core_state.specs.inner.Pairs.{over};
+ghost use Rattle.core_state.specs.inner.Waiting.{AwaitsTelling, with_waiter, with_told};
 
 use crate::crowd::Crowd;
 use crate::memory::Memory;
-use crate::row::{lesser, spot, untold_among};
+use crate::row::{lesser, put, spot, untold_among};
 use cfg_model::Waiter;
 use std::alloc::Global;
 use std::marker::Model;
@@ -17,8 +17,9 @@ use std::marker::Model;
 /// How many waiters stand in the row.
 const FEW: usize = 24;
 
-/// Waiters, each with whether it was told: a few in a row, to be looked at one by one, and only
-/// those that come after them in order. So many waiters take time logarithmic in their number each.
+/// Waiters, each with whether it was told: a few in a row in their order, to be looked at one by
+/// one, and those that come later in a crowd. So many waiters take time logarithmic in their number
+/// each.
 #[derive(Drop)]
 pub(crate) struct Several {
     few: Vec<(Waiter, bool)>,
@@ -29,7 +30,7 @@ impl Model for Several {
     ghost use Rattle.std.specs.FinMap as maps;
     ghost use Rattle.std.specs.Coded.{coded_bool};
     ghost use Rattle.cfg_model.specs.Builder.Waiter.{coded_waiter, waiter_cmp};
-    ghost use Rattle.core_state.specs.inner.Pairs.{AreApart, over};
+    ghost use Rattle.core_state.specs.inner.Pairs.{AreRising, over};
     ghost use Rattle.core_state.specs.inner.Waiting.{WaiterMap, AreAway};
 
     ghost Value = { WaiterMap };
@@ -38,44 +39,49 @@ impl Model for Several {
 
     ghost view = { λ s. over s.few.items s.crowd };
 
-    ghost invariant = { λ s. AreApart waiter_cmp s.few.items × AreAway s.few.items s.crowd };
+    ghost invariant = { λ s. AreRising waiter_cmp s.few.items × AreAway s.few.items s.crowd };
 }
 
 impl Several {
     /// The first three waiters.
-    pub(crate) fn new(alloc: Global, three: [(Waiter, bool); 3]) -> Result<Self, Memory>
-        requires { AreApart waiter_cmp three }
-        ensures { IfOk result (λ several. several ≡ over three maps.empty) }
+    pub(crate) fn new(
+        alloc: Global,
+        first: (Waiter, bool),
+        second: (Waiter, bool),
+        third: (Waiter, bool),
+    ) -> Result<Self, Memory>
+        ensures { IfOk result (λ several.
+            several ≡ over (first ∷ second ∷ third ∷ []) maps.empty) }
     {
-        let few = Vec::from_slice(alloc, &three)?;
+        let mut few = Vec::with_capacity(alloc, 3)?;
+        put(&mut few, third.0, third.1)?;
+        put(&mut few, second.0, second.1)?;
+        put(&mut few, first.0, first.1)?;
         Ok(Several {
             few,
             crowd: Crowd::new(alloc),
         })
     }
 
-    /// Whether `w` is among them.
-    pub(crate) fn has(&self, w: Waiter) -> bool
-        ensures { result ≡ maps.contains_key self.now w }
-    {
-        if spot(self.few.as_slice(), w).is_some() {
-            return true;
-        }
-        self.crowd.has(w)
-    }
-
-    /// Adds `w`, untold.
-    pub(crate) fn add(&mut self, w: Waiter) -> Result<(), Memory>
-        requires { maps.contains_key self.old w ≡ false }
-        ensures added { OnOk result (self.new ≡ maps.insert self.old w false) }
+    /// Makes `w` wait, untold, where it does not wait yet. Answers whether it is new.
+    pub(crate) fn wait(&mut self, w: Waiter) -> Result<bool, Memory>
+        ensures waits { OnOk result (self.new ≡ with_waiter self.old w) }
+        ensures answer { IfOk result (λ new. IsTrue new ↔ ¬ IsSome (maps.get self.old w)) }
         ensures unchanged { OnErr result (self.new ≡ self.old) }
     {
-        if self.few.len() < FEW {
-            self.few.push((w, false))?;
-            return Ok(());
+        let place = match spot(self.few.as_slice(), w) {
+            Ok(_) => return Ok(false),
+            Err(place) => place,
+        };
+        if self.crowd.has(w) {
+            return Ok(false);
         }
-        self.crowd.add(w)?;
-        Ok(())
+        if self.few.len() < FEW {
+            self.few.insert(place, (w, false))?;
+        } else {
+            self.crowd.add(w)?;
+        }
+        Ok(true)
     }
 
     /// Notes that `w` was told, where it is among them.
@@ -83,8 +89,8 @@ impl Several {
         ensures { self.new ≡ with_told self.old w }
     {
         match spot(self.few.as_slice(), w) {
-            Some(place) => self.few[place] = (w, true),
-            None => self.crowd.tell(w),
+            Ok(place) => self.few[place] = (w, true),
+            Err(_) => self.crowd.tell(w),
         }
     }
 

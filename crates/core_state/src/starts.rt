@@ -9,8 +9,8 @@ ghost use Rattle.core_state.specs.Line.{IsNextInLine};
 ghost use Rattle.core_state.specs.Work.{work_of};
 ghost use Rattle.core_state.specs.inner.Remaining.{LeftAmong, LeftAtStart};
 
+use crate::address_map::AddressMap;
 use crate::answer::{Name, WorkKind};
-use crate::line_map::LineMap;
 use crate::look::Look;
 use crate::memory::Memory;
 use crate::walk::Keys;
@@ -21,7 +21,7 @@ use std::marker::Model;
 /// The starts of blocks in one shard, each with how far it has come.
 #[derive(Drop)]
 pub struct Starts {
-    marks: LineMap<Mark>,
+    marks: AddressMap<Mark>,
 }
 
 impl Model for Starts {
@@ -41,7 +41,7 @@ impl Starts {
         ensures { result ≡ maps.empty }
     {
         Starts {
-            marks: LineMap::new(alloc),
+            marks: AddressMap::new(alloc),
         }
     }
 

@@ -20,6 +20,7 @@ use crate::along::{Along, Walk};
 use crate::answer::{Arrival, Name};
 use crate::ends::Ends;
 use crate::left::left_of;
+use crate::left_sharing::left_by;
 use crate::maps::Maps;
 use crate::memory::Memory;
 use crate::starts::Starts;
@@ -27,6 +28,7 @@ use crate::terms::Terms;
 use cfg_model::{Chains, Mark, Waiter};
 use std::alloc::Global;
 use std::marker::Model;
+use std::thread::Threads;
 
 /// The state of a builder: the starts, the ends and the terminators that are known, each kind in 64
 /// shards by address, and how many changes were made.
@@ -324,5 +326,23 @@ impl State {
         ensures none { IfNone result (HasNothingLeft seeds.now self.now.maps) }
     {
         left_of(&self.maps, seeds)
+    }
+
+    /// Some work that is left where these addresses are to be starts, as [`State::left`] finds it,
+    /// by so many workers, each in a thread of its own: each looks at the starts, ends, terminators
+    /// and seeds of its share of the 64 shards. With none or one no thread is started, and more
+    /// than 64 work as 64. [`Memory`] where memory ran out.
+    pub fn left_by<R: Threads + Sync>(
+        &self,
+        rt: &R,
+        alloc: Global,
+        seeds: &[u64],
+        workers: u32,
+    ) -> Result<Option<Name>, Memory>
+        ensures some { IfOk result
+            (λ left. IfSome left (λ name. IsLeft seeds.now self.now.maps (work_of name))) }
+        ensures none { IfOk result (λ left. IfNone left (HasNothingLeft seeds.now self.now.maps)) }
+    {
+        left_by(rt, alloc, &self.maps, seeds, workers)
     }
 }

@@ -13,8 +13,8 @@ ghost use Rattle.cfg_model.specs.Builder.Event.{entry_with_return, entry_with_do
 ghost use Rattle.core_state.specs.inner.Waiting.{IsNextHere, HasNextHere};
 ghost use Rattle.core_state.specs.Reads.{done_at, returned_at, IsNextToTell, HasNextToTell};
 
+use crate::address_map::AddressMap;
 use crate::answer::{Name, WorkKind};
-use crate::line_map::LineMap;
 use crate::look::Look;
 use crate::memory::Memory;
 use crate::waiters::Waiters;
@@ -28,7 +28,7 @@ use std::mem::size_of;
 #[derive(Drop)]
 pub struct Terms {
     alloc: Global,
-    terms: LineMap<Terminator>,
+    terms: AddressMap<Terminator>,
 }
 
 impl Model for Terms {
@@ -50,7 +50,7 @@ impl Terms {
     {
         Terms {
             alloc,
-            terms: LineMap::new(alloc),
+            terms: AddressMap::new(alloc),
         }
     }
 

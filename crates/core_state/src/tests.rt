@@ -17,10 +17,11 @@ use std::process::Abort;
 use std::test::Fail;
 
 /// The program of row 8: an instruction, another one inside it, a branch behind both that goes to
-/// the inner one, and a return; and a table jump to the first one, which nothing leads to.
+/// the inner one, and a return; and a table jump to the first one and two instructions in the last
+/// shard, to which nothing leads.
 #[derive(Drop)]
-struct Program {
-    alloc: Global,
+pub(crate) struct Program {
+    pub(crate) alloc: Global,
 }
 
 /// The length and the flow of its instruction at `a`.
@@ -43,6 +44,8 @@ fn instruction(a: u64) -> Option<(u8, Flow)>
         0x10002 => Some((2, behind)),
         0x10004 => Some((4, branch)),
         0x10008 => Some((4, Flow::Return)),
+        0x10fc0 => Some((2, Flow::Straight { next: 0x10fc2 })),
+        0x10fc2 => Some((2, Flow::Return)),
         0x20000 => Some((4, table)),
         _ => None,
     }

@@ -83,45 +83,18 @@ impl Waiters {
         }
     }
 
-    /// Whether `w` waits.
-    fn has(&self, w: Waiter) -> bool
-        ensures { result ≡ maps.contains_key self.now w }
-    {
-        match &self.kept {
-            Kept::Nobody => false,
-            Kept::One { note, terminator } => note.is_of(*terminator, w),
-            Kept::Two {
-                first_note,
-                second_note,
-                first,
-                second,
-            } => first_note.is_of(*first, w) || second_note.is_of(*second, w),
-            Kept::Several(several) => several.has(w),
-        }
-    }
-
     /// Makes `w` wait, untold, where it does not wait yet. Answers whether it is new.
     pub(crate) fn wait(&mut self, w: Waiter) -> Result<bool, Memory>
         ensures waits { OnOk result (self.new ≡ with_waiter self.old w) }
         ensures answer { IfOk result (λ new. IsTrue new ↔ ¬ IsSome (maps.get self.old w)) }
         ensures unchanged { OnErr result (self.new ≡ self.old) }
     {
-        if self.has(w) {
-            return Ok(false);
-        }
-        self.add(w)?;
-        Ok(true)
-    }
-
-    /// Adds `w`, untold.
-    fn add(&mut self, w: Waiter) -> Result<(), Memory>
-        requires { maps.contains_key self.old w ≡ false }
-        ensures added { OnOk result (self.new ≡ maps.insert self.old w false) }
-        ensures unchanged { OnErr result (self.new ≡ self.old) }
-    {
         match &mut self.kept {
             Kept::Nobody => self.kept = one(w),
             Kept::One { note, terminator } => {
+                if note.is_of(*terminator, w) {
+                    return Ok(false);
+                }
                 let first = note.pair(*terminator);
                 self.kept = two(first, w);
             }
@@ -131,13 +104,16 @@ impl Waiters {
                 first,
                 second,
             } => {
+                if first_note.is_of(*first, w) || second_note.is_of(*second, w) {
+                    return Ok(false);
+                }
                 let first = first_note.pair(*first);
                 let second = second_note.pair(*second);
                 self.kept = three(self.alloc, first, second, w)?;
             }
-            Kept::Several(several) => several.add(w)?,
+            Kept::Several(several) => return several.wait(w),
         }
-        Ok(())
+        Ok(true)
     }
 
     /// Notes that `w` was told, where it waits.
@@ -201,7 +177,7 @@ impl Note {
     fn is_of(&self, terminator: u64, w: Waiter) -> bool
         ensures { result ≡ eq_by_cmp waiter_cmp w (pair_of self.now terminator).0 }
     {
-        w.cmp(&self.pair(terminator).0).is_eq()
+        w.terminator == terminator && w.kind == self.kind
     }
 
     /// Notes that `w` was told, where this is noted of it.
@@ -256,11 +232,10 @@ fn three(
     second: (Waiter, bool),
     w: Waiter,
 ) -> Result<Kept, Memory>
-    requires { AreApart waiter_cmp (first ∷ second ∷ (w, false) ∷ []) }
     ensures here { IfOk result (λ kept. in_place kept ≡ []) }
     ensures all { IfOk result (λ kept.
         elsewhere kept ≡ over (first ∷ second ∷ (w, false) ∷ []) maps.empty) }
 {
-    let several = Several::new(alloc, [first, second, (w, false)])?;
+    let several = Several::new(alloc, first, second, (w, false))?;
     Ok(Kept::Several(Box::new(alloc, several)?))
 }

@@ -1,20 +1,16 @@
--- What becomes of the layers of a map by lines once a value that they lent is given back: its key
+-- What becomes of the layers of an address map once a value that they lent is given back: its key
 -- has the last value written through the reference.
 use Rattle.std.specs.Prelude.{ℕ}
 use Rattle.std.specs.Ordering.{nat_cmp}
 use Rattle.std.specs.FinMap as maps
 use Rattle.std.specs.Borrow.{Lends, Fml, RattleType, MutBor}
-use Rattle.core_state.specs.contracts.line.Line as line
 use Rattle.core_state.specs.contracts.chunk.Chunk as chunk
 use Rattle.core_state.specs.contracts.region.Region as region
 use Rattle.core_state.specs.contracts.scattered.Scattered as scattered
-use Rattle.core_state.specs.contracts.line_map.LineMap as whole
+use Rattle.core_state.specs.contracts.address_map.AddressMap as whole
 
 module _ (T : RattleType) (s : MutBor (maps.FinMap nat_cmp T.Denot)) (k : ℕ)
     (r : MutBor T.Denot) where
-  abbrev pub lends_of_line : Fml
-  lends_of_line = Lends (line.the_row T) T s r (maps.insert s.now k)
-
   abbrev pub lends_of_chunk : Fml
   lends_of_chunk = Lends (chunk.the_row T) T s r (maps.insert s.now k)
 

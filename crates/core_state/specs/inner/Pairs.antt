@@ -1,9 +1,10 @@
 -- Pairs of a key and a value in a row, read as a map: the first pair of a key counts.
-use Rattle.std.specs.Prelude.{◌≡◌, ℕ, List, [], ◌∷◌, take, slice_get, Some, None}
+use Rattle.std.specs.Prelude.{◌≡◌, ℕ, ◌≤◌, ◌<◌, T, List, [], ◌∷◌, length, get_or, take, slice_get, Some, None}
 use Rattle.std.specs.declared.cmp.Ordering.{Ordering}
-use Rattle.std.specs.declared.cmp.Ordering.TheVariants.{Equal}
+use Rattle.std.specs.declared.cmp.Ordering.TheVariants.{Less, Equal}
 use Rattle.std.specs.FinMap as maps
 use Rattle.std.specs.FinMap.{find}
+use Rattle.std.specs.FinMap.Entries.{is_sorted}
 
 module _ {K X : Type 0} (R : K → K → Ordering) where
   -- No key stands twice.
@@ -17,6 +18,17 @@ module _ {K X : Type 0} (R : K → K → Ordering) where
     pub at : slice_get es i ≡ Some pair
     pub is : R key pair.0 ≡ Equal
     pub first : find R key (take i es) ≡ None
+
+  -- The keys strictly rise.
+  abbrev pub AreRising : List (K × X) → Type 0
+  AreRising es = T (is_sorted R es)
+
+  -- The key does not stand among them, and its place is i: behind the lower keys, before the
+  -- higher ones.
+  pub record IsGapAt (es : List (K × X)) (key : K) (i : ℕ) : Type 0 where
+    pub within : i ≤ length es
+    pub behind : (k : ℕ) (e : K × X) → k < i → R (get_or es k e).0 key ≡ Less
+    pub before : (k : ℕ) (e : K × X) → i ≤ k → k < length es → R key (get_or es k e).0 ≡ Less
 
 -- The map with the pairs put into it.
 abbrev pub over : {K X : Type 0} {R : K → K → Ordering} → List (K × X) → maps.FinMap R X

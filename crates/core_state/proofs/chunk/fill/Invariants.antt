@@ -1,8 +1,7 @@
 use Rattle.std.proofs.Common.{◌≡◌, ◌≤◌, ℕ, length, get_or}
-use Rattle.std.specs.FinMap as maps
 use Rattle.core_state.proofs.chunk.fill.Given as goal
 
--- the lines have what they had, and there are so many by now
-abbrev pub invariant-loop-place : goal.invariant-loop-place
-invariant-loop-place g l =
-    ((i : ℕ) → get_or l.lines.items i maps.empty ≡ get_or l.fn.lines.items i maps.empty) × (l._place ≤ length l.lines.items)
+-- the table says what it said, and there are so many pages by now
+abbrev pub invariant-loop-page : goal.invariant-loop-page
+invariant-loop-page l =
+    ((p : ℕ) → get_or l.upto.items p 0 ≡ get_or l.fn.upto.items p 0) × (l._page ≤ length l.upto.items)

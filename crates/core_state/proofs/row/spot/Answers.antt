@@ -1,12 +1,12 @@
-use Rattle.std.proofs.Common.{◌≡◌, subst}
-use Rattle.std.specs.Prelude.{IfSome, IfNone, None}
-use Rattle.std.specs.FinMap.{find}
-use Rattle.core_state.specs.inner.Pairs.{IsFirstAt}
-use Rattle.core_state.proofs.DerivedOrder.{derived_order}
+use Rattle.std.proofs.Common.{refl, sym, ◌∙◌}
+use Rattle.cfg_model.proofs.Builder.WaiterOrder.{waiter_cmp_total}
+use Rattle.core_state.proofs.RowInOrder.{walk_found, walk_gap}
 use Rattle.core_state.proofs.row.spot.Goals as goal
 
-pub returns-clause-some : goal.returns-clause-some
-returns-clause-some c = subst (λ R. IfSome c.place_of.result (IsFirstAt R c.args.row.now c.args.w)) derived_order c.place_of.ensures.some
+pub returns-in-Equal-clause-here : goal.returns-in-Equal-clause-here
+returns-in-Equal-clause-here c =
+    walk_found waiter_cmp_total c.args.row.now c.requires c.args.w c.loop-i.i c.loop-i-test.true _ _ refl c.loop-i.invariant (sym c.order.ensures ∙ c.in-Equal.is)
 
-pub returns-clause-none : goal.returns-clause-none
-returns-clause-none c = subst (λ R. IfNone c.place_of.result (find R c.args.w c.args.row.now ≡ None)) derived_order c.place_of.ensures.none
+pub returns-in-Greater-clause-gap : goal.returns-in-Greater-clause-gap
+returns-in-Greater-clause-gap c =
+    walk_gap waiter_cmp_total c.args.row.now c.requires c.args.w c.loop-i.i c.loop-i-test.true _ _ refl c.loop-i.invariant (sym c.order.ensures ∙ c.in-Greater.is)

@@ -1,9 +1,6 @@
-use Rattle.std.proofs.Common.{◌≡◌, take, false}
-use Rattle.std.specs.Prelude.{Some}
-use Rattle.std.specs.FinMap.{find}
-use Rattle.cfg_model.specs.Builder.Waiter.{waiter_cmp}
-use Rattle.core_state.specs.Least.{IsLeastBy}
+use Rattle.std.proofs.Common.{◌≡◌, ℕ, Bool, true, ◌<◌, get_or}
+use Rattle.cfg_model.specs.declared.state.Waiter.{Waiter}
 use Rattle.core_state.proofs.row.untold_among.Given as goal
 
 abbrev pub invariant-loop-w : goal.invariant-loop-w
-invariant-loop-w l = IsLeastBy waiter_cmp (λ w. find waiter_cmp w (take l.w-index l.row) ≡ Some false) l.least
+invariant-loop-w l = (k : ℕ) (d : Waiter × Bool) → k < l.w-index → (get_or l.row k d).1 ≡ true

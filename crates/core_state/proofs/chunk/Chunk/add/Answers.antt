@@ -1,40 +1,38 @@
-use Rattle.std.proofs.Common.{ap, ◌∙◌, arith}
-use Rattle.std.specs.Prelude.{is_some, not}
-use Rattle.std.proofs.lemmas.Result.{IfOk-weaker, on_ok_weaker, on_err_weaker}
-use Rattle.core_state.specs.inner.Grouped.{page_of, with_new}
-use Rattle.core_state.proofs.Shards.{either}
-use Rattle.core_state.proofs.PartsJoined.{same_parts, same_joined, same_there, changed, still, still_after, new_local, unchanged_whole, when_err}
+use Rattle.std.proofs.Common.{sym, ap, ◌∙◌, ◌<◌, length, arith}
+use Rattle.std.specs.Prelude.{not}
+use Rattle.std.specs.FinMap as maps
+use Rattle.std.proofs.lemmas.List.{get_or_default}
+use Rattle.core_state.specs.inner.Entries.{pairs}
+use Rattle.core_state.proofs.PairsKept.{not_in_row, added_known}
+use Rattle.core_state.proofs.EntriesKept.{known_there, none_there, same_linked, more_linked, more_seen}
 use Rattle.core_state.proofs.chunk.Chunk.add.Goals as goal
 
-pub invariant_of-self : goal.invariant_of-self
-invariant_of-self g c = same_parts page_of _ _ c.fill.ensures.same c.self.invariant
+pub returns-then-is_some-clause-added : goal.returns-then-is_some-clause-added
+returns-then-is_some-clause-added g c =
+    added_known c.args.self.now c.args.k c.args.value
+    (known_there _ _ c.as_slice-2.ensures.value c.args.k _ c.args.self.now c.self.view_is c.place_in_page.ensures.some (sym c.is_some.ensures ∙ c.if-is_some.true))
 
-pub returns-in_err-fill-clause-unchanged : goal.returns-in_err-fill-clause-unchanged
-returns-in_err-fill-clause-unchanged g c = when_err _ (same_joined page_of _ _ c.fill.ensures.same c.self.invariant ∙ c.self.view_is)
-
-pub index_mut-requires : goal.index_mut-requires
-index_mut-requires g c = omega (arith, c.page.ensures, c.in_ok-fill.ensures.all, c.fill.new.lines.ok.0)
+pub returns-then-is_some-clause-answer : goal.returns-then-is_some-clause-answer
+returns-then-is_some-clause-answer g c =
+    ap not (sym (known_there _ _ c.as_slice-2.ensures.value c.args.k _ c.args.self.now c.self.view_is c.place_in_page.ensures.some (sym c.is_some.ensures ∙ c.if-is_some.true)))
 
 pub invariant_of-self-2 : goal.invariant_of-self-2
 invariant_of-self-2 g c =
-    either c.add.result c.add.ensures.added c.add.ensures.unchanged
-    (λ is. still_after page_of _ (same_parts page_of _ _ c.fill.ensures.same c.self.invariant) c.args.k _ c.page.ensures (omega (arith, c.page.ensures, c.in_ok-fill.ensures.all)) _ c.index_mut.ensures.value (λ m. with_new m c.args.k c.args.value) (new_local c.args.k c.args.value) _ is)
-    (λ same. still page_of _ (same_parts page_of _ _ c.fill.ensures.same c.self.invariant) c.args.k _ c.page.ensures (omega (arith, c.page.ensures, c.in_ok-fill.ensures.all)) _ c.index_mut.ensures.value _ same)
+    let within : c.page-place.result < length c.fill.new.upto.items = omega (arith, c.page-place.ensures, c.in_ok-fill.ensures.all) in
+    more_linked c.fill.new.upto.items c.self.inside.entries.items (same_linked _ _ c.self.invariant _ c.fill.ensures.same) c.args.k c.args.value
+    (none_there _ _ c.as_slice-2.ensures.value c.args.k _ c.place_in_page.ensures.none (sym c.is_some.ensures ∙ c.if-is_some.false))
+    c.index.result.now c.page-place.result c.in_ok-upto.upto c.page-place.ensures within
+    (c.index.ensures ∙ get_or_default _ _ _ 0 within)
+    (omega (arith, c.in_ok-upto.ensures, c.len.ensures, c.self.inside.entries.ok.0)) _ c.in_ok-append.ensures.items
 
 pub returns-clause-added : goal.returns-clause-added
 returns-clause-added g c =
-    on_ok_weaker c.add.result
-    (λ is. changed page_of _ (same_parts page_of _ _ c.fill.ensures.same c.self.invariant) c.args.k _ c.page.ensures (omega (arith, c.page.ensures, c.in_ok-fill.ensures.all)) _ c.index_mut.ensures.value (λ m. with_new m c.args.k c.args.value) (new_local c.args.k c.args.value) _ is _ (same_joined page_of _ _ c.fill.ensures.same c.self.invariant ∙ c.self.view_is))
-    c.add.ensures.added
+    ap (λ es. maps.from_entries (pairs es)) c.in_ok-append.ensures.items
+    ∙ more_seen _ _ c.self.invariant c.args.k c.args.value
+    (none_there _ _ c.as_slice-2.ensures.value c.args.k _ c.place_in_page.ensures.none (sym c.is_some.ensures ∙ c.if-is_some.false))
+    c.index.result.now c.args.self.now c.self.view_is
 
 pub returns-clause-answer : goal.returns-clause-answer
 returns-clause-answer g c =
-    IfOk-weaker c.add.result _ _
-    (λ new is. is ∙ ap not (ap is_some (same_there page_of _ (same_parts page_of _ _ c.fill.ensures.same c.self.invariant) c.args.k _ c.page.ensures (omega (arith, c.page.ensures, c.in_ok-fill.ensures.all)) _ c.index_mut.ensures.value _ (same_joined page_of _ _ c.fill.ensures.same c.self.invariant ∙ c.self.view_is))))
-    c.add.ensures.answer
-
-pub returns-clause-unchanged : goal.returns-clause-unchanged
-returns-clause-unchanged g c =
-    on_err_weaker c.add.result
-    (λ same. unchanged_whole page_of _ (same_parts page_of _ _ c.fill.ensures.same c.self.invariant) c.args.k _ c.page.ensures (omega (arith, c.page.ensures, c.in_ok-fill.ensures.all)) _ c.index_mut.ensures.value _ same _ (same_joined page_of _ _ c.fill.ensures.same c.self.invariant ∙ c.self.view_is))
-    c.add.ensures.unchanged
+    ap not
+    (sym (not_in_row _ c.args.self.now c.self.view_is c.args.k (none_there _ _ c.as_slice-2.ensures.value c.args.k _ c.place_in_page.ensures.none (sym c.is_some.ensures ∙ c.if-is_some.false))))

@@ -1,7 +1,6 @@
-use Rattle.std.proofs.Common.{ℕ, ◌≤◌}
-use Rattle.core_state.specs.Joined.{joined}
-use Rattle.core_state.specs.inner.Grouped.{page_of, IsKeyAbove}
+use Rattle.core_state.proofs.EntriesKept.{AreAhead}
 use Rattle.core_state.proofs.chunk.Chunk.after.Given as goal
 
-abbrev pub invariant-loop-place : goal.invariant-loop-place
-invariant-loop-place g l = (x : ℕ) → IsKeyAbove (joined l.self-inside.lines.items) l.a x → l.place ≤ page_of x
+-- no address above a lies in a page that was passed
+abbrev pub invariant-loop-page : goal.invariant-loop-page
+invariant-loop-page g l = AreAhead l.self l.a l.page

@@ -1,22 +1,29 @@
-use Rattle.std.proofs.Common.{ap, ◌∙◌, subst, sym}
-use Rattle.core_state.specs.Joined.{joined}
-use Rattle.core_state.specs.inner.Grouped.{page_of, AreParts}
+use Rattle.std.proofs.Common.{ap, ◌∙◌, subst, sym, arith}
+use Rattle.std.specs.FinMap as maps
+use Rattle.std.specs.Ordering.{nat_cmp}
 use Rattle.core_state.specs.Work.{work_of}
-use Rattle.core_state.proofs.AmongShards.{none_passed, passed_more, passed_all, found_in, among_parts, in_parts}
+use Rattle.core_state.specs.inner.Entries.{pairs}
+use Rattle.core_state.specs.inner.Pairs.{AreApart}
+use Rattle.core_state.proofs.Among.{one_done, found_at_pair, all_done}
+use Rattle.core_state.proofs.EntriesLinked.{length_pairs, pair_is}
 use Rattle.core_state.proofs.chunk.Chunk.first_left.Goals as goal
-
-pub loop-line-init : goal.loop-line-init
-loop-line-init g c = none_passed (g.L.Look.left c.args.look.now) _
-
-pub loop-line-preserved : goal.loop-line-preserved
-loop-line-preserved g c = passed_more (g.L.Look.left c.args.look.now) _ _ _ c.loop-line-test.true c.line-item.is c.loop-line.invariant c.in_default.ensures.none
 
 pub returns-in-Some-clause-some : goal.returns-in-Some-clause-some
 returns-in-Some-clause-some g c =
-    among_parts (g.L.Look.left c.args.look.now) page_of c.as_slice-line-items.result.now (subst (AreParts page_of) (sym c.as_slice-line-items.ensures.value) c.self.invariant) c.args.self.now (ap joined c.as_slice-line-items.ensures.value ∙ c.self.view_is) (work_of c.in-Some.name)
-    (found_in (g.L.Look.left c.args.look.now) _ _ _ c.loop-line-test.true c.line-item.is _ c.in-Some.ensures.some)
+    found_at_pair (g.L.Look.left c.args.look.now) (pairs c.as_slice-entry-items.result.now) c.loop-entry.entry-index c.args.self.now
+    (ap (λ es. maps.from_entries (pairs es)) c.as_slice-entry-items.ensures.value ∙ c.self.view_is)
+    (subst (λ es. AreApart nat_cmp (pairs es)) (sym c.as_slice-entry-items.ensures.value) c.self.invariant.apart)
+    (c.entry-item.result.key, c.entry-item.result.value) (omega (arith, c.loop-entry-test.true, length_pairs c.as_slice-entry-items.result.now))
+    (pair_is _ _ c.loop-entry-test.true c.entry-item.result c.entry-item.is) (work_of c.in-Some.name) c.in-Some.ensures.some
+
+pub loop-entry-preserved : goal.loop-entry-preserved
+loop-entry-preserved g c =
+    one_done (g.L.Look.left c.args.look.now) (pairs c.as_slice-entry-items.result.now) c.loop-entry.entry-index
+    (c.entry-item.result.key, c.entry-item.result.value) (omega (arith, c.loop-entry-test.true, length_pairs c.as_slice-entry-items.result.now))
+    (pair_is _ _ c.loop-entry-test.true c.entry-item.result c.entry-item.is) c.in_default.ensures.none c.loop-entry.invariant
 
 pub returns-clause-none : goal.returns-clause-none
-returns-clause-none g c = λ work left.
-    passed_all (g.L.Look.left c.args.look.now) _ _ c.loop-line-test.false c.loop-line.invariant work
-    (in_parts (g.L.Look.left c.args.look.now) page_of c.as_slice-line-items.result.now (subst (AreParts page_of) (sym c.as_slice-line-items.ensures.value) c.self.invariant) c.args.self.now (ap joined c.as_slice-line-items.ensures.value ∙ c.self.view_is) work left)
+returns-clause-none g c =
+    all_done (g.L.Look.left c.args.look.now) (pairs c.as_slice-entry-items.result.now) c.loop-entry.entry-index c.args.self.now
+    (ap (λ es. maps.from_entries (pairs es)) c.as_slice-entry-items.ensures.value ∙ c.self.view_is)
+    (omega (arith, c.loop-entry-test.false, length_pairs c.as_slice-entry-items.result.now)) c.loop-entry.invariant

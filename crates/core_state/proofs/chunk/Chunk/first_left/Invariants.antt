@@ -1,6 +1,7 @@
-use Rattle.core_state.proofs.AmongShards.{ArePassed}
+use Rattle.core_state.specs.inner.Entries.{pairs}
+use Rattle.core_state.proofs.Among.{AreDone}
 use Rattle.core_state.proofs.chunk.Chunk.first_left.Given as goal
 
--- nothing is left in the lines that were passed
-abbrev pub invariant-loop-line : goal.invariant-loop-line
-invariant-loop-line g l = ArePassed (g.L.Look.left l.look) l.line-items l.line-index
+-- nothing is left at the entries that were looked at
+abbrev pub invariant-loop-entry : goal.invariant-loop-entry
+invariant-loop-entry g l = AreDone (g.L.Look.left l.look) (pairs l.entry-items) l.entry-index

@@ -1,13 +1,21 @@
-use Rattle.std.proofs.Common.{sym, ◌∙◌, arith}
-use Rattle.core_state.specs.inner.Grouped.{page_of}
-use Rattle.core_state.proofs.PartsJoined.{same_there, nowhere}
+use Rattle.std.proofs.Common.{sym, ap, ◌∙◌, arith}
+use Rattle.std.specs.Ordering.{nat_cmp}
+use Rattle.std.specs.FinMap.{find}
+use Rattle.core_state.specs.inner.Entries.{pairs}
+use Rattle.core_state.proofs.PairsKept.{row_has}
+use Rattle.core_state.proofs.EntriesKept.{first_there, place_inside, entry_value}
 use Rattle.core_state.proofs.chunk.Chunk.get.Goals as goal
 
-pub returns-then-place-len : goal.returns-then-place-len
-returns-then-place-len g c =
-    c.get.ensures
-    ∙ same_there page_of _ c.self.invariant c.args.k _ c.page-place.ensures (omega (arith, c.if-place-len.true, c.len.ensures, c.self.inside.lines.ok.0)) _ c.index.ensures _ c.self.view_is
+pub index-requires : goal.index-requires
+index-requires g c =
+    let first = first_there _ _ c.as_slice-2.ensures.value c.args.k _ c.place_in_page.ensures.some _ c.in-Some.is in
+    omega (arith, place_inside _ _ c.self.invariant c.args.self.now c.self.view_is c.args.k c.in-Some.place first, c.self.inside.entries.ok.0)
 
-pub returns-else-place-len : goal.returns-else-place-len
-returns-else-place-len g c =
-    sym (nowhere page_of _ c.self.invariant _ c.self.view_is c.args.k _ c.page-place.ensures (λ below. omega (arith, below, c.if-place-len.false, c.len.ensures, c.self.inside.lines.ok.0)))
+pub returns-in-Some : goal.returns-in-Some
+returns-in-Some g c =
+    sym (entry_value _ _ c.self.invariant c.args.self.now c.self.view_is c.args.k c.in-Some.place
+    (first_there _ _ c.as_slice-2.ensures.value c.args.k _ c.place_in_page.ensures.some _ c.in-Some.is) c.index.result.now c.index.ensures)
+
+pub returns-in-None : goal.returns-in-None
+returns-in-None g c =
+    sym (sym (row_has _ _ c.self.view_is c.args.k) ∙ ap (λ es. find nat_cmp c.args.k (pairs es)) (sym c.as_slice-2.ensures.value) ∙ c.in-None.ensures.none)

@@ -1,24 +1,31 @@
-use Rattle.std.proofs.Common.{refl, sym, ap, ◌∙◌, arith}
-use Rattle.std.specs.Prelude.{is_some}
-use Rattle.core_state.specs.inner.Grouped.{page_of}
-use Rattle.core_state.proofs.PartsJoined.{inside_of, same_there, still_inserted, insert_whole}
+use Rattle.std.proofs.Common.{refl, arith}
+use Rattle.core_state.proofs.EntriesKept.{some_place, first_there, place_inside, entry_value, written_seen, written_linked}
 use Rattle.core_state.proofs.chunk.Chunk.value_mut.Goals as goal
 
-pub index_mut-line-requires : goal.index_mut-line-requires
-index_mut-line-requires g c =
-    omega (arith, inside_of page_of _ c.self.invariant _ c.self.view_is c.args.k c.requires, c.page.ensures, c.self.inside.lines.ok.0)
+pub unwrap-place-requires : goal.unwrap-place-requires
+unwrap-place-requires g c = some_place _ _ c.as_slice-2.ensures.value c.args.k _ c.args.self.now c.self.view_is c.place_in_page.ensures.none c.requires
 
-pub value_mut-requires : goal.value_mut-requires
-value_mut-requires g c = ap is_some (same_there page_of _ c.self.invariant c.args.k _ c.page.ensures (omega (arith, inside_of page_of _ c.self.invariant _ c.self.view_is c.args.k c.requires, c.page.ensures)) _ c.index_mut-line.ensures.value _ c.self.view_is) ∙ c.requires
+pub index_mut-entry-requires : goal.index_mut-entry-requires
+index_mut-entry-requires g c =
+    let first = first_there _ _ c.as_slice-2.ensures.value c.args.k _ c.place_in_page.ensures.some _ c.unwrap-place.ensures in
+    omega (arith, place_inside _ _ c.self.invariant c.args.self.now c.self.view_is c.args.k c.unwrap-place.result first, c.self.inside.entries.ok.0)
 
 pub invariant_of-self-lent : goal.invariant_of-self-lent
-invariant_of-self-lent g c = λ w. still_inserted page_of _ c.self.invariant c.args.k _ c.page.ensures (omega (arith, inside_of page_of _ c.self.invariant _ c.self.view_is c.args.k c.requires, c.page.ensures)) _ c.index_mut-line.ensures.value _ w refl
+invariant_of-self-lent g c =
+    written_linked _ _ c.self.invariant c.args.self.now c.self.view_is c.args.k c.unwrap-place.result
+    (first_there _ _ c.as_slice-2.ensures.value c.args.k _ c.place_in_page.ensures.some _ c.unwrap-place.ensures) c.index_mut-entry.result.now c.index_mut-entry.ensures.value
 
 pub returns : goal.returns
 returns g c = (
-  (refl, λ w. insert_whole page_of _ c.self.invariant c.args.k _ c.page.ensures (omega (arith, inside_of page_of _ c.self.invariant _ c.self.view_is c.args.k c.requires, c.page.ensures)) _ c.index_mut-line.ensures.value _ w refl _ c.self.view_is),
+  (
+    refl,
+    written_seen _ _ c.self.invariant c.args.self.now c.self.view_is c.args.k c.unwrap-place.result
+        (first_there _ _ c.as_slice-2.ensures.value c.args.k _ c.place_in_page.ensures.some _ c.unwrap-place.ensures) c.index_mut-entry.result.now c.index_mut-entry.ensures.value,
+  ),
   record {
     writes_back = tt;
-    value = sym (same_there page_of _ c.self.invariant c.args.k _ c.page.ensures (omega (arith, inside_of page_of _ c.self.invariant _ c.self.view_is c.args.k c.requires, c.page.ensures)) _ c.index_mut-line.ensures.value _ c.self.view_is) ∙ c.value_mut.ensures.value;
+    value =
+        entry_value _ _ c.self.invariant c.args.self.now c.self.view_is c.args.k c.unwrap-place.result
+        (first_there _ _ c.as_slice-2.ensures.value c.args.k _ c.place_in_page.ensures.some _ c.unwrap-place.ensures) c.index_mut-entry.result.now c.index_mut-entry.ensures.value;
   },
 )

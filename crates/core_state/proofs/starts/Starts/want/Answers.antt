@@ -2,7 +2,7 @@ use Rattle.std.proofs.Common.{ap, ◌∙◌}
 use Rattle.std.proofs.lemmas.Result.{IfOk-weaker, on_ok_weaker, on_err_weaker}
 use Rattle.cfg_model.specs.declared.state.Mark.TheVariants as marks
 use Rattle.core_state.specs.inner.Grouped.{with_new}
-use Rattle.core_state.proofs.LinesKept.{is_new}
+use Rattle.core_state.proofs.PairsKept.{is_new}
 use Rattle.core_state.proofs.starts.Starts.want.Goals as goal
 
 pub returns-clause-wanted : goal.returns-clause-wanted

@@ -1,7 +1,7 @@
 use Rattle.std.proofs.Common.{◌∙◌}
 use Rattle.std.proofs.lemmas.Result.{IfOk-weaker, on_ok_weaker, on_err_weaker}
 use Rattle.core_state.specs.inner.Grouped.{with_new}
-use Rattle.core_state.proofs.LinesKept.{is_new}
+use Rattle.core_state.proofs.PairsKept.{is_new}
 use Rattle.core_state.proofs.terms.Terms.term.Goals as goal
 
 pub returns-clause-entered : goal.returns-clause-entered

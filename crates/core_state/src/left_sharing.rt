@@ -1,0 +1,118 @@
+//! Finding work that is left in a state, by several threads.
+
+ghost use Rattle.std.specs.Prelude.{◌≡◌, ℕ, ◌<◌, Some, None, Contains, All, vec_len};
+ghost use Rattle.std.specs.Prelude.{IfOk, IfSome, IfNone, slice_index_or};
+ghost use Rattle.std.specs.Thread.{IsSync};
+ghost use Rattle.cfg_model.specs.Builder.State.{IsStart};
+ghost use Rattle.cfg_model.specs.Builder.Left.{IsLeft, HasNothingLeft};
+ghost use Rattle.core_state.specs.Work.{work_of};
+ghost use Rattle.core_state.specs.inner.Shares.{IsShared, HasNothingAt, IsFoundIn};
+
+use crate::answer::{Name, WorkKind};
+use crate::left::left_of;
+use crate::maps::{Maps, SHARDS};
+use crate::memory::Memory;
+use crate::shard;
+use std::alloc::Global;
+use std::thread::{self, Threads};
+
+/// Work that is left in a state with these maps, where these addresses are to be starts, found by
+/// so many workers, each in a thread of its own. Each looks at the shards of its share, and at the
+/// seeds that belong to them. With none or one no thread is started; more than there are shards do
+/// as that many. [`Memory`] where memory ran out.
+pub(crate) fn left_by<R: Threads + Sync>(
+    rt: &R,
+    alloc: Global,
+    shards: &Maps,
+    seeds: &[u64],
+    workers: u32,
+) -> Result<Option<Name>, Memory>
+    ensures some { IfOk result
+        (λ left. IfSome left (λ name. IsLeft seeds.now shards.now (work_of name))) }
+    ensures none { IfOk result (λ left. IfNone left (HasNothingLeft seeds.now shards.now)) }
+{
+    if workers < 2 {
+        return Ok(left_of(shards, seeds));
+    }
+    let shares = SHARDS.min(workers as usize);
+    let found = found_by_share(rt, alloc, shards, seeds, shares)?;
+    Ok(first_of(found))
+}
+
+/// What is left in each share, found on a thread of its own, in the order of the shares.
+fn found_by_share<R: Threads + Sync>(
+    rt: &R,
+    alloc: Global,
+    shards: &Maps,
+    seeds: &[u64],
+    shares: usize,
+) -> Result<Vec<Option<Name>>, Memory>
+    requires { 0 < shares }
+    ensures as_many { IfOk result (λ v. vec_len v ≡ shares) }
+    ensures each { IfOk result (λ v. (i : ℕ) (d : _) → i < shares
+        → IsFoundIn shares i seeds.now shards.now (slice_index_or v.items i d)) }
+{
+    let look = |share: usize| -> Option<Name>
+        requires { 0 < shares }
+        ensures { IsFoundIn shares share seeds.entry.now shards.entry.now result }
+    { left_in_share(shards, seeds, shares, share) };
+    Ok(thread::map_indices(rt, alloc, shares, &look)?)
+}
+
+/// Work that is left in a share: at a seed, or in a shard.
+fn left_in_share(shards: &Maps, seeds: &[u64], shares: usize, share: usize) -> Option<Name>
+    requires { 0 < shares }
+    ensures { IsFoundIn shares share seeds.now shards.now result }
+{
+    if let Some(key) = unstarted_seed_in(shards, seeds, shares, share) {
+        return Some(Name {
+            kind: WorkKind::Want,
+            key,
+        });
+    }
+    left_in_shards(shards, shares, share)
+}
+
+/// A seed of a share that is no start.
+fn unstarted_seed_in(shards: &Maps, seeds: &[u64], shares: usize, share: usize) -> Option<u64>
+    requires { 0 < shares }
+    ensures some { IfSome result (λ s. Contains seeds.now s × ¬ IsStart shards.now.starts s) }
+    ensures none { IfNone result ((s : ℕ) → Contains seeds.now s → IsShared shares share s
+        → IsStart shards.now.starts s) }
+{
+    for seed in seeds {
+        if shard(*seed) as usize % shares == share && shards.start(*seed).is_none() {
+            return Some(*seed);
+        }
+    }
+    None
+}
+
+/// Work that is left in the shards of a share.
+fn left_in_shards(shards: &Maps, shares: usize, share: usize) -> Option<Name>
+    requires { 0 < shares }
+    ensures some { IfSome result (λ name. (seeds : _) → IsLeft seeds shards.now (work_of name)) }
+    ensures none { IfNone result (HasNothingAt (IsShared shares share) shards.now) }
+{
+    for number in 0..SHARDS {
+        if number % shares == share {
+            if let Some(name) = shards.left_in(number) {
+                return Some(name);
+            }
+        }
+    }
+    None
+}
+
+/// The first name among these.
+fn first_of(found: Vec<Option<Name>>) -> Option<Name>
+    ensures some { IfSome result (λ name. Contains found.items (Some name)) }
+    ensures none { IfNone result (All (λ left. left ≡ None) found.items) }
+{
+    for left in found {
+        if left.is_some() {
+            return left;
+        }
+    }
+    None
+}
