@@ -40,9 +40,9 @@ pub fn work<R: Threads + Wait + Sync, C: Chains, G: Gate>(
     work_for::<Brand, R, C, G>(rt, alloc, code, seeds, workers, gate)
 }
 
-/// The closed state of the program `code` whose seeds are `seeds`, built by `workers` workers: what
-/// they leave is finished on the caller's thread. It may wait as [`work`] does. [`Memory`] where
-/// memory ran out.
+/// The closed state of the program `code` whose seeds are `seeds`, built by `workers` workers. As
+/// many threads look whether they left anything, and what they left is finished on the caller's
+/// thread. It may wait as [`work`] does. [`Memory`] where memory ran out.
 pub fn build<R: Threads + Wait + Sync, C: Chains, G: Gate>(
     rt: &R,
     alloc: Global,
@@ -57,7 +57,9 @@ pub fn build<R: Threads + Wait + Sync, C: Chains, G: Gate>(
     ensures closed { IfOk result (λ state. IsClosed (C.map code.now) seeds.now state.maps) }
 {
     let mut state = work(rt, alloc, code, seeds, workers, gate)?;
-    finish(alloc, code, seeds, &mut state)?;
+    if state.left_by(rt, alloc, seeds, workers)?.is_some() {
+        finish(alloc, code, seeds, &mut state)?;
+    }
     Ok(state)
 }
 

@@ -28,8 +28,9 @@ pub(crate) fn dealt(
 }
 
 /// Puts the names of its seeds into the hand with this number. Each hand begins at another part of
-/// the seeds and goes round, so that workers begin far apart: neighbours would try for the same
-/// shards all the time.
+/// the seeds, goes down and then round, so that workers begin far apart: neighbours would try for
+/// the same shards all the time. Of many seeds on one run of instructions the highest come first, so
+/// that each finds its neighbour in front of it.
 fn deal(hand: &mut Hand, seeds: &[u64], number: usize, workers: usize)
     requires some { 0 < workers }
     requires within { number < workers }
@@ -45,21 +46,22 @@ fn deal(hand: &mut Hand, seeds: &[u64], number: usize, workers: usize)
     } else {
         workers - (ahead - number)
     };
-    put_each(hand, back, first, workers);
     put_each(hand, front, number, workers);
+    put_each(hand, back, first, workers);
 }
 
-/// Puts the names of these seeds into the hand, from the one with number `first` on each
-/// `workers`-th one. A name that comes back is dropped, and its work is found when all workers have
-/// ended.
+/// Puts the names of these seeds into the hand: of the one with number `first` and each `workers`-th
+/// one behind it, the last one first. A name that comes back is dropped, and its work is found when
+/// all workers have ended.
 fn put_each(hand: &mut Hand, seeds: &[u64], first: usize, workers: usize)
     requires { 0 < workers }
     ensures { IsSameHand hand.old hand.new }
 {
-    for seed in seeds.iter().skip(first).step_by(workers) {
+    let rest = seeds.get(first..).unwrap_or(&[]);
+    for share in rest.chunks(workers).rev() {
         let _ = hand.put(Name {
             kind: WorkKind::Want,
-            key: *seed,
+            key: share[0],
         });
     }
 }
