@@ -1,6 +1,6 @@
 //! The blocks and edges of a program, made by several threads.
 
-ghost use Rattle.std.specs.Prelude.{◌≡◌, ℕ, ◌+◌, ◌≤◌, IfOk, length, vec_len, slice_index_or, All};
+ghost use Rattle.std.specs.Prelude.{◌≡◌, ℕ, ◌+◌, ◌≤◌, [], IfOk, length, vec_len, slice_index_or, All};
 ghost use Rattle.std.specs.List.{flat_map};
 ghost use Rattle.std.specs.List.Sorted.{IsNonDecreasing};
 ghost use Rattle.std.specs.Thread.{IsSync};
@@ -83,12 +83,33 @@ fn joined(alloc: Global, parts: Vec<Result<Part, Memory>>) -> Result<Part, Memor
     ensures blocks { IfOk result (λ part. part.blocks.items ≡ flat_map blocks_in parts.items) }
     ensures edges { IfOk result (λ part. part.edges.items ≡ flat_map edges_in parts.items) }
 {
-    let mut blocks = Vec::new(alloc);
-    let mut edges = Vec::new(alloc);
+    let Part {
+        mut blocks,
+        mut edges,
+    } = room_for(alloc, &parts)?;
     for part in parts {
         let mut part = part?;
         blocks.append(&mut part.blocks)?;
         edges.append(&mut part.edges)?;
     }
     Ok(Part { blocks, edges })
+}
+
+/// No blocks and edges, with room for those of all these parts.
+fn room_for(alloc: Global, parts: &[Result<Part, Memory>]) -> Result<Part, Memory>
+    ensures blocks { IfOk result (λ part. part.blocks.items ≡ []) }
+    ensures edges { IfOk result (λ part. part.edges.items ≡ []) }
+{
+    let mut blocks = 0_usize;
+    let mut edges = 0_usize;
+    for part in parts {
+        if let Ok(part) = part {
+            blocks = blocks.saturating_add(part.blocks.len());
+            edges = edges.saturating_add(part.edges.len());
+        }
+    }
+    Ok(Part {
+        blocks: Vec::with_capacity(alloc, blocks)?,
+        edges: Vec::with_capacity(alloc, edges)?,
+    })
 }
