@@ -1,6 +1,7 @@
 //! Two tables that overlap.
 
-ghost use Rattle.std.specs.Prelude.{IsSome};
+ghost use Rattle.std.specs.Prelude.{ℕ, List, IsSome, IfOk};
+ghost use Rattle.cfg_model.specs.Builder.Kept.{IsClosed};
 ghost use Rattle.code_view.specs.FileCode.{program_of};
 
 use crate::{cuts, cuts_by};
@@ -9,8 +10,10 @@ use cfg_model::{Chains, Flow};
 use cfg_vectors::row_file;
 use chain_index::ChainIndex;
 use code_view::{Code, Cuts};
+use core_state::{Memory, State};
 use elf_image::Image;
 use std::alloc::{AllocFailed, Global};
+use std::process::Abort;
 use std::test::Fail;
 
 /// The jumps of row 15: one through a table of four entries, and one through a table of two that
@@ -35,6 +38,15 @@ fn kept_targets(alloc: Global, code: &Code<'_>, a: u64) -> Result<Vec<u64>, Allo
     Ok(targets)
 }
 
+/// The closed state of the program from its entry and its other symbol.
+fn closed_state(rt: &impl Abort, alloc: Global, code: &Code<'_>) -> Result<State, Memory>
+    ensures { IfOk result (λ state. (seeds : List ℕ)
+        × IsClosed (program_of code.now) seeds state.maps) }
+{
+    assert!(rt; code.has(SEEDS[0]) && code.has(SEEDS[1]));
+    build_alone(alloc, code, &SEEDS)
+}
+
 #[test]
 fn cuts_a_table_where_another_begins(rt: HostRuntime) -> Result<(), Fail> {
     let file = row_file(rt.alloc(), 15, 0)?;
@@ -51,8 +63,7 @@ fn cuts_a_table_where_another_begins(rt: HostRuntime) -> Result<(), Fail> {
     let targets = kept_targets(rt.alloc(), &code, SECOND)?;
     assert_eq!(rt; targets.as_slice(), [0x10054, 0x10054].as_slice());
 
-    assert!(rt; code.has(SEEDS[0]) && code.has(SEEDS[1]));
-    let state = build_alone(rt.alloc(), &code, &SEEDS)?;
+    let state = closed_state(&rt, rt.alloc(), &code)?;
     for workers in [1, 2, 4, 64] {
         let bounds = code.bounds(rt.alloc(), workers)?;
         let made = cuts_by(&rt, rt.alloc(), &code, &state, &bounds)?;
