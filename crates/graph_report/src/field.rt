@@ -1,7 +1,7 @@
 //! The fields of a line: words, addresses and counts.
 
 ghost use Rattle.std.specs.Prelude.{◌≡◌, ◌≤◌, ◌<◌, ◌+◌, ◌/◌, ◌%◌, ◌++◌, length, codes, decimal};
-ghost use Rattle.graph_report.specs.Number.{hex_digit, address_digits};
+ghost use Rattle.graph_report.specs.Number.{hex_digit, hex_digits, address_digits};
 ghost use Rattle.graph_report.specs.Words.{status_word, end_word, edge_word};
 
 use crate::page::{PAGE_ROOM, Page};
@@ -16,42 +16,44 @@ pub fn status_word(returns: bool) -> &'static [u8]
     if returns { b"may-return" } else { b"no-return" }
 }
 
-/// The last field of a block's line, with the space in front and the newline behind it: the word
-/// for what the block ends with.
-pub fn end_field(kind: EndKind) -> &'static [u8]
-    ensures word { result.now ≡ codes " " ++ end_word kind ++ codes "\n" }
-    ensures short { length result.now ≤ 12 }
+/// Appends the last field of a block's line, the word for what the block ends with, with a space in
+/// front and the newline behind it: 12 bytes at most.
+pub fn push_end_field(page: &mut Page, kind: EndKind)
+    requires room { length page.old + 12 ≤ PAGE_ROOM }
+    ensures text { page.new ≡ page.old ++ (codes " " ++ end_word kind ++ codes "\n") }
+    ensures most { length page.new ≤ length page.old + 12 }
 {
     match kind {
-        EndKind::Fall => b" fall\n",
-        EndKind::Branch => b" branch\n",
-        EndKind::BranchOut => b" branch-out\n",
-        EndKind::Jump => b" jump\n",
-        EndKind::Call => b" call\n",
-        EndKind::IndirectCall => b" icall\n",
-        EndKind::Return => b" return\n",
-        EndKind::Table => b" table\n",
-        EndKind::TableCut => b" table-cut\n",
-        EndKind::TableOpen => b" table-open\n",
-        EndKind::Unknown => b" unknown\n",
-        EndKind::Stop => b" stop\n",
+        EndKind::Fall => page.push(b" fall\n"),
+        EndKind::Branch => page.push(b" branch\n"),
+        EndKind::BranchOut => page.push(b" branch-out\n"),
+        EndKind::Jump => page.push(b" jump\n"),
+        EndKind::Call => page.push(b" call\n"),
+        EndKind::IndirectCall => page.push(b" icall\n"),
+        EndKind::Return => page.push(b" return\n"),
+        EndKind::Table => page.push(b" table\n"),
+        EndKind::TableCut => page.push(b" table-cut\n"),
+        EndKind::TableOpen => page.push(b" table-open\n"),
+        EndKind::Unknown => page.push(b" unknown\n"),
+        EndKind::Stop => page.push(b" stop\n"),
     }
 }
 
-/// The last field of an edge's line, with the space in front and the newline behind it: the word
-/// for the kind of the edge.
-pub fn edge_field(kind: EdgeKind) -> &'static [u8]
-    ensures word { result.now ≡ codes " " ++ edge_word kind ++ codes "\n" }
-    ensures short { length result.now ≤ 7 }
+/// Appends the last field of an edge's line, the word for the kind of the edge, with a space in
+/// front and the newline behind it: 7 bytes at most.
+pub fn push_edge_field(page: &mut Page, kind: EdgeKind)
+    requires room { length page.old + 7 ≤ PAGE_ROOM }
+    ensures text { page.new ≡ page.old ++ (codes " " ++ edge_word kind ++ codes "\n") }
+    ensures most { length page.new ≤ length page.old + 7 }
 {
     match kind {
-        EdgeKind::Fall => b" fall\n",
-        EdgeKind::Taken => b" taken\n",
-        EdgeKind::Jump => b" jump\n",
-        EdgeKind::Tail => b" tail\n",
-        EdgeKind::Call => b" call\n",
-        EdgeKind::After => b" after\n",
-        EdgeKind::Table => b" table\n",
+        EdgeKind::Fall => page.push(b" fall\n"),
+        EdgeKind::Taken => page.push(b" taken\n"),
+        EdgeKind::Jump => page.push(b" jump\n"),
+        EdgeKind::Tail => page.push(b" tail\n"),
+        EdgeKind::Call => page.push(b" call\n"),
+        EdgeKind::After => page.push(b" after\n"),
+        EdgeKind::Table => page.push(b" table\n"),
     }
 }
 
@@ -64,58 +66,79 @@ pub fn hex_digit(n: u8) -> u8
     if n < 10 { b'0' + n } else { b'a' + (n - 10) }
 }
 
-/// The two hexadecimal digits of each byte, in lower case, one byte after another.
-static BYTE_DIGITS: [u8; 512] = *b"\
-    000102030405060708090a0b0c0d0e0f101112131415161718191a1b1c1d1e1f\
-    202122232425262728292a2b2c2d2e2f303132333435363738393a3b3c3d3e3f\
-    404142434445464748494a4b4c4d4e4f505152535455565758595a5b5c5d5e5f\
-    606162636465666768696a6b6c6d6e6f707172737475767778797a7b7c7d7e7f\
-    808182838485868788898a8b8c8d8e8f909192939495969798999a9b9c9d9e9f\
-    a0a1a2a3a4a5a6a7a8a9aaabacadaeafb0b1b2b3b4b5b6b7b8b9babbbcbdbebf\
-    c0c1c2c3c4c5c6c7c8c9cacbcccdcecfd0d1d2d3d4d5d6d7d8d9dadbdcdddedf\
-    e0e1e2e3e4e5e6e7e8e9eaebecedeeeff0f1f2f3f4f5f6f7f8f9fafbfcfdfeff";
+/// The two hexadecimal digits of each byte, in lower case.
+static BYTE_DIGITS: [[u8; 2]; 256] = [
+    *b"00", *b"01", *b"02", *b"03", *b"04", *b"05", *b"06", *b"07", *b"08", *b"09", *b"0a", *b"0b",
+    *b"0c", *b"0d", *b"0e", *b"0f", *b"10", *b"11", *b"12", *b"13", *b"14", *b"15", *b"16", *b"17",
+    *b"18", *b"19", *b"1a", *b"1b", *b"1c", *b"1d", *b"1e", *b"1f", *b"20", *b"21", *b"22", *b"23",
+    *b"24", *b"25", *b"26", *b"27", *b"28", *b"29", *b"2a", *b"2b", *b"2c", *b"2d", *b"2e", *b"2f",
+    *b"30", *b"31", *b"32", *b"33", *b"34", *b"35", *b"36", *b"37", *b"38", *b"39", *b"3a", *b"3b",
+    *b"3c", *b"3d", *b"3e", *b"3f", *b"40", *b"41", *b"42", *b"43", *b"44", *b"45", *b"46", *b"47",
+    *b"48", *b"49", *b"4a", *b"4b", *b"4c", *b"4d", *b"4e", *b"4f", *b"50", *b"51", *b"52", *b"53",
+    *b"54", *b"55", *b"56", *b"57", *b"58", *b"59", *b"5a", *b"5b", *b"5c", *b"5d", *b"5e", *b"5f",
+    *b"60", *b"61", *b"62", *b"63", *b"64", *b"65", *b"66", *b"67", *b"68", *b"69", *b"6a", *b"6b",
+    *b"6c", *b"6d", *b"6e", *b"6f", *b"70", *b"71", *b"72", *b"73", *b"74", *b"75", *b"76", *b"77",
+    *b"78", *b"79", *b"7a", *b"7b", *b"7c", *b"7d", *b"7e", *b"7f", *b"80", *b"81", *b"82", *b"83",
+    *b"84", *b"85", *b"86", *b"87", *b"88", *b"89", *b"8a", *b"8b", *b"8c", *b"8d", *b"8e", *b"8f",
+    *b"90", *b"91", *b"92", *b"93", *b"94", *b"95", *b"96", *b"97", *b"98", *b"99", *b"9a", *b"9b",
+    *b"9c", *b"9d", *b"9e", *b"9f", *b"a0", *b"a1", *b"a2", *b"a3", *b"a4", *b"a5", *b"a6", *b"a7",
+    *b"a8", *b"a9", *b"aa", *b"ab", *b"ac", *b"ad", *b"ae", *b"af", *b"b0", *b"b1", *b"b2", *b"b3",
+    *b"b4", *b"b5", *b"b6", *b"b7", *b"b8", *b"b9", *b"ba", *b"bb", *b"bc", *b"bd", *b"be", *b"bf",
+    *b"c0", *b"c1", *b"c2", *b"c3", *b"c4", *b"c5", *b"c6", *b"c7", *b"c8", *b"c9", *b"ca", *b"cb",
+    *b"cc", *b"cd", *b"ce", *b"cf", *b"d0", *b"d1", *b"d2", *b"d3", *b"d4", *b"d5", *b"d6", *b"d7",
+    *b"d8", *b"d9", *b"da", *b"db", *b"dc", *b"dd", *b"de", *b"df", *b"e0", *b"e1", *b"e2", *b"e3",
+    *b"e4", *b"e5", *b"e6", *b"e7", *b"e8", *b"e9", *b"ea", *b"eb", *b"ec", *b"ed", *b"ee", *b"ef",
+    *b"f0", *b"f1", *b"f2", *b"f3", *b"f4", *b"f5", *b"f6", *b"f7", *b"f8", *b"f9", *b"fa", *b"fb",
+    *b"fc", *b"fd", *b"fe", *b"ff",
+];
 
-/// The first of the two hexadecimal digits of a byte.
+/// The two hexadecimal digits of a byte, the higher first.
 #[inline(always)]
-fn high_digit(byte: u8) -> u8
-    ensures { result ≡ hex_digit (byte / 16) }
+fn byte_digits(byte: u8) -> [u8; 2]
+    ensures { result ≡ hex_digits 2 byte }
 {
-    BYTE_DIGITS[byte as usize * 2]
+    let [high, low] = &BYTE_DIGITS[byte as usize];
+    [*high, *low]
 }
 
-/// The second of the two hexadecimal digits of a byte.
+/// The eight hexadecimal digits of half an address, the highest first.
 #[inline(always)]
-fn low_digit(byte: u8) -> u8
-    ensures { result ≡ hex_digit (byte % 16) }
+fn half_digits(half: u32) -> [u8; 8]
+    ensures { result ≡ hex_digits 8 half }
 {
-    BYTE_DIGITS[byte as usize * 2 + 1]
+    let [a, b, c, d] = half.to_be_bytes();
+    let [a1, a0] = byte_digits(a);
+    let [b1, b0] = byte_digits(b);
+    let [c1, c0] = byte_digits(c);
+    let [d1, d0] = byte_digits(d);
+    [a1, a0, b1, b0, c1, c0, d1, d0]
 }
 
-/// A space and an address as sixteen hexadecimal digits, the highest first.
+/// An address as sixteen hexadecimal digits, the highest first. Most addresses lie below 2^32, and
+/// for those the first eight digits are not looked up.
 #[inline]
-fn address_field(address: u64) -> [u8; 17]
-    ensures { result ≡ codes " " ++ address_digits address }
+pub fn address_digits(address: u64) -> [u8; 16]
+    ensures { result ≡ address_digits address }
 {
-    let [a, b, c, d, e, f, g, h] = address.to_be_bytes();
-    [
-        b' ',
-        high_digit(a),
-        low_digit(a),
-        high_digit(b),
-        low_digit(b),
-        high_digit(c),
-        low_digit(c),
-        high_digit(d),
-        low_digit(d),
-        high_digit(e),
-        low_digit(e),
-        high_digit(f),
-        low_digit(f),
-        high_digit(g),
-        low_digit(g),
-        high_digit(h),
-        low_digit(h),
-    ]
+    let high = (address >> 32) as u32;
+    let low = (address & 0xffff_ffff) as u32;
+    let mut digits = *b"0000000000000000";
+    if high > 0 {
+        digits[..8].copy_from_slice(&half_digits(high));
+    }
+    digits[8..].copy_from_slice(&half_digits(low));
+    digits
+}
+
+/// A space and an address, and the same of another: two fields of a line.
+#[inline(always)]
+pub fn two_addresses(one: u64, other: u64) -> [u8; 34]
+    ensures { result ≡ codes " " ++ address_digits one ++ codes " " ++ address_digits other }
+{
+    let mut fields = *b" 0000000000000000 0000000000000000";
+    fields[1..17].copy_from_slice(&address_digits(one));
+    fields[18..].copy_from_slice(&address_digits(other));
+    fields
 }
 
 /// Appends a space and an address: 17 bytes.
@@ -124,7 +147,9 @@ pub fn push_address(page: &mut Page, address: u64)
     ensures text { page.new ≡ page.old ++ (codes " " ++ address_digits address) }
     ensures most { length page.new ≡ length page.old + 17 }
 {
-    page.push(&address_field(address));
+    let mut field = *b" 0000000000000000";
+    field[1..].copy_from_slice(&address_digits(address));
+    page.push(&field);
 }
 
 /// Appends a space and a word.

@@ -8,9 +8,10 @@ ghost use Rattle.graph_report.specs.Line.{made_line, may_return_line, no_return_
 ghost use Rattle.graph_report.specs.Inner.{IsLine, name_left};
 
 use crate::field::{
-    edge_field, end_field, push_address, push_count, push_field, push_number, status_word,
+    address_digits, push_address, push_count, push_edge_field, push_end_field, push_field,
+    push_number, status_word, two_addresses,
 };
-use crate::name::{begin_name, push_byte};
+use crate::name::{begin_name, push_front};
 use crate::page::{LINE_ROOM, PAGE_ROOM, Page};
 use cfg_model::{Block, Edge, Function};
 
@@ -60,7 +61,7 @@ pub fn begin_function<'a>(page: &mut Page, function: &Function, name: Option<&'a
     begin_name(page, name)
 }
 
-/// Appends the next byte of a function's name, or the end of its line where no byte is left, and
+/// Appends the next bytes of a function's name, or the end of its line where no byte is left, and
 /// answers what its rest is still to show.
 pub fn go_on_with_name<'a>(page: &mut Page, name: &'a [u8]) -> Option<&'a [u8]>
     requires room { length page.old + LINE_ROOM ≤ PAGE_ROOM }
@@ -68,12 +69,11 @@ pub fn go_on_with_name<'a>(page: &mut Page, name: &'a [u8]) -> Option<&'a [u8]>
         (Some name.now) }
     ensures line { IsLine page.old page.new }
 {
-    let [byte, rest @ ..] = name else {
+    if name.is_empty() {
         page.push(b"\n");
         return None;
-    };
-    push_byte(page, *byte);
-    Some(rest)
+    }
+    Some(push_front(page, name))
 }
 
 /// Appends the line of a block of the function above, which starts at an address.
@@ -82,9 +82,9 @@ pub fn push_in(page: &mut Page, block: u64)
     ensures text { page.new ≡ page.old ++ in_line block }
     ensures line { IsLine page.old page.new }
 {
-    page.push(b"in");
-    push_address(page, block);
-    page.push(b"\n");
+    let mut line = *b"in 0000000000000000\n";
+    line[3..19].copy_from_slice(&address_digits(block));
+    page.push(&line);
 }
 
 /// Appends the line that says how many blocks follow.
@@ -103,10 +103,10 @@ pub fn push_block(page: &mut Page, block: &Block)
     ensures text { page.new ≡ page.old ++ block_line block.now }
     ensures line { IsLine page.old page.new }
 {
-    page.push(b"block");
-    push_address(page, block.start);
-    push_address(page, block.end);
-    page.push(end_field(block.kind));
+    let mut front = *b"block 0000000000000000 0000000000000000";
+    front[5..].copy_from_slice(&two_addresses(block.start, block.end));
+    page.push(&front);
+    push_end_field(page, block.kind);
 }
 
 /// Appends the line that says how many edges follow.
@@ -125,10 +125,10 @@ pub fn push_edge(page: &mut Page, edge: &Edge)
     ensures text { page.new ≡ page.old ++ edge_line edge.now }
     ensures line { IsLine page.old page.new }
 {
-    page.push(b"edge");
-    push_address(page, edge.from);
-    push_address(page, edge.to);
-    page.push(edge_field(edge.kind));
+    let mut front = *b"edge 0000000000000000 0000000000000000";
+    front[4..].copy_from_slice(&two_addresses(edge.from, edge.to));
+    page.push(&front);
+    push_edge_field(page, edge.kind);
 }
 
 /// Appends the first line of the summary of the program that is made from `n`.

@@ -1,12 +1,14 @@
 //! How a name becomes one field of its line.
 
-ghost use Rattle.std.specs.Prelude.{◌≡◌, ◌≤◌, ◌<◌, ◌+◌, ◌++◌, length, Option};
+ghost use Rattle.std.specs.Prelude.{◌≡◌, ◌≤◌, ◌<◌, ◌+◌, ◌==◌, ◌&&◌, not, ◌++◌, take, length};
+ghost use Rattle.std.specs.Prelude.{Option};
 ghost use Rattle.std.specs.List.{flat_map};
 ghost use Rattle.std.specs.Option.{option_map};
-ghost use Rattle.graph_report.specs.Name.{escaped_byte, name_byte, name_field};
+ghost use Rattle.graph_report.specs.Name.{is_visible, escaped_byte, name_byte, name_field};
+ghost use Rattle.graph_report.specs.Inner.{IsLine};
 
 use crate::field::hex_digit;
-use crate::page::{PAGE_ROOM, Page};
+use crate::page::{LINE_ROOM, PAGE_ROOM, Page};
 
 /// Begins the field of a name, which is a dash where there is none, and answers the bytes of the
 /// name that are still to come. A name's bytes outside of visible ASCII and its backslashes are
@@ -31,8 +33,49 @@ pub fn begin_name<'a>(page: &mut Page, name: Option<&'a [u8]>) -> &'a [u8]
     }
 }
 
+/// Appends the front of a name, which is not empty, and answers the rest: the longest run of bytes
+/// that stand for themselves, as far as a line has room, or one byte that does not.
+pub fn push_front<'a>(page: &mut Page, name: &'a [u8]) -> &'a [u8]
+    requires some { 0 < length name.now }
+    requires room { length page.old + LINE_ROOM ≤ PAGE_ROOM }
+    ensures text { page.new ++ flat_map name_byte result.now ≡ page.old ++ flat_map name_byte
+        name.now }
+    ensures line { IsLine page.old page.new }
+{
+    let run = plain_run(name);
+    if run == 0 {
+        push_byte(page, name[0]);
+        return &name[1..];
+    }
+    let (front, rest) = name.split_at(run);
+    page.push(front);
+    rest
+}
+
+/// How many bytes at the front of a name stand for themselves, as far as a line has room.
+fn plain_run(name: &[u8]) -> usize
+    ensures within { result ≤ length name.now }
+    ensures line { result ≤ LINE_ROOM }
+    ensures plain { flat_map name_byte (take result name.now) ≡ take result name.now }
+{
+    let end = name.len().min(LINE_ROOM);
+    let mut run = 0;
+    while run < end && is_plain(name[run]) {
+        run += 1;
+    }
+    run
+}
+
+/// Whether a byte of a name stands for itself: a visible one that is no backslash.
+#[inline]
+fn is_plain(byte: u8) -> bool
+    ensures { result ≡ (is_visible byte && not (byte == 92)) }
+{
+    matches!(byte, 0x21..=0x7e) && byte != b'\\'
+}
+
 /// Appends a byte of a name.
-pub fn push_byte(page: &mut Page, byte: u8)
+fn push_byte(page: &mut Page, byte: u8)
     requires room { length page.old + 4 ≤ PAGE_ROOM }
     ensures text { page.new ≡ page.old ++ name_byte byte }
     ensures least { length page.old < length page.new }
@@ -40,7 +83,7 @@ pub fn push_byte(page: &mut Page, byte: u8)
 {
     match byte {
         b'\\' => page.push(b"\\\\"),
-        0x21..=0x7e => page.push(&[byte]),
+        _ if is_plain(byte) => page.push(&[byte]),
         _ => push_escaped(page, byte),
     }
 }

@@ -11,7 +11,7 @@ use std::marker::Model;
 pub const PIECE: usize = 4096;
 
 /// How many bytes are put on a page at once at most: a line, or of that of a function what stands
-/// in front of its name.
+/// in front of its name, or a part of the name.
 pub const LINE_ROOM: usize = 64;
 
 /// How many bytes a page has room for: a piece, and a line more.

@@ -200,3 +200,142 @@ fn pieces_of_a_long_report(rt: HostRuntime) -> Result<(), Fail> {
     assert!(rt; pieces.next_piece().is_none());
     Ok(())
 }
+
+/// Where the names of that file stand in it, and how many bytes they take.
+const NAMES_OFFSET: usize = 0xD0;
+
+const NAMES_SIZE: usize = 13;
+
+/// That file with another name for the function at 10004 (hexadecimal). Its names stand behind all
+/// else, with the new one as the last of them.
+fn file_with_name(alloc: Global, name: &[u8]) -> Result<Vec<u8>, AllocError> {
+    let mut front = NAMED_FILE;
+    let size = (name.len() as u64).saturating_add(14);
+    front[0x70] = NAMES_SIZE as u8;
+    front[0x1B8..0x1C0].copy_from_slice(&480u64.to_le_bytes());
+    front[0x1C0..0x1C8].copy_from_slice(&size.to_le_bytes());
+    let mut file = Vec::from_slice(alloc, &front)?;
+    file.extend_from_slice(&NAMED_FILE[NAMES_OFFSET..NAMES_OFFSET + NAMES_SIZE])?;
+    file.extend_from_slice(name)?;
+    file.push(0)?;
+    Ok(file)
+}
+
+/// The graph with that function alone.
+fn graph_of_one(alloc: Global) -> Result<Graph, AllocError> {
+    let mut functions = Vec::new(alloc);
+    functions.push(Function {
+        entry: 0x10004,
+        returns: true,
+        body: Addresses::from_vec(Vec::new(alloc)),
+    })?;
+    let graph = graph_of(alloc, &[], &[])?;
+    Ok(Graph {
+        functions: Functions::from_vec(functions),
+        ..graph
+    })
+}
+
+#[test]
+fn names_of_all_lengths(rt: HostRuntime) -> Result<(), Fail> {
+    // a text that the name repeats, how often, and how it is printed
+    let rows: [(&[u8], usize, &str); 12] = [
+        (b"a", 1, "a"),
+        (b"a", 63, "a"),
+        (b"b", 64, "b"),
+        (b"c", 65, "c"),
+        (b"d", 129, "d"),
+        (b"\\", 70, "\\\\"),
+        (b" first", 1, "\\x20first"),
+        (b"mid\\dle", 1, "mid\\\\dle"),
+        (b"last\x7f", 1, "last\\x7f"),
+        (b"!~[]", 1, "!~[]"),
+        (
+            b"_ZNSt6vectorIiSaIiEE9push_backERKi",
+            3,
+            "_ZNSt6vectorIiSaIiEE9push_backERKi",
+        ),
+        (b"operator new[]\\\xff", 400, "operator\\x20new[]\\\\\\xff"),
+    ];
+    let graph = graph_of_one(rt.alloc())?;
+    for (part, count, text) in rows {
+        let mut name = Vec::new(rt.alloc());
+        let mut want = String::from_str(rt.alloc(), HEADING)?;
+        want.push_str("functions 1\nfunction 0000000000010004 may-return 0 ")?;
+        for _ in 0..count {
+            name.extend_from_slice(part)?;
+            want.push_str(text)?;
+        }
+        want.push_str("\nend\n")?;
+        let file = file_with_name(rt.alloc(), name.as_slice())?;
+        let image = Image::parse(rt.alloc(), file)?;
+        let seeds = seeds(rt.alloc(), &image)?;
+        let out = report(rt.alloc(), &image, &seeds, &graph, ReportKind::Functions)?;
+        assert_eq!(rt; out.as_slice(), want.as_bytes(), "{text}");
+    }
+    Ok(())
+}
+
+#[test]
+fn addresses_of_each_half(rt: HostRuntime) -> Result<(), Fail> {
+    let blocks = [
+        (0, 0xffff_ffff, EndKind::Fall),
+        (0x1_0000_0000, u64::MAX, EndKind::TableOpen),
+        (0x0123_4567_89ab_cdef, 0xfedc_ba98_7654_3210, EndKind::Stop),
+    ];
+    let edges = [
+        (u64::MAX, 0, EdgeKind::After),
+        (0xffff_ffff, 0x1_0000_0000, EdgeKind::Tail),
+    ];
+    let want = "\
+        cfg-report 2\n\
+        entry 0000000000010000\n\
+        functions 0\n\
+        blocks 3\n\
+        block 0000000000000000 00000000ffffffff fall\n\
+        block 0000000100000000 ffffffffffffffff table-open\n\
+        block 0123456789abcdef fedcba9876543210 stop\n\
+        edges 2\n\
+        edge ffffffffffffffff 0000000000000000 after\n\
+        edge 00000000ffffffff 0000000100000000 tail\n\
+        end\n";
+    let image = Image::parse(rt.alloc(), Vec::from_slice(rt.alloc(), &NAMED_FILE)?)?;
+    let seeds = seeds(rt.alloc(), &image)?;
+    let graph = graph_of(rt.alloc(), &blocks, &edges)?;
+    let text = report(rt.alloc(), &image, &seeds, &graph, ReportKind::Graph)?;
+    assert_eq!(rt; text.as_slice(), want.as_bytes());
+    Ok(())
+}
+
+#[test]
+fn bodies_at_each_half(rt: HostRuntime) -> Result<(), Fail> {
+    let mut functions = Vec::new(rt.alloc());
+    functions.push(Function {
+        entry: 0x1_0000_0000,
+        returns: false,
+        body: Addresses::from_vec(Vec::from_slice(
+            rt.alloc(),
+            &[0, 0xffff_ffff, 0x1_0000_0000, u64::MAX],
+        )?),
+    })?;
+    let graph = Graph {
+        entry: u64::MAX,
+        functions: Functions::from_vec(functions),
+        ..graph_of(rt.alloc(), &[], &[])?
+    };
+    let want = "\
+        cfg-report 2\n\
+        entry ffffffffffffffff\n\
+        functions 1\n\
+        function 0000000100000000 no-return 4 -\n\
+        in 0000000000000000\n\
+        in 00000000ffffffff\n\
+        in 0000000100000000\n\
+        in ffffffffffffffff\n\
+        end\n";
+    let image = Image::parse(rt.alloc(), Vec::from_slice(rt.alloc(), &NAMED_FILE)?)?;
+    let seeds = seeds(rt.alloc(), &image)?;
+    let text = report(rt.alloc(), &image, &seeds, &graph, ReportKind::Functions)?;
+    assert_eq!(rt; text.as_slice(), want.as_bytes());
+    Ok(())
+}
