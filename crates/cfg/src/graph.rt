@@ -21,7 +21,6 @@ use elf_image::Image;
 use finaliser::Outline;
 use func_bodies::mark_tails;
 use std::alloc::Global;
-use std::mem;
 
 /// The graph of a file from its seeds. `by` builds the closed states, finds the cuts, and makes
 /// the outline and the functions.
@@ -59,10 +58,7 @@ pub fn graph_of<B: Builder>(
 }
 
 /// The graph that a closed state shows: its outline, the functions, and the tail calls among the
-/// edges.
-///
-/// The state's memory is left to the end of the process, which comes when the graph is printed: to
-/// give its many small blocks back one by one would take up to a tenth of a run.
+/// edges. The state is freed as soon as these are read off.
 fn graph_from<B: Builder>(
     by: &B,
     code: &Code,
@@ -77,7 +73,7 @@ fn graph_from<B: Builder>(
 {
     let outline = by.outline(code, &state)?;
     let functions = by.functions(code, seeds, &state, &outline)?;
-    mem::forget(state);
+    drop(state);
     let Outline { blocks, mut edges } = outline;
     mark_tails(&functions, &mut edges);
     Ok(Graph {

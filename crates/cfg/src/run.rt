@@ -26,7 +26,7 @@ use crate::answer::{report_of, summary_of};
 use crate::builder::{Alone, Builder, Workers};
 use crate::reading::{FILE_LIMIT, read_file};
 use crate::refusal::Refusal;
-use crate::sharing::{cuts_with, outline_with};
+use crate::sharing::{cuts_with, outline_with, state_with};
 use crate::status::Status;
 use crate::text::{Text, Unwritten};
 use cfg_io::{Input, Sink};
@@ -35,7 +35,7 @@ use cfg_words::{Request, request};
 use chain_index::ChainReaches;
 use code_view::{Code, Cuts};
 use core_state::State;
-use crew::{Gate, build};
+use crew::Gate;
 use elf_image::Image;
 use finaliser::Outline;
 use func_bodies::functions_by;
@@ -55,8 +55,9 @@ use std::thread::Threads;
 /// `complete` they do wherever neither the input nor standard output failed in this run and memory
 /// sufficed. The other clauses say what holds where something failed.
 ///
-/// From two workers on, workers build the graph, and pass the gate before each operation: the run
-/// may wait then. For one it calls [`run_one`].
+/// From two workers on, threads share the work. Where there are two seeds or more, workers build the
+/// closed states, and pass the gate before each operation. The run may wait then. For one worker it
+/// calls [`run_one`].
 pub fn run<R: Threads + Wait + Sync, I: Input, O: Sink, E: Sink, G: Gate>(
     rt: &R,
     alloc: Global,
@@ -120,7 +121,7 @@ pub fn run<R: Threads + Wait + Sync, I: Input, O: Sink, E: Sink, G: Gate>(
             requires { IsSync R.row × IsSync G.row × (2 ≤ count) × (count ≤ 64)
                 × AreSeeds (program_of code.now) seeds.now }
             ensures { IfOk result (λ state. IsClosed (program_of code.now) seeds.now state.maps) }
-        { build(rt, alloc, code, seeds, count, gate) };
+        { state_with(rt, alloc, code, seeds, count, gate) };
         let cuts = |code: &Code, state: &State| -> Result<Cuts, code_view::Memory>
             requires { IsSync R.row × (1 ≤ count) × (code.now.cuts ≡ map.empty)
                 × IsClosedFromSome (program_of code.now) state.now.maps }
