@@ -87,14 +87,14 @@ class Symbol(NamedTuple):
 class Section:
     """A section. Its size and its offset are what they should be, where nothing else is said."""
 
-    def __init__(self, kind: int, flags: int = 0, address: int = 0, data: bytes = b"") -> None:
-        self.kind, self.flags, self.address, self.data = kind, flags, address, data
+    def __init__(self, kind: int, flags: int = 0, address: int = 0, data: bytes = b"", alignment: int = 1) -> None:
+        self.kind, self.flags, self.address, self.data, self.alignment = kind, flags, address, data, alignment
         self.link = self.entry = 0
         self.size, self.offset = len(data), -1
 
     def header(self) -> bytes:
         places = (number % TOP_ADDRESS for number in (self.address, self.offset, self.size))
-        return struct.pack("<IIQQQQIIQQ", 0, self.kind, self.flags, *places, self.link, 0, 1, self.entry)
+        return struct.pack("<IIQQQQIIQQ", 0, self.kind, self.flags, *places, self.link, 0, self.alignment, self.entry)
 
 
 def code_bytes(halves: Halves) -> bytes:
@@ -115,6 +115,23 @@ def file_of(sections: Sequence[Section], entry: int = CODE_AT) -> bytes:
     header = struct.pack("<4sBBBB8xHHIQQQIHHHHHH", b"\x7fELF", 2, 1, 1, 0, 2, 243, 1, entry % TOP_ADDRESS, 0,
                          64 + len(body), 0, 64, 0, 0, 64, len(sections), 0)
     return header + body + b"".join(section.header() for section in sections)
+
+
+_NAMES = {(PROGBITS, CODE): b".text", (PROGBITS, ALLOC): b".rodata", (SYMTAB, 0): b".symtab", (STRTAB, 0): b".strtab"}
+
+
+def with_names(file: bytes) -> bytes:
+    """A file of `file_of` with a table of names for its sections, since GNU objdump finds no code without one."""
+    table, = struct.unpack_from("<Q", file, 40)
+    count, = struct.unpack_from("<H", file, 60)
+    named, strings = bytearray(file), b"\0" + b"\0".join(_NAMES.values()) + b"\0"
+    struct.pack_into("<HH", named, 60, count + 1, count)
+    for place in range(table, table + 64 * count, 64):
+        name = _NAMES.get(struct.unpack_from("<4xIQ", file, place), b"\0")
+        struct.pack_into("<I", named, place, strings.find(name))
+    names = Section(STRTAB, data=strings)
+    names.offset = len(file) + 64
+    return bytes(named) + names.header() + strings
 
 
 def symbol_table(symbols: Sequence[Symbol], link: int) -> Section:

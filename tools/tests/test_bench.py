@@ -9,10 +9,12 @@ import tempfile
 import unittest
 from pathlib import Path
 from typing import List, Optional
+from unittest import mock
 
 import rows
 import contrived
 from elf_file import Elf
+from test_tools import script
 
 DUMP = rows.TOOLS.parent / "crates" / "workers_dump" / "out" / "workers_dump"
 
@@ -37,35 +39,67 @@ class Contrived(unittest.TestCase):
         self.assertEqual(halves, [0x1463, 0x00B5, 0x006F, 0x00E0, 0x1463, 0x00B5, 0x006F, 0x0080, 0x8082])
 
     def test_words(self) -> None:
-        script = [sys.executable, "-B", str(rows.TOOLS / "contrived.py")]
-        self.assertEqual(subprocess.run([*script, "rising", "5", str(self.path)]).returncode, 0)
+        command = [sys.executable, "-B", str(rows.TOOLS / "contrived.py")]
+        self.assertEqual(subprocess.run([*command, "rising", "5", str(self.path)]).returncode, 0)
         self.assertEqual(self.path.read_bytes(), contrived.rising(5))
-        done = subprocess.run([*script, "no-shape", "5", str(self.path)], capture_output=True, text=True)
+        done = subprocess.run([*command, "no-shape", "5", str(self.path)], capture_output=True, text=True)
         self.assertEqual((done.returncode, done.stderr[:6]), (2, "usage:"))
 
 
 class Bench(unittest.TestCase):
-    def said(self, folder: str, *words: str) -> List[List[str]]:
-        """The cells of what bench prints of one made program, with a script in the place of cfg."""
-        program = Path(folder) / "cfg"
-        program.write_text("#!/bin/sh\n[ $# = 0 ] && exit 1\nexit 0\n")
-        program.chmod(0o755)
-        command = [sys.executable, "-B", str(rows.TOOLS / "bench"), "--small", "--only", "call_chain 8000", *words]
-        environment = dict(os.environ, CFG=str(program), PATH="/bin")
+    """What bench prints of one made program, with scripts in the place of cfg and of the other readers."""
+
+    def setUp(self) -> None:
+        folder = tempfile.TemporaryDirectory()
+        self.addCleanup(folder.cleanup)
+        self.folder = Path(folder.name)
+
+    def program(self, name: str, text: str) -> str:
+        path = self.folder / name
+        path.write_text(f"#!/bin/sh\n{text}\n")
+        path.chmod(0o755)
+        return str(path)
+
+    def said(self, wanted: str, *words: str) -> List[List[str]]:
+        """The cells of the table."""
+        cfg = self.program("cfg", f"[ $# = 0 ] && exit 1\necho \"$@\" >>'{self.folder}/words'\nexit 0")
+        command = [sys.executable, "-B", str(rows.TOOLS / "bench"), "--small", "--only", wanted, *words]
+        environment = dict(os.environ, CFG=cfg, PATH=str(self.folder))
         done = subprocess.run(command, env=environment, capture_output=True, text=True)
         self.assertEqual((done.returncode, done.stderr), (0, ""))
         return [[cell.strip() for cell in line.strip("|").split("|")] for line in done.stdout.splitlines()]
 
     def test_a_table(self) -> None:
-        with tempfile.TemporaryDirectory() as folder:
-            table = self.said(folder)
-            self.assertEqual(table[0][:3], ["Program", "Reader", "User and system"])
-            self.assertEqual([cells[:2] for cells in table[2:] if cells[1] == "cfg"], [["call_chain 8000", "cfg"]])
-            earlier = Path(folder) / "earlier"
-            earlier.write_text("| call_chain 8000 | cfg | 3.00 s | 3.00 s | 1 MB |  |  |\n")
-            again = self.said(folder, "--earlier", str(earlier))
-            self.assertEqual(again[2][5], "3.00 s")
-            self.assertGreater(float(again[2][6]), 1)
+        table = self.said("call_chain 8000")
+        self.assertEqual(table[0][:3], ["Program", "Reader", "User and system"])
+        self.assertEqual([cells[:2] for cells in table[2:]], [["call_chain 8000", "cfg"]])
+        earlier = self.folder / "earlier"
+        earlier.write_text("| call_chain 8000 | cfg | 3.00 s | 3.00 s | 1 MB |  |  |\n")
+        again = self.said("call_chain 8000", "--earlier", str(earlier))
+        self.assertEqual(again[2][5], "3.00 s")
+        self.assertGreater(float(again[2][6]), 1)
+
+    def test_a_program_made_in_memory(self) -> None:
+        copy = self.folder / "copy"
+        for name in ("llvm-objdump-13", "llvm-objdump-14", "llvm-objdump-18", "riscv64-linux-gnu-objdump"):
+            self.program(name, f"[ \"$1\" = -d ] && exec /bin/cp \"$2\" '{copy}'")
+        table = self.said("make")
+        readers = ["cfg", "llvm-objdump-18 -d", "riscv64-linux-gnu-objdump -d"]
+        self.assertEqual([cells[:2] for cells in table[2:]], [["--make 10000", reader] for reader in readers])
+        self.assertIn("--make 10000", (self.folder / "words").read_text().splitlines())
+        maker = script("made_program")
+        self.assertEqual(copy.read_bytes(), maker.with_names(maker.made(10_000)))
+
+    def test_who_takes_too_long(self) -> None:
+        bench = script("bench")
+        cfg, slow = self.program("cfg", ""), self.program("llvm-objdump", "exec /bin/sleep 60")
+        program = bench.Program("slow", ["slow"], slow)
+        with mock.patch.dict(os.environ, PATH=str(self.folder)), mock.patch.object(bench, "PATIENCE_WITH_OTHERS", 0.2):
+            alone, other = bench.readings(cfg, program)
+        self.assertIsNotNone(alone.taken)
+        self.assertEqual((alone.patience, other), (120, ("llvm-objdump -d", None, 0.2)))
+        cells = ("slow", "llvm-objdump -d", "over 20 s", "", "", "3.00 s", "")
+        self.assertEqual(bench.row("slow", other._replace(patience=bench.PATIENCE_WITH_OTHERS), 3.0), cells)
 
 
 class WorkersOf(unittest.TestCase):

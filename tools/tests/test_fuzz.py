@@ -60,6 +60,17 @@ class Maker(unittest.TestCase):
         self.assertEqual(elf.bytes_at(0x10000, 0x10004), struct.pack("<HH", 1, 0x8082))
         self.assertEqual(elf.place(0x10002), "end")
 
+    def test_names_of_sections(self) -> None:
+        plain = hostile.file_with(hostile.RETURN, [hostile.Symbol(0x10000, 1)], b"\0end\0")
+        file = hostile.with_names(plain)
+        table, = struct.unpack_from("<Q", file, 40)
+        count, index = struct.unpack_from("<HH", file, 60)
+        headers = [struct.unpack_from("<I20xQQ", file, table + 64 * number) for number in range(count)]
+        _, offset, size = headers[index]
+        names = [file[offset + name:offset + size].split(b"\0")[0] for name, _, _ in headers]
+        self.assertEqual(names, [b"", b".text", b".rodata", b".symtab", b".strtab", b""])
+        self.assertEqual((offset + size, file[64:table]), (len(file), plain[64:table]))
+
 
 class Fuzz(unittest.TestCase):
     """With a shell script in the place of cfg."""
