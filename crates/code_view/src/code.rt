@@ -4,7 +4,8 @@ use crate::cuts::Cuts;
 use crate::flow::{call_flow, in_code, jump_flow, straight_flow, table_flow};
 use crate::jump_word::is_jump_word;
 use crate::kept::kept_targets;
-use crate::register_jump::is_register_jump;
+use crate::memory::Memory as Exhausted;
+use crate::register_jump::{is_register_jump, register_jumps_of};
 use cfg_model::{Chains, Flow, Memory};
 use chain_index::ChainIndex;
 use elf_image::Image;
@@ -42,7 +43,7 @@ impl<'a> Model for Code<'a> {
 }
 
 impl<'a> Code<'a> {
-    ghost use Rattle.std.specs.Prelude.{◌≡◌, ◌≤◌, true, false, None, IsTrue, IfOk, vec_len};
+    ghost use Rattle.std.specs.Prelude.{◌≡◌, ◌≤◌, true, false, None, IsTrue, IfOk, All, vec_len};
     ghost use Rattle.std.specs.List.Sorted.{IsNonDecreasing};
     ghost use Rattle.std.specs.Option.{option_map_or};
     ghost use Rattle.elf_image.specs.Code.{is_code, half_at};
@@ -68,6 +69,24 @@ impl<'a> Code<'a> {
     {
         prove!(image.is_code(image.entry()));
         Code { image, index, cuts }
+    }
+
+    /// The same code under other cuts, each of which is one of a table of that image.
+    pub fn under<'b>(&'b self, cuts: &'b Cuts) -> Code<'b>
+        requires cuts { CutsFit self.now.bytes (cut_of cuts.now) }
+        ensures bytes { result.bytes ≡ self.now.bytes }
+        ensures cuts { result.cuts ≡ cuts.now }
+    {
+        Code::new(self.image, self.index, cuts)
+    }
+
+    /// The code addresses whose first halfword is that of a jump through a register that links to
+    /// x0, whether an instruction of the program begins there or not: all that may have a jump
+    /// table. It takes time linear in the sizes of the code sections.
+    pub fn register_jumps(&self, alloc: Global) -> Result<Vec<u64>, Exhausted>
+        ensures { IfOk result (λ jumps. All (λ a. IsTrue (is_code self.now.bytes a)) jumps.items) }
+    {
+        register_jumps_of(alloc, self.image)
     }
 
     /// The jump table of the jump at the code address `j`, before cuts; `None` exactly where it has

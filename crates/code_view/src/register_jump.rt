@@ -1,7 +1,13 @@
 //! Jumps through a register, told by their first halfword.
 
-ghost use Rattle.std.specs.Prelude.{◌≡◌};
+ghost use Rattle.std.specs.Prelude.{◌≡◌, All, IsTrue, IfOk, OnOk, ◌<◌};
+ghost use Rattle.elf_image.specs.Code.{is_code};
+ghost use Rattle.elf_image.specs.Header as header;
 ghost use Rattle.code_view.specs.RegisterJump.{is_register_jump};
+
+use crate::memory::Memory;
+use elf_image::{Image, Span, u16_at};
+use std::alloc::Global;
 
 /// Whether an instruction that begins with the halfword `half` jumps through a register and links
 /// to x0: a JALR, whose opcode is 67 and whose rd is 0, or a C.JR.
@@ -13,4 +19,39 @@ pub(crate) fn is_register_jump(half: u16) -> bool
     } else {
         half & 0x7F == 0b10 && half >> 12 & 0b1111 == 0b1000
     }
+}
+
+/// The code addresses of an image whose first halfword is that of a jump through a register,
+/// whether an instruction begins there or not.
+pub(crate) fn register_jumps_of(alloc: Global, image: &Image) -> Result<Vec<u64>, Memory>
+    ensures { IfOk result (λ jumps. All (λ a. IsTrue (is_code image.now a)) jumps.items) }
+{
+    let mut jumps = Vec::new(alloc);
+    for i in 0..image.section_count() {
+        add_register_jumps(image, i, &mut jumps)?;
+    }
+    Ok(jumps)
+}
+
+/// Adds those of section number `i`, where that is a code section.
+pub(crate) fn add_register_jumps(image: &Image, i: u32, jumps: &mut Vec<u64>) -> Result<(), Memory>
+    requires section { i < header.section_count image.now }
+    requires code { All (λ a. IsTrue (is_code image.now a)) jumps.old.items }
+    ensures { OnOk result (All (λ a. IsTrue (is_code image.now a)) jumps.new.items) }
+{
+    let section = image.section(i);
+    if !section.is_code() {
+        return Ok(());
+    }
+    let bytes = image.bytes(Span {
+        at: section.offset as u32,
+        len: section.size as u32,
+    });
+    for place in 0..bytes.len() / 2 {
+        let a = section.address.wrapping_add(2 * place as u64);
+        if is_register_jump(u16_at(bytes, 2 * place)) && image.is_code(a) {
+            jumps.push(a)?;
+        }
+    }
+    Ok(())
 }
