@@ -7,8 +7,9 @@ use core_state::{Memory, Name, WorkKind};
 use std::alloc::Global;
 use steal_pool::{Hand, Hands, Pool};
 
-/// All hands of a new pool, each with the names of its seeds: seed number `i` goes to hand `i`,
-/// where the first hand follows the last.
+/// All hands of a new pool, each with the names of its share of the seeds: the seeds rise, and the
+/// shares lie side by side and are as large as one another, or nearly so. So what a worker finds
+/// lies most often in its own part of the code, and others seldom write the memory that it reads.
 pub(crate) fn dealt(
     alloc: Global,
     pool: &Pool,
@@ -16,52 +17,29 @@ pub(crate) fn dealt(
     seeds: &[u64],
 ) -> Result<Vec<Hand>, Memory>
     requires fresh { AreFresh pool.now 0 hands }
-    requires some { 0 < workers_of pool.now }
     ensures { IfOk result (λ dealt. AreAllHands pool.now dealt.items) }
 {
     let mut all = in_order(alloc, pool, hands)?;
+    let mut rest = seeds;
     let workers = all.len();
     for number in 0..workers {
-        deal(&mut all[number], seeds, number, workers);
+        let (share, behind) = rest.split_at(rest.len() / (workers - number));
+        deal(&mut all[number], share);
+        rest = behind;
     }
     Ok(all)
 }
 
-/// Puts the names of its seeds into the hand with this number. Each hand begins at another part of
-/// the seeds, goes down and then round, so that workers begin far apart: neighbours would try for
-/// the same shards all the time. Of many seeds on one run of instructions the highest come first, so
-/// that each finds its neighbour in front of it.
-fn deal(hand: &mut Hand, seeds: &[u64], number: usize, workers: usize)
-    requires some { 0 < workers }
-    requires within { number < workers }
+/// Puts the names of these seeds into the hand, the last one first: of many seeds on one run of
+/// instructions each finds its neighbour in front of it then. A name that comes back is dropped,
+/// and its work is found when all workers have ended.
+fn deal(hand: &mut Hand, seeds: &[u64])
     ensures { IsSameHand hand.old hand.new }
 {
-    let start = (seeds.len() / workers)
-        .saturating_mul(number)
-        .min(seeds.len());
-    let (front, back) = seeds.split_at(start);
-    let ahead = start % workers;
-    let first = if ahead <= number {
-        number - ahead
-    } else {
-        workers - (ahead - number)
-    };
-    put_each(hand, front, number, workers);
-    put_each(hand, back, first, workers);
-}
-
-/// Puts the names of these seeds into the hand: of the one with number `first` and each `workers`-th
-/// one behind it, the last one first. A name that comes back is dropped, and its work is found when
-/// all workers have ended.
-fn put_each(hand: &mut Hand, seeds: &[u64], first: usize, workers: usize)
-    requires { 0 < workers }
-    ensures { IsSameHand hand.old hand.new }
-{
-    let rest = seeds.get(first..).unwrap_or(&[]);
-    for share in rest.chunks(workers).rev() {
+    for seed in seeds.iter().rev() {
         let _ = hand.put(Name {
             kind: WorkKind::Want,
-            key: share[0],
+            key: *seed,
         });
     }
 }
