@@ -1,6 +1,6 @@
 //! The blocks and edges of a program, made by several threads.
 
-ghost use Rattle.std.specs.Prelude.{◌≡◌, ℕ, ◌+◌, ◌≤◌, [], IfOk, length, vec_len, slice_index_or, All};
+ghost use Rattle.std.specs.Prelude.{◌≡◌, ℕ, ◌+◌, ◌≤◌, IfOk, length, vec_len, slice_index_or, All};
 ghost use Rattle.std.specs.List.{flat_map};
 ghost use Rattle.std.specs.List.Sorted.{IsNonDecreasing};
 ghost use Rattle.std.specs.Thread.{IsSync};
@@ -11,10 +11,10 @@ ghost use Rattle.finaliser.specs.Inner.Parts.{AreMade, ArePartOf, blocks_in, edg
 use crate::memory::Memory;
 use crate::outline::{Outline, blocks_and_edges, outline_from};
 use crate::part::{Part, read_ends};
-use cfg_model::Chains;
+use cfg_model::{Block, Chains, Edge};
 use core_state::State;
 use std::alloc::Global;
-use std::thread::{self, Threads};
+use std::thread::{self, Threads, join};
 use stretches::Stretch;
 
 /// The answer of [`blocks_and_edges`], made by one thread more than there are bounds: each makes
@@ -36,7 +36,7 @@ pub fn blocks_and_edges_by<R: Threads + Sync, C: Chains>(
         return blocks_and_edges(alloc, code, state);
     }
     let parts = made_by_gap(rt, alloc, code, state, bounds)?;
-    let part = joined(alloc, parts)?;
+    let part = joined(rt, alloc, &parts)?;
     Ok(outline_from(part))
 }
 
@@ -77,39 +77,73 @@ fn part_of<C: Chains>(
     Ok(part.in_order())
 }
 
-/// The blocks and edges of all these parts, one after another, or the first of their errors.
-fn joined(alloc: Global, parts: Vec<Result<Part, Memory>>) -> Result<Part, Memory>
-    ensures all { IfOk result (λ _. All AreMade parts.items) }
-    ensures blocks { IfOk result (λ part. part.blocks.items ≡ flat_map blocks_in parts.items) }
-    ensures edges { IfOk result (λ part. part.edges.items ≡ flat_map edges_in parts.items) }
+/// The blocks and edges of all these parts, one after another, or one of their errors. The blocks
+/// are put together by one thread, and the edges by another.
+fn joined<R: Threads>(rt: &R, alloc: Global, parts: &[Result<Part, Memory>]) -> Result<Part, Memory>
+    ensures all { IfOk result (λ _. All AreMade parts.now) }
+    ensures blocks { IfOk result (λ part. part.blocks.items ≡ flat_map blocks_in parts.now) }
+    ensures edges { IfOk result (λ part. part.edges.items ≡ flat_map edges_in parts.now) }
 {
-    let Part {
-        mut blocks,
-        mut edges,
-    } = room_for(alloc, &parts)?;
-    for part in parts {
-        let mut part = part?;
-        blocks.append(&mut part.blocks)?;
-        edges.append(&mut part.edges)?;
-    }
-    Ok(Part { blocks, edges })
+    all_made(parts)?;
+    let (blocks, edges) = join(
+        rt,
+        || -> Result<Vec<Block>, Memory>
+            ensures { IfOk result (λ blocks. blocks.items ≡ flat_map blocks_in parts.entry.now) }
+        { joined_blocks(alloc, parts) },
+        || -> Result<Vec<Edge>, Memory>
+            ensures { IfOk result (λ edges. edges.items ≡ flat_map edges_in parts.entry.now) }
+        { joined_edges(alloc, parts) },
+    );
+    Ok(Part {
+        blocks: blocks?,
+        edges: edges?,
+    })
 }
 
-/// No blocks and edges, with room for those of all these parts.
-fn room_for(alloc: Global, parts: &[Result<Part, Memory>]) -> Result<Part, Memory>
-    ensures blocks { IfOk result (λ part. part.blocks.items ≡ []) }
-    ensures edges { IfOk result (λ part. part.edges.items ≡ []) }
+/// The first error of these parts, if there is any.
+fn all_made(parts: &[Result<Part, Memory>]) -> Result<(), Memory>
+    ensures { IfOk result (λ _. All AreMade parts.now) }
 {
-    let mut blocks = 0_usize;
-    let mut edges = 0_usize;
     for part in parts {
-        if let Ok(part) = part {
-            blocks = blocks.saturating_add(part.blocks.len());
-            edges = edges.saturating_add(part.edges.len());
+        if let Err(e) = part {
+            return Err(*e);
         }
     }
-    Ok(Part {
-        blocks: Vec::with_capacity(alloc, blocks)?,
-        edges: Vec::with_capacity(alloc, edges)?,
-    })
+    Ok(())
+}
+
+/// The blocks of all these parts, one after another, or the first of their errors.
+fn joined_blocks(alloc: Global, parts: &[Result<Part, Memory>]) -> Result<Vec<Block>, Memory>
+    ensures { IfOk result (λ blocks. blocks.items ≡ flat_map blocks_in parts.now) }
+{
+    let mut count = 0_usize;
+    for part in parts {
+        count = count.saturating_add(part.as_ref().map_or(0, |part| part.blocks.len()));
+    }
+    let mut blocks = Vec::with_capacity(alloc, count)?;
+    for part in parts {
+        match part {
+            Ok(part) => blocks.extend_from_slice(&part.blocks)?,
+            Err(e) => return Err(*e),
+        }
+    }
+    Ok(blocks)
+}
+
+/// The edges of all these parts, one after another, or the first of their errors.
+fn joined_edges(alloc: Global, parts: &[Result<Part, Memory>]) -> Result<Vec<Edge>, Memory>
+    ensures { IfOk result (λ edges. edges.items ≡ flat_map edges_in parts.now) }
+{
+    let mut count = 0_usize;
+    for part in parts {
+        count = count.saturating_add(part.as_ref().map_or(0, |part| part.edges.len()));
+    }
+    let mut edges = Vec::with_capacity(alloc, count)?;
+    for part in parts {
+        match part {
+            Ok(part) => edges.extend_from_slice(&part.edges)?,
+            Err(e) => return Err(*e),
+        }
+    }
+    Ok(edges)
 }
