@@ -1,6 +1,6 @@
 //! The ways between blocks within functions, with the blocks by number.
 
-ghost use Rattle.std.specs.Prelude.{◌≡◌, ◌↔◌, ℕ, ◌<◌, ◌≤◌, All, AllPairs, Contains, IfOk};
+ghost use Rattle.std.specs.Prelude.{◌≡◌, ◌↔◌, ℕ, ◌<◌, ◌≤◌, All, AllPairs, Contains, IfOk, IfSome, IfNone};
 ghost use Rattle.std.specs.Prelude.{length, slice_index_or};
 ghost use Rattle.std.specs.List.Sorted.{IsNonDecreasingBy, IsStrictlyIncreasing};
 ghost use Rattle.cfg_model.specs.Graph.Graph.{BlockBefore};
@@ -13,6 +13,9 @@ use crate::memory::Memory;
 use cfg_model::{Block, Edge, EdgeKind};
 use std::alloc::Global;
 use std::marker::Model;
+
+/// How far in front of a block and behind it another one is looked for first.
+const NEAR: usize = 32;
 
 /// A way from one block to another: an edge that is no call, with the two blocks by their places in
 /// the list of all blocks.
@@ -97,8 +100,8 @@ fn first_from(ways: &[Way], mut first: usize, i: usize) -> usize
 }
 
 /// The ways of these edges, which are in the order of the blocks that they leave. It takes time
-/// linear in the edges, the blocks and the entries, but for a search among the blocks at each way
-/// that leads neither to the block behind it nor to its own.
+/// linear in the edges, the blocks and the entries, but for a search at each way that leads neither
+/// to the block behind it nor to its own: among some 64 blocks, or among all where it leads further.
 pub(crate) fn ways_of(
     alloc: Global,
     blocks: &[Block],
@@ -160,7 +163,7 @@ fn number_from(blocks: &[Block], mut i: usize, a: u64) -> usize
 }
 
 /// The place of the block that starts at `a` among these blocks: most often it lies right behind
-/// block `i`, or is that block, and only else this searches.
+/// block `i`, or is that block, or lies near it, and only else this searches among all.
 fn number_near(blocks: &[Block], i: usize, a: u64) -> usize
     requires blocks { AllPairs BlockBefore blocks.now }
     requires starts { HasBlockAt blocks.now a }
@@ -168,11 +171,16 @@ fn number_near(blocks: &[Block], i: usize, a: u64) -> usize
     ensures { IsNumber blocks.now result a }
 {
     if i + 1 < blocks.len() && blocks[i + 1].start == a {
-        i + 1
-    } else if blocks[i].start == a {
-        i
-    } else {
-        number_of(blocks, a)
+        return i + 1;
+    }
+    if blocks[i].start == a {
+        return i;
+    }
+    let first = i.saturating_sub(NEAR);
+    let behind = blocks.len().min(i.saturating_add(NEAR));
+    match number_among(&blocks[first..behind], a) {
+        Some(place) => first + place,
+        None => number_of(blocks, a),
     }
 }
 
@@ -182,8 +190,20 @@ pub(crate) fn number_of(blocks: &[Block], a: u64) -> usize
     requires starts { HasBlockAt blocks.now a }
     ensures { IsNumber blocks.now result a }
 {
+    match number_among(blocks, a) {
+        Some(i) => i,
+        None => unreachable!(),
+    }
+}
+
+/// The place of the block that starts at `a` among these blocks, where there is one.
+fn number_among(blocks: &[Block], a: u64) -> Option<usize>
+    requires { AllPairs BlockBefore blocks.now }
+    ensures some { IfSome result (λ i. IsNumber blocks.now i a) }
+    ensures none { IfNone result (¬ HasBlockAt blocks.now a) }
+{
     match blocks.binary_search_by_key(&a, |block| block.start) {
-        Ok(i) => i,
-        Err(_) => unreachable!(),
+        Ok(i) => Some(i),
+        Err(_) => None,
     }
 }
