@@ -8,14 +8,17 @@
 //! - `bases`: where these tables begin.
 //! - `trim`: their cuts.
 //! - `sharing`: the same, made by several threads.
+//! - `likely`: the cuts that all jump tables of the code would give, reached or not.
 #![tactic(auto)]
 
 mod bases;
 mod jumps;
+mod likely;
 mod sharing;
 #[cfg(test)]
 mod tests;
 mod trim;
 
+pub use likely::likely_cuts;
 pub use sharing::cuts_by;
 pub use trim::cuts;

@@ -4,7 +4,7 @@ ghost use Rattle.std.specs.Prelude.{ℕ, List, IsSome, IfOk};
 ghost use Rattle.cfg_model.specs.Builder.Kept.{IsClosed};
 ghost use Rattle.code_view.specs.FileCode.{program_of};
 
-use crate::{cuts, cuts_by};
+use crate::{cuts, cuts_by, likely_cuts};
 use alone::build_alone;
 use cfg_model::{Chains, Flow};
 use cfg_vectors::row_file;
@@ -95,5 +95,19 @@ fn cuts_a_table_where_another_begins(rt: HostRuntime) -> Result<(), Fail> {
             is_open: false
         }
     );
+    Ok(())
+}
+
+#[test]
+fn cuts_that_all_tables_would_give(rt: HostRuntime) -> Result<(), Fail> {
+    let file = row_file(rt.alloc(), 15, 0)?;
+    let image = Image::parse(rt.alloc(), file)?;
+    let index = ChainIndex::new(rt.alloc(), &image)?;
+    let none = Cuts::none(rt.alloc());
+    let code = Code::new(&image, &index, &none);
+    let likely = likely_cuts(rt.alloc(), &code)?;
+    assert_eq!(rt; likely.count(FIRST), Some(2));
+    assert_eq!(rt; likely.count(SECOND), None);
+    assert!(rt; !likely.is_same(&none) && none.is_same(&Cuts::none(rt.alloc())));
     Ok(())
 }
