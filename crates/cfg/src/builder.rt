@@ -1,7 +1,8 @@
 //! Who builds a graph: the caller's thread, or workers.
 
-ghost use Rattle.cfg.specs.Inner.{Builds, FindsCuts, Makes, ReadsOff, Surveys};
+ghost use Rattle.cfg.specs.Inner.{Begins, Builds, FindsCuts, Makes, ReadsOff, Surveys};
 
+use crate::ahead::First;
 use alone::build_alone;
 use cfg_model::Functions;
 use chain_index::ChainReaches;
@@ -14,7 +15,7 @@ use std::alloc::Global;
 use table_trim::cuts;
 
 /// Who does the parts of a graph's making that several threads can share: the reaches of the chains,
-/// the closed state, the cuts of jump tables, and the outline and the functions that the state
+/// the closed states, the cuts of jump tables, and the outline and the functions that a state
 /// shows. Whoever does them answers the same, or want of memory.
 pub trait Builder {
     ghost use Rattle.std.specs.Prelude.{◌≡◌, List, ℕ, IfOk, ⊤};
@@ -31,6 +32,7 @@ pub trait Builder {
     ghost use Rattle.finaliser.specs.Closed.{IsClosedFromSome, IsOutlineOf};
     ghost use Rattle.table_trim.specs.Extents.{extent_at};
     ghost use Rattle.func_bodies.specs.Listed.{AreOrdered, HaveEachEntry};
+    ghost use Rattle.cfg.specs.Inner.{IsFirstOf};
 
     /// What holds of a builder that may be asked.
     ghost ready: { Self → Type 0 } = { λ _. ⊤ };
@@ -39,6 +41,14 @@ pub trait Builder {
     fn reaches(&self, image: &Image) -> Result<ChainReaches, chain_index::Memory>
         requires ready { ready self.now }
         ensures reaches { IfOk result (AreReachesOf image.now) };
+
+    /// The closed state of the program `code`, which has no cuts yet, and perhaps one under likely
+    /// cuts, built meanwhile.
+    fn first(&self, code: &Code, seeds: &[u64]) -> Result<First, core_state::Memory>
+        requires ready { ready self.now }
+        requires uncut { code.now.cuts ≡ map.empty }
+        requires seeds { AreSeeds (program_of code.now) seeds.now }
+        ensures first { IfOk result (IsFirstOf code.now seeds.now) };
 
     /// The closed state of the program `code` whose seeds are `seeds`.
     fn state(&self, code: &Code, seeds: &[u64]) -> Result<State, core_state::Memory>
@@ -94,6 +104,13 @@ impl Builder for Alone {
         ChainReaches::new(self.alloc, image)
     }
 
+    fn first(&self, code: &Code, seeds: &[u64]) -> Result<First, core_state::Memory> {
+        Ok(First {
+            state: build_alone(self.alloc, code, seeds)?,
+            ahead: None,
+        })
+    }
+
     fn state(&self, code: &Code, seeds: &[u64]) -> Result<State, core_state::Memory> {
         build_alone(self.alloc, code, seeds)
     }
@@ -120,9 +137,11 @@ impl Builder for Alone {
 /// Workers, as the closures that set them to work. What starts threads has to stand where the
 /// runtime is: a method of an `impl` hands its block's bounds to no other thread.
 #[derive(Drop)]
-pub struct Workers<X, S, K, O, F> {
+pub struct Workers<X, N, S, K, O, F> {
     /// Makes what an index keeps.
     pub reaches: X,
+    /// Builds the first closed state.
+    pub first: N,
     /// Builds a closed state.
     pub state: S,
     /// Finds the cuts of jump tables.
@@ -135,12 +154,14 @@ pub struct Workers<X, S, K, O, F> {
 
 impl<
     X: Fn(&Image) -> Result<ChainReaches, chain_index::Memory>,
+    N: Fn(&Code, &[u64]) -> Result<First, core_state::Memory>,
     S: Fn(&Code, &[u64]) -> Result<State, core_state::Memory>,
     K: Fn(&Code, &State) -> Result<Cuts, code_view::Memory>,
     O: Fn(&Code, &State) -> Result<Outline, finaliser::Memory>,
     F: Fn(&Code, &[u64], &State, &Outline) -> Result<Functions, func_bodies::Memory>,
-> Builder for Workers<X, S, K, O, F> {
+> Builder for Workers<X, N, S, K, O, F> {
     ghost ready = { λ workers. Surveys (X.pre workers.reaches) (X.post workers.reaches)
+        × Begins (N.pre workers.first) (N.post workers.first)
         × Builds (S.pre workers.state) (S.post workers.state)
         × FindsCuts (K.pre workers.cuts) (K.post workers.cuts)
         × ReadsOff (O.pre workers.outline) (O.post workers.outline)
@@ -148,6 +169,10 @@ impl<
 
     fn reaches(&self, image: &Image) -> Result<ChainReaches, chain_index::Memory> {
         (self.reaches)(image)
+    }
+
+    fn first(&self, code: &Code, seeds: &[u64]) -> Result<First, core_state::Memory> {
+        (self.first)(code, seeds)
     }
 
     fn state(&self, code: &Code, seeds: &[u64]) -> Result<State, core_state::Memory> {

@@ -18,15 +18,17 @@ ghost use Rattle.cfg.specs.Answer.{IsAnswer, text_answer};
 ghost use Rattle.cfg.specs.Refusal.{status_of};
 ghost use Rattle.cfg.specs.Lines.{refusal_line};
 ghost use Rattle.cfg.specs.Text.{bytes_of};
-ghost use Rattle.cfg.specs.Inner.{AnswersCuts, AnswersFunctions, IsTrueOf, IsOfFile, IsFaultless};
+ghost use Rattle.cfg.specs.Inner.{AnswersCuts, AnswersFunctions, IsFirstOf};
+ghost use Rattle.cfg.specs.Inner.{IsTrueOf, IsOfFile, IsFaultless};
 ghost use Rattle.cfg.specs.Run.{Grows, Tells, IsDecided, HasRead};
 ghost use Rattle.cfg.specs.Run.{Gives, GivesPart, IsLineOf, OpenedFor};
 
+use crate::ahead::First;
 use crate::answer::{report_of, summary_of};
 use crate::builder::{Alone, Builder, Workers};
 use crate::reading::{FILE_LIMIT, read_file};
 use crate::refusal::Refusal;
-use crate::sharing::{cuts_with, outline_with, state_with};
+use crate::sharing::{cuts_with, first_with, outline_with, state_with};
 use crate::status::Status;
 use crate::text::{Text, Unwritten};
 use cfg_io::{Input, Sink};
@@ -117,6 +119,11 @@ pub fn run<R: Threads + Wait + Sync, I: Input, O: Sink, E: Sink, G: Gate>(
             requires { IsSync R.row × (1 ≤ count) × (count ≤ 64) }
             ensures { IfOk result (AreReachesOf image.now) }
         { ChainReaches::new_by(rt, alloc, image, count) };
+        let first = |code: &Code, seeds: &[u64]| -> Result<First, core_state::Memory>
+            requires { IsSync R.row × IsSync G.row × (2 ≤ count) × (count ≤ 64)
+                × (code.now.cuts ≡ map.empty) × AreSeeds (program_of code.now) seeds.now }
+            ensures { IfOk result (IsFirstOf code.now seeds.now) }
+        { first_with(rt, alloc, code, seeds, count, gate) };
         let state = |code: &Code, seeds: &[u64]| -> Result<State, core_state::Memory>
             requires { IsSync R.row × IsSync G.row × (2 ≤ count) × (count ≤ 64)
                 × AreSeeds (program_of code.now) seeds.now }
@@ -143,6 +150,7 @@ pub fn run<R: Threads + Wait + Sync, I: Input, O: Sink, E: Sink, G: Gate>(
         { functions_by(rt, alloc, code, seeds, state, outline, count) };
         let by = Workers {
             reaches,
+            first,
             state,
             cuts,
             outline,

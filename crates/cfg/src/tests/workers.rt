@@ -12,7 +12,7 @@ use chain_index::ChainIndex;
 use code_view::{Code, Cuts};
 use core_state::WorkKind;
 use crew::{Gate, OpenGate, work};
-use elf_image::Image;
+use elf_image::{Image, u64_at};
 use elf_symbols::seeds;
 use std::alloc::Global;
 use std::hint;
@@ -75,6 +75,27 @@ fn workers_agree(rt: HostRuntime) -> Result<(), Fail> {
         agree(&rt, row, &bytes)?;
     }
     Ok(())
+}
+
+// The same where the entry is the only seed, and only the first of two tables is reached: then what
+// was built under the cuts of both is not the answer.
+#[test]
+fn one_seed_agrees(rt: HostRuntime) -> Result<(), Fail> {
+    for (row, other) in [(15, 0x10028), (34, 0x10020)] {
+        let mut bytes = row_file(rt.alloc(), row, 0)?;
+        name_entry(&mut bytes, other);
+        agree(&rt, row, &bytes)?;
+    }
+    Ok(())
+}
+
+// Makes the symbol with this value one of the entry, 0x10000.
+fn name_entry(bytes: &mut [u8], value: u64) {
+    for at in 0..bytes.len().saturating_sub(8) {
+        if u64_at(bytes, at) == value {
+            bytes[at] = 0;
+        }
+    }
 }
 
 // The same for the file of this row.

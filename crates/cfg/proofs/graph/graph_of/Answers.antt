@@ -14,7 +14,7 @@ returns-then-is_empty-clause-graph g c =
     let bytes = c.args.image.now in
     let are = cuts-of bytes c.new-uncut.result.bytes c.args.seeds.now c.new-uncut.result.cuts c.in_ok-cuts.cuts
     c.new-uncut.ensures.bytes (c.new-uncut.ensures.cuts ∙ c.none-none.ensures) c.requires.all
-    (c.in_ok-cuts.ensures.cuts c.args.seeds.now c.in_ok-state.ensures.closed) in
+    (c.in_ok-cuts.ensures.cuts c.args.seeds.now c.in_ok-state.ensures.first.closed) in
     if_ok_map c.graph_from.result
     (λ graph is. record {
       cuts = map.empty;
@@ -29,7 +29,7 @@ returns-clause-graph g c =
     let bytes = c.args.image.now in
     let are = cuts-of bytes c.new-uncut.result.bytes c.args.seeds.now c.new-uncut.result.cuts c.in_ok-cuts.cuts
     c.new-uncut.ensures.bytes (c.new-uncut.ensures.cuts ∙ c.none-none.ensures) c.requires.all
-    (c.in_ok-cuts.ensures.cuts c.args.seeds.now c.in_ok-state.ensures.closed) in
+    (c.in_ok-cuts.ensures.cuts c.args.seeds.now c.in_ok-state.ensures.first.closed) in
     if_ok_map c.graph_from-2.result
     (λ graph is. record {
       cuts = c.in_ok-cuts.cuts;
