@@ -57,9 +57,10 @@ use std::thread::Threads;
 /// `complete` they do wherever neither the input nor standard output failed in this run and memory
 /// sufficed. The other clauses say what holds where something failed.
 ///
-/// From two workers on, threads share the work. Where there are two seeds or more, workers build the
-/// closed states, and pass the gate before each operation. The run may wait then. For one worker it
-/// calls [`run_one`].
+/// From two workers on, threads share the work. Where tables may overlap, half of the workers build
+/// one closed state, and the others a second one beside it. Two workers or more for one state, and
+/// two seeds or more, share a board, and pass the gate before each operation. The run may wait then.
+/// For one worker it calls [`run_one`].
 pub fn run<R: Threads + Wait + Sync, I: Input, O: Sink, E: Sink, G: Gate>(
     rt: &R,
     alloc: Global,
