@@ -3,4 +3,5 @@ pub mod Lawful
 pub mod Views
 pub mod ChainEnds
 pub mod RegisterJumps
+pub mod JumpsFound
 pub mod EndLengths

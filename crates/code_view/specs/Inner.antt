@@ -1,8 +1,11 @@
--- Words that no public clause cites: what `Code` keeps.
-use Rattle.std.specs.Prelude.{◌≡◌}
+-- Words that no public clause cites: what `Code` keeps, and what a pass over the sections has found.
+use Rattle.std.specs.Prelude.{◌≡◌, ℕ, ◌<◌, IsTrue, List, Contains, Some}
+use Rattle.elf_image.specs.Sections.{section}
+use Rattle.elf_image.specs.Code.{code_section_of}
 use Rattle.elf_image.specs.Faults.{IsImage}
 use Rattle.code_view.specs.declared.code.Code.TheInside.{Inside}
 use Rattle.code_view.specs.Cuts.{cut_of, CutsFit}
+use Rattle.code_view.specs.RegisterJump.{is_register_jump_at}
 
 -- The file has no fault, the cuts are those of tables of the file, and the index is that of the
 -- file.
@@ -10,3 +13,10 @@ pub record IsCodeOf (c : Inside) : Type 0 where
   pub accepted : IsImage c.image.now
   pub cuts : CutsFit c.image.now (cut_of c.cuts.now)
   pub index : c.index.now ≡ c.image.now
+
+-- These are addresses whose first halfword is that of a jump through a register, and all of those
+-- whose code section is among the first n sections.
+pub record AreJumpsOfFirst (bytes : List ℕ) (n : ℕ) (jumps : List ℕ) : Type 0 where
+  pub sound : (a : ℕ) → Contains jumps a → IsTrue (is_register_jump_at bytes a)
+  pub complete : (i a : ℕ) → i < n → code_section_of bytes a ≡ Some (section bytes i)
+      → IsTrue (is_register_jump_at bytes a) → Contains jumps a

@@ -4,9 +4,9 @@ use crate::cuts::Cuts;
 use crate::flow::{call_flow, in_code, jump_flow, straight_flow, table_flow};
 use crate::jump_word::is_jump_word;
 use crate::kept::kept_targets;
-use crate::memory::Memory as Exhausted;
+use crate::memory::Memory;
 use crate::register_jump::{is_register_jump, register_jumps_of};
-use cfg_model::{Chains, Flow, Memory};
+use cfg_model::{Chains, Flow};
 use chain_index::ChainIndex;
 use elf_image::Image;
 use jump_table::{Table, find_table, target_of};
@@ -43,7 +43,8 @@ impl<'a> Model for Code<'a> {
 }
 
 impl<'a> Code<'a> {
-    ghost use Rattle.std.specs.Prelude.{◌≡◌, ◌≤◌, true, false, None, IsTrue, IfOk, All, vec_len};
+    ghost use Rattle.std.specs.Prelude.{◌≡◌, ℕ, ◌≤◌, true, false, None, IsTrue, IsSome, IfOk};
+    ghost use Rattle.std.specs.Prelude.{All, Contains, vec_len};
     ghost use Rattle.std.specs.List.Sorted.{IsNonDecreasing};
     ghost use Rattle.std.specs.Option.{option_map_or};
     ghost use Rattle.elf_image.specs.Code.{is_code, half_at};
@@ -53,7 +54,7 @@ impl<'a> Code<'a> {
     ghost use Rattle.code_view.specs.Flow.{flow_by};
     ghost use Rattle.code_view.specs.Program.{program_under};
     ghost use Rattle.code_view.specs.FileCode.{program_of};
-    ghost use Rattle.code_view.specs.RegisterJump.{is_register_jump_at};
+    ghost use Rattle.code_view.specs.RegisterJump.{is_register_jump_at, AreRegisterJumps};
     ghost use Rattle.code_view.specs.JumpWord.{is_jump_word};
     ghost use Rattle.cfg_model.specs.Program.Instructions.{flow_at, IsLawful};
 
@@ -81,10 +82,14 @@ impl<'a> Code<'a> {
     }
 
     /// The code addresses whose first halfword is that of a jump through a register that links to
-    /// x0, whether an instruction of the program begins there or not: all that may have a jump
-    /// table. It takes time linear in the sizes of the code sections.
-    pub fn register_jumps(&self, alloc: Global) -> Result<Vec<u64>, Exhausted>
-        ensures { IfOk result (λ jumps. All (λ a. IsTrue (is_code self.now.bytes a)) jumps.items) }
+    /// x0, whether an instruction of the program begins there or not: no other has a jump table. It
+    /// takes time linear in the sizes of the code sections.
+    pub fn register_jumps(&self, alloc: Global) -> Result<Vec<u64>, Memory>
+        ensures exact { IfOk result (λ jumps. AreRegisterJumps self.now.bytes jumps.items) }
+        ensures tables { IfOk result
+            (λ jumps. (a : ℕ) → IsSome (table_at self.now.bytes a) → Contains jumps.items a) }
+        ensures code { IfOk result
+            (λ jumps. All (λ a. IsTrue (is_code self.now.bytes a)) jumps.items) }
     {
         register_jumps_of(alloc, self.image)
     }
@@ -210,7 +215,7 @@ impl<'a> Chains for Code<'a> {
         target_of(self.image, a, i)
     }
 
-    fn targets(&self, a: u64) -> Result<Vec<u64>, Memory> {
+    fn targets(&self, a: u64) -> Result<Vec<u64>, cfg_model::Memory> {
         match self.table(a) {
             Some(table) => kept_targets(self.cuts.alloc(), self.image, self.cuts.count(a), table),
             None => Ok(Vec::new(self.cuts.alloc())),

@@ -53,13 +53,6 @@ impl Cuts {
         self.counts.is_empty()
     }
 
-    /// Whether the other cuts are the same.
-    pub fn is_same(&self, other: &Cuts) -> bool
-        ensures { IsTrue result → self.now ≡ other.now }
-    {
-        self.counts == other.counts
-    }
-
     /// The cut of the jump at `j`; `None` exactly where it has no cut.
     pub fn count(&self, j: u64) -> Option<u32>
         ensures { result ≡ cut_of self.now j }

@@ -1,9 +1,9 @@
 //! Jumps through a register, told by their first halfword.
 
-ghost use Rattle.std.specs.Prelude.{◌≡◌, All, IsTrue, IfOk, OnOk, ◌<◌};
-ghost use Rattle.elf_image.specs.Code.{is_code};
+ghost use Rattle.std.specs.Prelude.{◌≡◌, ◌+◌, ◌<◌, IfOk, OnOk};
 ghost use Rattle.elf_image.specs.Header as header;
-ghost use Rattle.code_view.specs.RegisterJump.{is_register_jump};
+ghost use Rattle.code_view.specs.RegisterJump.{is_register_jump, AreRegisterJumps};
+ghost use Rattle.code_view.specs.Inner.{AreJumpsOfFirst};
 
 use crate::memory::Memory;
 use elf_image::{Image, Span, u16_at};
@@ -24,7 +24,7 @@ pub(crate) fn is_register_jump(half: u16) -> bool
 /// The code addresses of an image whose first halfword is that of a jump through a register,
 /// whether an instruction begins there or not.
 pub(crate) fn register_jumps_of(alloc: Global, image: &Image) -> Result<Vec<u64>, Memory>
-    ensures { IfOk result (λ jumps. All (λ a. IsTrue (is_code image.now a)) jumps.items) }
+    ensures { IfOk result (λ jumps. AreRegisterJumps image.now jumps.items) }
 {
     let mut jumps = Vec::new(alloc);
     for i in 0..image.section_count() {
@@ -34,13 +34,13 @@ pub(crate) fn register_jumps_of(alloc: Global, image: &Image) -> Result<Vec<u64>
 }
 
 /// Adds those of section number `i`, where that is a code section.
-pub(crate) fn add_register_jumps(image: &Image, i: u32, jumps: &mut Vec<u64>) -> Result<(), Memory>
+fn add_register_jumps(image: &Image, i: u32, jumps: &mut Vec<u64>) -> Result<(), Memory>
     requires section { i < header.section_count image.now }
-    requires code { All (λ a. IsTrue (is_code image.now a)) jumps.old.items }
-    ensures { OnOk result (All (λ a. IsTrue (is_code image.now a)) jumps.new.items) }
+    requires before { AreJumpsOfFirst image.now i jumps.old.items }
+    ensures { OnOk result (AreJumpsOfFirst image.now (i + 1) jumps.new.items) }
 {
     let section = image.section(i);
-    if !section.is_code() {
+    if !section.is_code() || section.size < 2 {
         return Ok(());
     }
     let bytes = image.bytes(Span {
@@ -48,9 +48,8 @@ pub(crate) fn add_register_jumps(image: &Image, i: u32, jumps: &mut Vec<u64>) ->
         len: section.size as u32,
     });
     for place in 0..bytes.len() / 2 {
-        let a = section.address.wrapping_add(2 * place as u64);
-        if is_register_jump(u16_at(bytes, 2 * place)) && image.is_code(a) {
-            jumps.push(a)?;
+        if is_register_jump(u16_at(bytes, 2 * place)) {
+            jumps.push(section.address + 2 * place as u64)?;
         }
     }
     Ok(())
