@@ -12,7 +12,8 @@ use Rattle.jump_table.specs.declared.table.Table.{Table}
 use Rattle.jump_table.specs.Table.{table_at}
 use Rattle.jump_table.proofs.Targets.{is_table}
 use Rattle.table_trim.specs.declared.jumps.TableJump.{TableJump}
-use Rattle.table_trim.specs.Inner.{IsBaseOf, AreBases, AreTablesOf, addresses_of}
+use Rattle.table_trim.specs.Tables.{AreTablesOf, addresses_of}
+use Rattle.table_trim.specs.Inner.{IsBaseOf, AreBases}
 
 -- The base of the table of jump k is there.
 abbrev pub HasBase : List ℕ → List ℕ → List ℕ → ℕ → Type 0

@@ -16,7 +16,8 @@ use Rattle.cfg_model.proofs.Builder.MapFacts.{same_or_other, get_here, get_apart
 use Rattle.code_view.specs.Cuts.{Counts, cut_of, CutsFit}
 use Rattle.table_trim.specs.Extents.{extent_of, extent_at}
 use Rattle.table_trim.specs.declared.jumps.TableJump.{TableJump}
-use Rattle.table_trim.specs.Inner.{IsBaseOf, AreBases, IsInside, IsCutBy, CutBy, AreTablesOf, addresses_of}
+use Rattle.table_trim.specs.Tables.{AreTablesOf, addresses_of}
+use Rattle.table_trim.specs.Inner.{IsBaseOf, AreBases, IsInside, IsCutBy, CutBy}
 use Rattle.table_trim.proofs.Found.{same_length, jump_is, table_is}
 
 -- A jump whose table is cut to this many entries.

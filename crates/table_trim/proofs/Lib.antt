@@ -5,3 +5,5 @@ pub mod Flows
 pub mod Walk
 pub mod Reached
 pub mod Shared
+pub mod Fewer
+pub mod AllTables

@@ -17,7 +17,8 @@ use Rattle.cfg_model.specs.Builder.State.{BuilderState, IsEntered}
 use Rattle.status_laws.proofs.ClosedLaws.{settled, closed_shows_graph}
 use Rattle.code_view.specs.Program.{program_under}
 use Rattle.table_trim.specs.Extents.{extent_of, extent_at}
-use Rattle.table_trim.specs.Inner.{HasTable, IsTableJump}
+use Rattle.table_trim.specs.Tables.{HasTable}
+use Rattle.table_trim.specs.Inner.{IsTableJump}
 use Rattle.table_trim.proofs.Flows.{table-code, table-ends}
 
 -- ---- the instruction of a known terminator
@@ -48,6 +49,11 @@ module _ (map : InstructionMap) (seeds : List ℕ) (state : BuilderState) (close
 
 abbrev IsReachedJump : InstructionMap → List ℕ → List ℕ → ℕ → Type 0
 IsReachedJump map seeds bytes j = Reached map seeds j × HasTable bytes j
+
+-- An entered terminator is reached.
+pub reached_jump : (bytes : List ℕ) (cuts : ℕ → Option ℕ) (seeds : List ℕ) (state : BuilderState) → IsLawful (program_under bytes cuts) → IsClosed (program_under bytes cuts) seeds state
+    → (j : ℕ) → IsEntered state.terminators j → Reached (program_under bytes cuts) seeds j
+reached_jump bytes cuts seeds state lawful closed j entered = (((closed_shows_graph (program_under bytes cuts) seeds lawful state closed).terminators j).0 entered).reached
 
 module _ (bytes : List ℕ) (cuts : ℕ → Option ℕ) (seeds : List ℕ) (state : BuilderState) (closed : IsClosed (program_under bytes cuts) seeds state) where
   abbrev map : InstructionMap
@@ -112,7 +118,7 @@ module _ (tables : Tables) (One Other : ℕ → Type 0) (same : (j : ℕ) (exten
     fewer = cut.fewer;
   }
 
-  cuts-other : (cuts : ℕ → Option ℕ) → AreCuts tables One cuts → AreCuts tables Other cuts
+  pub cuts-other : (cuts : ℕ → Option ℕ) → AreCuts tables One cuts → AreCuts tables Other cuts
   cuts-other cuts are j kept = (λ at. cut-other j kept ((are j kept).0 at), λ cut. (are j kept).1 (cut-one j kept cut))
 
 -- ---- the cuts of a closed state
@@ -121,7 +127,7 @@ table-some : (bytes : List ℕ) (j : ℕ) (o : Option Table) → table_at bytes 
 table-some bytes j None at extent is = absurd (none-some extent is)
 table-some bytes j (Some table) at extent is = record { table = table; at_jump = at }
 
-has-table : (bytes : List ℕ) (j : ℕ) (extent : Extent) → extent_at bytes j ≡ Some extent → HasTable bytes j
+pub has-table : (bytes : List ℕ) (j : ℕ) (extent : Extent) → extent_at bytes j ≡ Some extent → HasTable bytes j
 has-table bytes j extent is = table-some bytes j (table_at bytes j) refl extent is
 
 module _ (bytes : List ℕ) (before : ℕ → Option ℕ) (seeds : List ℕ) (state : BuilderState) (closed : IsClosed (program_under bytes before) seeds state)

@@ -11,7 +11,8 @@ use Rattle.stretches.specs.Stretch.{IsIn}
 use Rattle.stretches.specs.Gaps.{gap, whole}
 use Rattle.stretches.proofs.Joined.{item_of, joined_has, all_joined, known_joined}
 use Rattle.table_trim.specs.declared.jumps.TableJump.{TableJump}
-use Rattle.table_trim.specs.Inner.{addresses_of, IsTableJump}
+use Rattle.table_trim.specs.Tables.{addresses_of}
+use Rattle.table_trim.specs.Inner.{IsTableJump}
 use Rattle.table_trim.specs.Parts.{Answered, AreMade, AreJumpsIn, jumps_in}
 
 -- those of all addresses
@@ -24,10 +25,10 @@ all_lawful map bytes state jumps are = ⊎_elim (λ lawful. inl lawful) (λ none
 
 -- the addresses of all of them, gap by gap
 
-abbrev addresses_in : Answered → List ℕ
+abbrev pub addresses_in : Answered → List ℕ
 addresses_in answer = addresses_of (jumps_in answer)
 
-addresses_joined : (answers : List Answered) → addresses_of (flat_map jumps_in answers) ≡ flat_map addresses_in answers
+pub addresses_joined : (answers : List Answered) → addresses_of (flat_map jumps_in answers) ≡ flat_map addresses_in answers
 addresses_joined [] = refl
 addresses_joined (a ∷ answers) =
     map-append (λ (f : TableJump). f.jump) (jumps_in a) (flat_map jumps_in answers) ∙ ap (λ xs. addresses_in a ++ xs) (addresses_joined answers)

@@ -12,7 +12,8 @@ use Rattle.cfg_model.specs.Program.Instructions.{InstructionMap, IsLawful}
 use Rattle.cfg_model.specs.Builder.State.{BuilderState, IsEntered}
 use Rattle.core_state.specs.Least.{IsAbove, IsLeast}
 use Rattle.table_trim.specs.declared.jumps.TableJump.{TableJump}
-use Rattle.table_trim.specs.Inner.{HasTable, IsTableJump, AreTablesOf, addresses_of}
+use Rattle.table_trim.specs.Tables.{HasTable, AreTablesOf, addresses_of}
+use Rattle.table_trim.specs.Inner.{IsTableJump}
 use Rattle.table_trim.specs.Parts.{AreJumpsIn}
 use Rattle.stretches.specs.declared.stretch.Stretch.{Stretch}
 use Rattle.stretches.specs.Stretch.{IsUpTo, IsIn}

@@ -1,29 +1,16 @@
 -- Words that no public clause cites: the bases of the tables of some jumps, how they cut a table,
 -- and the table jumps that a state shows.
-use Rattle.std.specs.Prelude.{◌≡◌, ℕ, ◌+◌, ◌*◌, ◌<◌, ◌≤◌, List, map, All, Contains, Option, Some}
+use Rattle.std.specs.Prelude.{◌≡◌, ℕ, ◌+◌, ◌*◌, ◌<◌, ◌≤◌, List, Contains, Option, Some}
 use Rattle.std.specs.Option.{MatchOption}
 use Rattle.jump_table.specs.declared.table.Table.{Table}
 use Rattle.jump_table.specs.Table.{table_at}
 use Rattle.cfg_model.specs.Builder.State.{BuilderState, IsEntered}
 use Rattle.cfg_model.specs.Program.Cuts.{Extent, kept_before}
-use Rattle.table_trim.specs.declared.jumps.TableJump.{TableJump}
-
--- The instruction at j is a jump that has a table.
-pub record HasTable (bytes : List ℕ) (j : ℕ) : Type 0 where
-  pub table : Table
-  pub at_jump : table_at bytes j ≡ Some table
+use Rattle.table_trim.specs.Tables.{HasTable}
 
 -- The terminator at j is known to the state, and has a table.
 abbrev pub IsTableJump : List ℕ → BuilderState → ℕ → Type 0
 IsTableJump bytes state j = IsEntered state.terminators j × HasTable bytes j
-
--- The addresses of jumps that were found.
-abbrev pub addresses_of : List TableJump → List ℕ
-addresses_of jumps = map (λ (f : TableJump). f.jump) jumps
-
--- Each jump has the table that was found with it.
-abbrev pub AreTablesOf : List ℕ → List TableJump → Type 0
-AreTablesOf bytes jumps = All (λ (f : TableJump). table_at bytes f.jump ≡ Some f.table) jumps
 
 -- b is the base of the table of one of the jumps.
 pub record IsBaseOf (bytes jumps : List ℕ) (b : ℕ) : Type 0 where

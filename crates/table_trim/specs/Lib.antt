@@ -1,3 +1,4 @@
 pub mod Extents
+pub mod Tables
 pub mod Inner
 pub mod Parts

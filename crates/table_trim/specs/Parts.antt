@@ -1,5 +1,8 @@
--- Words that no public clause cites: the table jumps of a state in one stretch of addresses.
-use Rattle.std.specs.Prelude.{◌⊎◌, ◌↔◌, ℕ, List, [], Vec, Contains, Result, Ok, Err, IsOk}
+-- Words that no public clause cites: the table jumps of a state in one stretch of addresses, and
+-- those among some places.
+use Rattle.std.specs.Prelude.{◌⊎◌, ◌↔◌, ℕ, ◌*◌, ◌<◌, ◌≤◌, List, [], length, slice_index_or}
+use Rattle.std.specs.Prelude.{Vec, Contains, Result, Ok, Err, IsOk, IfOk}
+use Rattle.std.specs.Fork.{slice_chunk}
 use Rattle.std.specs.declared.alloc.Global.{Global}
 use Rattle.cfg_model.specs.Program.Instructions.{InstructionMap, IsLawful}
 use Rattle.cfg_model.specs.Builder.State.{BuilderState, IsEntered}
@@ -7,7 +10,8 @@ use Rattle.stretches.specs.declared.stretch.Stretch.{Stretch}
 use Rattle.stretches.specs.Stretch.{IsIn}
 use Rattle.code_view.specs.declared.memory.Memory.{Memory}
 use Rattle.table_trim.specs.declared.jumps.TableJump.{TableJump}
-use Rattle.table_trim.specs.Inner.{AreTablesOf, addresses_of, IsTableJump}
+use Rattle.table_trim.specs.Tables.{HasTable, AreTablesOf, addresses_of}
+use Rattle.table_trim.specs.Inner.{IsTableJump}
 
 -- These are the table jumps in a stretch that a state shows, with their tables. The program is
 -- lawful where there is a terminator in it.
@@ -19,7 +23,12 @@ pub record AreJumpsIn
       ↔ (IsIn stretch j × IsTableJump bytes state j)
   pub lawful : IsLawful map ⊎ ((k : ℕ) → IsEntered state.terminators k → ¬ IsIn stretch k)
 
--- What a thread answers of its stretch.
+-- These are jumps with their tables, among them each of these places that has a table.
+pub record AreTablesAmong (bytes places : List ℕ) (jumps : List TableJump) : Type 0 where
+  pub tables : AreTablesOf bytes jumps
+  pub complete : (j : ℕ) → Contains places j → HasTable bytes j → Contains (addresses_of jumps) j
+
+-- What a thread answers of its part.
 abbrev pub Answered : Type 0
 Answered = Result (Vec TableJump Global) Memory
 
@@ -31,3 +40,11 @@ AreMade answer = IsOk answer
 abbrev pub jumps_in : Answered → List TableJump
 jumps_in (Ok jumps) = jumps.items
 jumps_in (Err e) = []
+
+-- Each part of so many places has an answer: its tables, where they were found.
+pub record AreTablesByPart (bytes : List ℕ) (size : ℕ) (places : List ℕ) (answers : List Answered)
+    : Type 0 where
+  pub all : length places ≤ length answers * size
+  pub each : (n : ℕ) (d : Answered) → n < length answers
+      → IfOk (slice_index_or answers n d)
+      (λ jumps. AreTablesAmong bytes (slice_chunk places size n) jumps.items)

@@ -3,7 +3,8 @@
 ghost use Rattle.std.specs.Prelude.{◌≡◌, ◌<◌, ℕ, List, IfOk};
 ghost use Rattle.std.specs.List.Sorted.{IsNonDecreasing};
 ghost use Rattle.table_trim.specs.Extents.{extent_of};
-ghost use Rattle.table_trim.specs.Inner.{addresses_of, AreTablesOf, AreBases, CutBy};
+ghost use Rattle.table_trim.specs.Tables.{addresses_of, AreTablesOf};
+ghost use Rattle.table_trim.specs.Inner.{AreBases, CutBy};
 
 use crate::jumps::TableJump;
 use code_view::Memory;

@@ -18,10 +18,11 @@ use stretches::Stretch;
 
 /// A jump through a table, and its table.
 #[derive(Clone, Copy, Debug, PartialEq, Eq)]
-pub(crate) struct TableJump {
+pub struct TableJump {
     /// The address of the jump.
-    pub(crate) jump: u64,
-    pub(crate) table: Table,
+    pub jump: u64,
+    /// Where its table lies, and how many entries it has before cuts.
+    pub table: Table,
 }
 
 /// The terminators of the state in a stretch that jump through a table, in order, each with its

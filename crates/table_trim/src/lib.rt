@@ -5,20 +5,21 @@
 //! there.
 //!
 //! - `jumps`: the table jumps that a closed state shows, with their tables.
+//! - `everywhere`: the table jumps of all code, reached or not.
 //! - `bases`: where these tables begin.
 //! - `trim`: their cuts.
-//! - `sharing`: the same, made by several threads.
-//! - `likely`: the cuts that all jump tables of the code would give, reached or not.
+//! - `sharing`: the cuts and the tables of all code, made by several threads.
 #![tactic(auto)]
 
 mod bases;
+mod everywhere;
 mod jumps;
-mod likely;
 mod sharing;
 #[cfg(test)]
 mod tests;
 mod trim;
 
-pub use likely::likely_cuts;
-pub use sharing::cuts_by;
-pub use trim::cuts;
+pub use everywhere::{all_entered, all_tables};
+pub use jumps::TableJump;
+pub use sharing::{all_tables_by, cuts_by};
+pub use trim::{cuts, cuts_of};

@@ -4,7 +4,7 @@ ghost use Rattle.std.specs.Prelude.{ℕ, List, IsSome, IfOk};
 ghost use Rattle.cfg_model.specs.Builder.Kept.{IsClosed};
 ghost use Rattle.code_view.specs.FileCode.{program_of};
 
-use crate::{cuts, cuts_by, likely_cuts};
+use crate::{all_entered, all_tables, all_tables_by, cuts, cuts_by, cuts_of};
 use alone::build_alone;
 use cfg_model::{Chains, Flow};
 use cfg_vectors::row_file;
@@ -99,15 +99,28 @@ fn cuts_a_table_where_another_begins(rt: HostRuntime) -> Result<(), Fail> {
 }
 
 #[test]
-fn cuts_that_all_tables_would_give(rt: HostRuntime) -> Result<(), Fail> {
+fn tables_of_all_code(rt: HostRuntime) -> Result<(), Fail> {
     let file = row_file(rt.alloc(), 15, 0)?;
     let image = Image::parse(rt.alloc(), file)?;
     let index = ChainIndex::new(rt.alloc(), &image)?;
     let none = Cuts::none(rt.alloc());
     let code = Code::new(&image, &index, &none);
-    let likely = likely_cuts(rt.alloc(), &code)?;
-    assert_eq!(rt; likely.count(FIRST), Some(2));
-    assert_eq!(rt; likely.count(SECOND), None);
-    assert!(rt; !likely.is_same(&none) && none.is_same(&Cuts::none(rt.alloc())));
+    let tables = all_tables(rt.alloc(), &code)?;
+    assert_eq!(rt; tables.len(), 2);
+    assert_eq!(rt; tables[0].jump, FIRST);
+    assert_eq!(rt; tables[1].jump, SECOND);
+    for workers in [1, 2, 4, 64] {
+        let made = all_tables_by(&rt, rt.alloc(), &code, workers)?;
+        assert_eq!(rt; made.len(), tables.len());
+        assert_eq!(rt; made[0].jump, tables[0].jump);
+        assert_eq!(rt; made[1].jump, tables[1].jump);
+    }
+    let cuts = cuts_of(rt.alloc(), &tables)?;
+    assert_eq!(rt; cuts.count(FIRST), Some(2));
+    assert_eq!(rt; cuts.count(SECOND), None);
+    let state = closed_state(&rt, rt.alloc(), &code)?;
+    assert!(rt; all_entered(&state, &tables));
+    let nothing = State::new(rt.alloc())?;
+    assert!(rt; !all_entered(&nothing, &tables) && all_entered(&nothing, &[]));
     Ok(())
 }

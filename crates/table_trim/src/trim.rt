@@ -8,7 +8,7 @@ ghost use Rattle.cfg_model.specs.Program.Reach.{Reached};
 ghost use Rattle.code_view.specs.Cuts.{cut_of, CutsFit};
 ghost use Rattle.code_view.specs.FileCode.{program_of};
 ghost use Rattle.table_trim.specs.Extents.{extent_at};
-ghost use Rattle.table_trim.specs.Inner.{addresses_of, AreTablesOf};
+ghost use Rattle.table_trim.specs.Tables.{addresses_of, AreTablesOf};
 
 use crate::bases::{bases_of, cut_by};
 use crate::jumps::{TableJump, table_jumps};
@@ -35,8 +35,9 @@ pub fn cuts(alloc: Global, code: &Code<'_>, state: &State) -> Result<Cuts, Memor
     cuts_of(alloc, &jumps)
 }
 
-/// The cuts of the tables of `jumps`, where the tables of these jumps alone count.
-pub(crate) fn cuts_of(alloc: Global, jumps: &[TableJump]) -> Result<Cuts, Memory>
+/// The cuts of the tables of `jumps`, where the tables of these jumps alone count. [`Memory`] where
+/// memory ran out.
+pub fn cuts_of(alloc: Global, jumps: &[TableJump]) -> Result<Cuts, Memory>
     requires { (bytes : List ℕ) × AreTablesOf bytes jumps.now }
     ensures cuts { IfOk result (λ cuts. (bytes : List ℕ) → AreTablesOf bytes jumps.now
         → AreCuts (extent_at bytes) (λ j. Contains (addresses_of jumps.now) j) (cut_of cuts)) }

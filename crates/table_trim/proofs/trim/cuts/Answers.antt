@@ -4,7 +4,7 @@ use Rattle.cfg_model.specs.Program.Cuts.{AreCuts}
 use Rattle.stretches.specs.Gaps.{whole}
 use Rattle.table_trim.specs.declared.jumps.TableJump.{TableJump}
 use Rattle.table_trim.specs.Extents.{extent_at}
-use Rattle.table_trim.specs.Inner.{AreTablesOf, addresses_of}
+use Rattle.table_trim.specs.Tables.{AreTablesOf, addresses_of}
 use Rattle.table_trim.specs.Parts.{AreJumpsIn}
 use Rattle.code_view.specs.Cuts.{cut_of}
 use Rattle.code_view.specs.FileCode.{program_of}

@@ -1,0 +1,50 @@
+//! The jump tables of all code, reached or not.
+
+ghost use Rattle.std.specs.Prelude.{◌↔◌, IfOk, IsTrue, All};
+ghost use Rattle.elf_image.specs.Code.{is_code};
+ghost use Rattle.cfg_model.specs.Builder.State.{IsEntered};
+ghost use Rattle.table_trim.specs.Tables.{AreAllTables};
+ghost use Rattle.table_trim.specs.Parts.{AreTablesAmong};
+
+use crate::jumps::TableJump;
+use code_view::{Code, Memory};
+use core_state::State;
+use std::alloc::Global;
+
+/// The jumps of `code` that go through a table, reached or not, each with its table. [`Memory`]
+/// where memory ran out.
+///
+/// It goes once over the halfwords of the code; the table of each jump through a register is looked
+/// up once.
+pub fn all_tables(alloc: Global, code: &Code<'_>) -> Result<Vec<TableJump>, Memory>
+    ensures { IfOk result (λ jumps. AreAllTables code.now.bytes jumps.items) }
+{
+    let places = code.register_jumps(alloc)?;
+    tables_among(alloc, code, &places)
+}
+
+/// The jumps at these code addresses that go through a table, in order, each with its table.
+pub(crate) fn tables_among(
+    alloc: Global,
+    code: &Code<'_>,
+    places: &[u64],
+) -> Result<Vec<TableJump>, Memory>
+    requires { All (λ a. IsTrue (is_code code.now.bytes a)) places.now }
+    ensures { IfOk result (λ jumps. AreTablesAmong code.now.bytes places.now jumps.items) }
+{
+    let mut jumps = Vec::new(alloc);
+    for &jump in places {
+        if let Some(table) = code.table(jump) {
+            jumps.push(TableJump { jump, table })?;
+        }
+    }
+    Ok(jumps)
+}
+
+/// Whether the state has entered all of these jumps.
+pub fn all_entered(state: &State, jumps: &[TableJump]) -> bool
+    ensures { IsTrue result
+        ↔ All (λ found. IsEntered state.now.maps.terminators found.jump) jumps.now }
+{
+    jumps.iter().all(|found| state.done(found.jump).is_some())
+}
