@@ -45,13 +45,13 @@ zip_append R (x ∷ xs) zs [] ws h k = absurd h
 zip_append R (x ∷ xs) zs (y ∷ ys) ws (r, h) k = (r, zip_append R xs zs ys ws h k)
 
 module _ (R : ℕ → Function → Type 0) where
-  made_part : (part : Part) (answer : Answered) → IfOk answer (λ v. AllZip R part.now v.items) → AreMade answer → AllZip R part.now (made_in answer)
+  made_part : (part : Part) (answer : Answered Function) → IfOk answer (λ v. AllZip R part.now v.items) → AreMade answer → AllZip R part.now (made_in answer)
   made_part part (Ok functions) each made = each
   made_part part (Err e) each made = absurd (cc)
 
   -- each part has its functions, so all have theirs
-  pub joined_parts : (parts : List Part) (answers : List Answered) → length answers ≡ length parts
-      → ((i : ℕ) (d : Part) (e : Answered) → i < length parts → IfOk (get_or answers i e) (λ v. AllZip R (get_or parts i d).now v.items))
+  pub joined_parts : (parts : List Part) (answers : List (Answered Function)) → length answers ≡ length parts
+      → ((i : ℕ) (d : Part) (e : Answered Function) → i < length parts → IfOk (get_or answers i e) (λ v. AllZip R (get_or parts i d).now v.items))
       → All AreMade answers → AllZip R (flat_map entries_of parts) (flat_map made_in answers)
   joined_parts [] [] long each made = tt
   joined_parts [] (answer ∷ answers) long each made = absurd (omega (arith, long))
@@ -64,9 +64,9 @@ module _ (R : ℕ → Function → Type 0) where
       (λ k d lt. made (suc k) d (omega (arith, lt))))
 
 -- and the list of all of them is that of all entries
-pub made_of_parts : (R : ℕ → Function → Type 0) (entries : List ℕ) (parts : List Part) (answers : List Answered) (functions : List Function)
+pub made_of_parts : (R : ℕ → Function → Type 0) (entries : List ℕ) (parts : List Part) (answers : List (Answered Function)) (functions : List Function)
     → flat_map entries_of parts ≡ entries → length answers ≡ length parts
-    → ((i : ℕ) (d : Part) (e : Answered) → i < length parts → IfOk (get_or answers i e) (λ v. AllZip R (get_or parts i d).now v.items))
+    → ((i : ℕ) (d : Part) (e : Answered Function) → i < length parts → IfOk (get_or answers i e) (λ v. AllZip R (get_or parts i d).now v.items))
     → All AreMade answers → functions ≡ flat_map made_in answers → AllZip R entries functions
 made_of_parts R entries parts answers functions whole long each made joined =
     let all = joined_parts R parts answers long each made in

@@ -15,3 +15,5 @@ pub mod BlocksListed
 pub mod Whole
 pub mod Parts
 pub mod Joining
+pub mod Chunked
+pub mod Appended

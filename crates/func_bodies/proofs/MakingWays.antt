@@ -58,13 +58,24 @@ pub record AreMadeSoFar (blocks : List Block) (entries : List ℕ) (edges : List
   pub most : All (λ (way : Way). way.from ≤ from) ways
   pub before : (k : ℕ) (d : Block) (j : ℕ) (e : Edge) → k < from → i ≤ j → j < length edges → (get_or blocks k d).start < (get_or edges j e).from
 
+-- no edge leaves a block in front of the one that the first edge leaves
+pub none_before : (blocks : List Block) (edges : List Edge) (first : ℕ) (d : Edge) → AllPairs BlockBefore blocks → IsNonDecreasingBy (λ edge. edge.from) edges
+    → IsNumber blocks first (get_or edges 0 d).from
+    → (k : ℕ) (b : Block) (j : ℕ) (e : Edge) → k < first → j < length edges → (get_or blocks k b).start < (get_or edges j e).from
+none_before blocks edges first d up in_order number k b j e below within =
+    let less : (get_or blocks k b).start < (get_or edges 0 d).from = all_before blocks first (get_or edges 0 d).from up number k b below in
+    let same : (get_or edges 0 d).from ≡ (get_or edges 0 e).from = ap (λ (x : Edge). x.from) (get_or_default edges 0 d e (omega arith)) in
+    let rise : (get_or edges 0 e).from ≤ (get_or edges j e).from = in_order 0 j e (omega arith) within in
+    omega arith
+
 module _ (blocks : List Block) (entries : List ℕ) (edges : List Edge) where
-  pub so_far_start : (ways : List Way) → ways ≡ [] → AreMadeSoFar blocks entries edges 0 0 ways
-  so_far_start ways is = subst (AreMadeSoFar blocks entries edges 0 0) (sym is) (record {
+  pub so_far_start : (from : ℕ) (ways : List Way) → ways ≡ [] → ((k : ℕ) (d : Block) (j : ℕ) (e : Edge) → k < from → j < length edges → (get_or blocks k d).start < (get_or edges j e).from)
+      → AreMadeSoFar blocks entries edges 0 from ways
+  so_far_start from ways is before = subst (AreMadeSoFar blocks entries edges 0 from) (sym is) (record {
     made = ways_start blocks entries;
     rising = λ i j d le lt. absurd (omega arith);
     most = λ k d lt. absurd (omega arith);
-    before = λ k d j e lt le within. absurd (omega arith);
+    before = λ k d j e lt le within. before k d j e lt within;
   })
 
   pub so_far_end : (i from : ℕ) (ways : List Way) → length edges ≤ i → AreMadeSoFar blocks entries edges i from ways → AreWaysOf blocks entries edges ways

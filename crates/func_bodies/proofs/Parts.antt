@@ -1,5 +1,5 @@
 -- What is made from an outline, part by part, for the functions of a program.
-use Rattle.std.proofs.Common.{◌≡◌, ℕ, ◌<◌, List, length, get_or, sym, ap, ◌∙◌, subst, inl, inr, ⊎_elim, arith}
+use Rattle.std.proofs.Common.{◌≡◌, ℕ, ◌<◌, List, length, get_or, refl, sym, ap, ◌∙◌, subst, inl, inr, ⊎_elim, arith}
 use Rattle.std.specs.List.{All, AllZip, Contains}
 use Rattle.std.specs.List.Sorted.{IsNonDecreasingBy}
 use Rattle.std.proofs.lemmas.Bool.{cases_eq}
@@ -16,7 +16,7 @@ use Rattle.func_bodies.specs.declared.ways.Way.{Way}
 use Rattle.func_bodies.specs.Inner.Entries.{AreEntriesBy}
 use Rattle.func_bodies.specs.Inner.Ways.{HasBlockAt, JoinsBlocks, AreWaysOf}
 use Rattle.func_bodies.specs.Inner.Bodies.{IsFunctionBy}
-use Rattle.func_bodies.specs.Inner.Plans.{AreAll}
+use Rattle.func_bodies.specs.Inner.Plans.{AreAll, MakesAll, Serves}
 use Rattle.func_bodies.proofs.BlocksListed.{edge_joins, entry_leads, leader_listed, leader_starts}
 use Rattle.func_bodies.proofs.Whole.{entry_exact, functions_exact, each_entry, functions_ordered}
 
@@ -76,3 +76,18 @@ module _ (map : InstructionMap) (seeds : List ℕ) (lawful : IsLawful map) (stat
         complete = each_entry map seeds blocks edges outline given are_given given_ways they_given functions each;
         ordered = functions_ordered map seeds blocks edges outline given are_given given_ways they_given functions each;
       })
+
+  -- the plan serves for each entry
+  pub plan_serves : (entries first : List ℕ) (ways : List Way) → AreEntriesBy edges seeds entries → AreWaysOf blocks first edges ways → Serves map state blocks ways entries
+  plan_serves entries first ways are they = record {
+    closed = (seeds, closed);
+    starts = entries_start entries entries refl are;
+    in_order = outline.all_blocks.in_order;
+    listed = entries_listed entries entries refl are;
+    within = ways_within blocks edges first ways ways refl they;
+  }
+
+  -- and with all of them all functions are made
+  pub plan_makes : (entries first : List ℕ) (ways : List Way) → first ≡ entries → AreEntriesBy edges seeds entries → AreWaysOf blocks first edges ways
+      → MakesAll map seeds blocks ways entries
+  plan_makes entries first ways same are they functions each = assembled entries first entries ways ways functions functions same refl refl refl are they each

@@ -11,7 +11,9 @@ mod bodies;
 mod entries;
 mod found;
 pub mod listing;
+mod lists;
 pub mod memory;
+mod plan_sharing;
 pub mod sharing;
 pub mod tails;
 #[cfg(test)]

@@ -86,7 +86,7 @@ pub(crate) fn plan_of<C: Chains>(
 }
 
 /// Each answer of a program shows its laws, so this asks it for one.
-fn know_laws<C: Chains>(code: &C)
+pub(crate) fn know_laws<C: Chains>(code: &C)
     ensures { IsLawful (C.map code.now) }
 {
     let _ = code.has(0);

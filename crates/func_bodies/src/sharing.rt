@@ -11,10 +11,11 @@ ghost use Rattle.finaliser.specs.Closed.{IsOutlineOf};
 ghost use Rattle.func_bodies.specs.Listed.{AreOrdered, HaveEachEntry};
 ghost use Rattle.func_bodies.specs.Inner.Bodies.{IsFunctionBy};
 ghost use Rattle.func_bodies.specs.Inner.Plans.{Serves};
-ghost use Rattle.func_bodies.specs.Inner.Parts.{AreMade, made_in};
 
-use crate::listing::{functions, functions_at, plan_of};
+use crate::listing::{functions, functions_at};
+use crate::lists::joined;
 use crate::memory::Memory;
+use crate::plan_sharing::plan_by;
 use crate::ways::Ways;
 use cfg_model::{Block, Chains, Function, Functions};
 use core_state::State;
@@ -28,9 +29,11 @@ pub const MOST_WORKERS: u32 = 64;
 /// The answer of [`functions`], made by so many workers, from 1 to 64. With one worker no thread is
 /// started. [`Memory`] where memory ran out.
 ///
-/// The entries are cut into one part for each worker, with about as many blocks between the first
-/// and the last one of each. A worker needs four bytes for each block of the program, besides its
-/// functions.
+/// The edges are cut into one part for each worker, which lists the targets of calls in it, and
+/// then makes its ways between blocks. One thread puts together what they made, sorts the entries,
+/// and goes over the blocks. The entries are cut into one part for each worker too, with about as
+/// many blocks between the first and the last one of each. A worker needs four bytes for each block
+/// of the program, besides its functions.
 pub fn functions_by<R: Threads + Sync, C: Chains>(
     rt: &R,
     alloc: Global,
@@ -52,10 +55,11 @@ pub fn functions_by<R: Threads + Sync, C: Chains>(
         return functions(alloc, code, seeds, state, outline);
     }
     let blocks = outline.blocks.as_slice();
-    let plan = plan_of(alloc, code, seeds, state, outline)?;
-    let parts = parts_of(alloc, &plan.entries, blocks, workers as usize)?;
+    let workers = workers as usize;
+    let plan = plan_by(rt, alloc, code, seeds, state, outline, workers)?;
+    let parts = parts_of(alloc, &plan.entries, blocks, workers)?;
     let lists = made_by_part(rt, alloc, code, state, blocks, &plan.ways, parts)?;
-    let functions = joined(alloc, lists)?;
+    let functions = joined(Vec::with_capacity(alloc, plan.entries.len())?, lists)?;
     Ok(Functions::from_vec(functions))
 }
 
@@ -117,16 +121,4 @@ fn made_by_part<R: Threads + Sync, C: Chains>(
             part.entry.now v.items) }
     { functions_at(alloc, code, state, blocks, ways, part) };
     Ok(thread::map_vec(rt, parts, &make)?)
-}
-
-/// All these lists, one after another, or the first of their errors.
-fn joined(alloc: Global, lists: Vec<Result<Vec<Function>, Memory>>) -> Result<Vec<Function>, Memory>
-    ensures all { IfOk result (λ v. All AreMade lists.items) }
-    ensures joined { IfOk result (λ v. v.items ≡ flat_map made_in lists.items) }
-{
-    let mut all = Vec::new(alloc);
-    for list in lists {
-        all.append(&mut list?)?;
-    }
-    Ok(all)
 }

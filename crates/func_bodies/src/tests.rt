@@ -92,7 +92,7 @@ fn tail_call(rt: HostRuntime) -> Result<(), Fail> {
     Ok(())
 }
 
-/// Two, three and 64 workers give what one does.
+/// Two, three, four and 64 workers give what one does.
 #[test]
 fn more_workers(rt: HostRuntime) -> Result<(), Fail> {
     let alloc = rt.alloc();
@@ -101,7 +101,7 @@ fn more_workers(rt: HostRuntime) -> Result<(), Fail> {
         let state = build_alone(alloc, &code, seeds)?;
         let outline = blocks_and_edges(alloc, &code, &state)?;
         let alone = functions(alloc, &code, seeds, &state, &outline)?;
-        for workers in [1, 2, 3, 64] {
+        for workers in [1, 2, 3, 4, 64] {
             let made = functions_by(&rt, alloc, &code, seeds, &state, &outline, workers)?;
             assert_eq!(rt; made.as_slice().len(), alone.as_slice().len());
             for (one, other) in made.as_slice().iter().zip(alone.as_slice()) {

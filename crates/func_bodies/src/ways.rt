@@ -7,6 +7,7 @@ ghost use Rattle.cfg_model.specs.Graph.Graph.{BlockBefore};
 ghost use Rattle.func_bodies.specs.Inner.Ways.{HasBlockAt, IsNumber, JoinsBlocks, AreWaysOf};
 ghost use Rattle.func_bodies.specs.Inner.Entries.{AreEntered};
 ghost use Rattle.func_bodies.specs.Inner.Sides.{IsFirst, AreFirstsOf};
+ghost use Rattle.func_bodies.specs.Inner.Parts.{AreRisingWaysOf};
 
 use crate::entries::entered_of;
 use crate::memory::Memory;
@@ -50,7 +51,7 @@ impl Model for Ways {
 
 impl Ways {
     /// These ways, which leave some of these blocks.
-    fn new(alloc: Global, ways: Vec<Way>, blocks: &[Block]) -> Result<Self, Memory>
+    pub(crate) fn new(alloc: Global, ways: Vec<Way>, blocks: &[Block]) -> Result<Self, Memory>
         requires rising { IsNonDecreasingBy (λ way. way.from) ways.items }
         requires within { All (λ way. way.from < length blocks.now) ways.items }
         ensures { IfOk result (λ v. v ≡ ways.items) }
@@ -119,8 +120,9 @@ pub(crate) fn ways_of(
     Ways::new(alloc, ways, blocks)
 }
 
-/// The ways of these edges, in the order of the edges.
-fn ways_in_order(
+/// The ways of these edges, in the order of the edges. The walk along the blocks begins at the one
+/// that the first edge leaves.
+pub(crate) fn ways_in_order(
     alloc: Global,
     blocks: &[Block],
     edges: &[Edge],
@@ -131,11 +133,10 @@ fn ways_in_order(
     requires edges { IsNonDecreasingBy (λ edge. edge.from) edges.now }
     requires joins { All (JoinsBlocks blocks.now) edges.now }
     requires entered { AreEntered blocks.now entries.now entered.now }
-    ensures ways { IfOk result (λ v. AreWaysOf blocks.now entries.now edges.now v.items) }
-    ensures rising { IfOk result (λ v. IsNonDecreasingBy (λ way. way.from) v.items) }
+    ensures { IfOk result (λ v. AreRisingWaysOf blocks.now entries.now edges.now v.items) }
 {
     let mut ways = Vec::with_capacity(alloc, edges.len())?;
-    let mut from = 0;
+    let mut from = first_number(blocks, edges);
     for edge in edges {
         from = number_from(blocks, from, edge.from);
         if edge.kind != EdgeKind::Call {
@@ -145,6 +146,21 @@ fn ways_in_order(
         }
     }
     Ok(ways)
+}
+
+/// The place of the block that the first of these edges leaves, or 0 where there are none: no edge
+/// leaves a block in front of it.
+fn first_number(blocks: &[Block], edges: &[Edge]) -> usize
+    requires blocks { AllPairs BlockBefore blocks.now }
+    requires edges { IsNonDecreasingBy (λ edge. edge.from) edges.now }
+    requires joins { All (JoinsBlocks blocks.now) edges.now }
+    ensures { (k : ℕ) (d : _) (j : ℕ) (e : _) → k < result → j < length edges.now
+        → (slice_index_or blocks.now k d).start < (slice_index_or edges.now j e).from }
+{
+    match edges.first() {
+        Some(edge) => number_of(blocks, edge.from),
+        None => 0,
+    }
 }
 
 /// The place of the block that starts at `a` among these blocks, which is `i` or lies behind it.

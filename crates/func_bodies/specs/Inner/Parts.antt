@@ -1,18 +1,38 @@
--- Lists of functions that were made part by part.
-use Rattle.std.specs.Prelude.{List, [], Vec, Result, Ok, Err, IsOk}
-use Rattle.cfg_model.specs.declared.graph.Function.{Function}
-use Rattle.func_bodies.specs.declared.memory.Memory.{Memory}
+-- Lists that were made part by part.
+use Rattle.std.specs.Prelude.{ℕ, ◌*◌, ◌<◌, ◌≤◌, List, [], length, slice_index_or}
+use Rattle.std.specs.Prelude.{Vec, Result, Ok, Err, IsOk, IfOk}
+use Rattle.std.specs.Fork.{slice_chunk}
+use Rattle.std.specs.List.Sorted.{IsNonDecreasingBy}
 use Rattle.std.specs.declared.alloc.Global.{Global}
+use Rattle.cfg_model.specs.declared.graph.Block.{Block}
+use Rattle.cfg_model.specs.declared.graph.Edge.{Edge}
+use Rattle.func_bodies.specs.declared.memory.Memory.{Memory}
+use Rattle.func_bodies.specs.declared.ways.Way.{Way}
+use Rattle.func_bodies.specs.Inner.Ways.{AreWaysOf}
 
 -- What a worker answers of its part.
-abbrev pub Answered : Type 0
-Answered = Result (Vec Function Global) Memory
+abbrev pub Answered : Type 0 → Type 0
+Answered X = Result (Vec X Global) Memory
 
 -- The part was made.
-abbrev pub AreMade : Answered → Type 0
+abbrev pub AreMade : {X : Type 0} → Answered X → Type 0
 AreMade answer = IsOk answer
 
--- The functions of a part; none where memory ran out.
-abbrev pub made_in : Answered → List Function
-made_in (Ok functions) = functions.items
+-- The items of a part; none where memory ran out.
+abbrev pub made_in : {X : Type 0} → Answered X → List X
+made_in (Ok made) = made.items
 made_in (Err e) = []
+
+-- Each part of so many items has an answer, and P holds of what was made of it.
+pub record AnswerChunks {X Y : Type 0} (P : List X → List Y → Type 0) (size : ℕ) (xs : List X)
+    (answers : List (Answered Y)) : Type 0 where
+  pub all : length xs ≤ length answers * size
+  pub each : (n : ℕ) (d : Answered Y) → n < length answers
+      → IfOk (slice_index_or answers n d) (λ v. P (slice_chunk xs size n) v.items)
+
+-- These are the ways of these edges, in the order of the blocks that they leave.
+pub record AreRisingWaysOf
+    (blocks : List Block) (entries : List ℕ) (edges : List Edge) (ways : List Way)
+    : Type 0 where
+  pub exact : AreWaysOf blocks entries edges ways
+  pub rising : IsNonDecreasingBy (λ way. way.from) ways

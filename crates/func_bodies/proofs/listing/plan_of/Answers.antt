@@ -1,5 +1,4 @@
-use Rattle.std.proofs.Common.{refl}
-use Rattle.func_bodies.proofs.Parts.{same_outline, edges_rise, edges_join, entries_start, entries_listed, ways_within, assembled}
+use Rattle.func_bodies.proofs.Parts.{same_outline, edges_rise, edges_join, plan_serves, plan_makes}
 use Rattle.func_bodies.proofs.listing.plan_of.Goals as goal
 
 pub ways_of-requires-clause-blocks : goal.ways_of-requires-clause-blocks
@@ -31,35 +30,14 @@ ways_of-requires-clause-joins g c =
 
 pub returns-clause-serves : goal.returns-clause-serves
 returns-clause-serves g c =
-    let map = g.C.Chains.map c.args.code.now in
-    let seeds = c.args.seeds.now in
-    let maps = c.args.state.now.maps in
-    let blocks = c.args.outline.now.blocks in
-    let edges = c.args.outline.now.edges in
-    let entries = c.in_ok-entries.entries.items in
-    let ways = c.in_ok-ways.ways in
-    let outline = c.requires.outline seeds c.requires.closed in
-    let are = rw c.as_slice-edges.ensures at c.in_ok-entries.ensures in
-    let they = rw (c.as_slice-blocks.ensures, c.as_slice-edges.ensures) at c.in_ok-ways.ensures in
-    record {
-      closed = (seeds, c.requires.closed);
-      starts = entries_start map seeds c.know_laws.ensures maps c.requires.closed blocks edges outline entries entries refl are;
-      in_order = outline.all_blocks.in_order;
-      listed = entries_listed map seeds c.know_laws.ensures maps c.requires.closed blocks edges outline entries entries refl are;
-      within = ways_within blocks edges c.deref.result.now ways ways refl they;
-    }
+    plan_serves (g.C.Chains.map c.args.code.now) c.args.seeds.now c.know_laws.ensures c.args.state.now.maps c.requires.closed
+    c.args.outline.now.blocks c.args.outline.now.edges (c.requires.outline c.args.seeds.now c.requires.closed)
+    c.in_ok-entries.entries.items c.deref.result.now c.in_ok-ways.ways
+    (rw c.as_slice-edges.ensures at c.in_ok-entries.ensures) (rw (c.as_slice-blocks.ensures, c.as_slice-edges.ensures) at c.in_ok-ways.ensures)
 
 pub returns-clause-makes : goal.returns-clause-makes
-returns-clause-makes g c = λ functions each.
-    let map = g.C.Chains.map c.args.code.now in
-    let seeds = c.args.seeds.now in
-    let maps = c.args.state.now.maps in
-    let blocks = c.args.outline.now.blocks in
-    let edges = c.args.outline.now.edges in
-    let entries = c.in_ok-entries.entries.items in
-    let ways = c.in_ok-ways.ways in
-    let outline = c.requires.outline seeds c.requires.closed in
-    let are = rw c.as_slice-edges.ensures at c.in_ok-entries.ensures in
-    let they = rw (c.as_slice-blocks.ensures, c.as_slice-edges.ensures) at c.in_ok-ways.ensures in
-    assembled map seeds c.know_laws.ensures maps c.requires.closed blocks edges outline
-    entries c.deref.result.now entries ways ways functions functions c.deref.ensures.value refl refl refl are they each
+returns-clause-makes g c =
+    plan_makes (g.C.Chains.map c.args.code.now) c.args.seeds.now c.know_laws.ensures c.args.state.now.maps c.requires.closed
+    c.args.outline.now.blocks c.args.outline.now.edges (c.requires.outline c.args.seeds.now c.requires.closed)
+    c.in_ok-entries.entries.items c.deref.result.now c.in_ok-ways.ways c.deref.ensures.value
+    (rw c.as_slice-edges.ensures at c.in_ok-entries.ensures) (rw (c.as_slice-blocks.ensures, c.as_slice-edges.ensures) at c.in_ok-ways.ensures)

@@ -1,11 +1,13 @@
-use Rattle.std.proofs.Common.{◌≡◌, length, Vec, Global, vec_len, sym, ◌∙◌}
+use Rattle.std.proofs.Common.{◌≡◌, ◌++◌, length, Vec, Global, vec_len, sym, ap, ◌∙◌}
+use Rattle.std.specs.List.{flat_map}
+use Rattle.cfg_model.specs.declared.graph.Function.{Function}
 use Rattle.func_bodies.specs.Inner.Bodies.{IsFunctionBy}
 use Rattle.func_bodies.specs.Inner.Plans.{Serves}
-use Rattle.func_bodies.specs.Inner.Parts.{Answered}
+use Rattle.func_bodies.specs.Inner.Parts.{Answered, made_in}
 use Rattle.func_bodies.proofs.Joining.{Part, serves_part, made_of_parts}
 use Rattle.func_bodies.proofs.sharing.functions_by.Goals as goal
 
-lengths : (lists : Vec Answered Global) (parts : Vec Part Global) → vec_len lists ≡ vec_len parts → length lists.items ≡ length parts.items
+lengths : (lists : Vec (Answered Function) Global) (parts : Vec Part Global) → vec_len lists ≡ vec_len parts → length lists.items ≡ length parts.items
 lengths lists parts same = sym lists.ok.0 ∙ same ∙ parts.ok.0
 
 pub made_by_part-requires-after_bounds : goal.made_by_part-requires-after_bounds
@@ -28,7 +30,7 @@ returns-clause-exact g c =
     let each = made_of_parts R entries parts lists.items functions (c.in_ok-parts.ensures ∙ c.deref.ensures.value)
     (lengths lists c.in_ok-parts.parts c.in_ok-lists.ensures.as_many)
     (rw c.as_slice-blocks.ensures at c.in_ok-lists.ensures.each)
-    c.in_ok-functions.ensures.all c.in_ok-functions.ensures.joined in
+    c.in_ok-functions.ensures.made (c.in_ok-functions.ensures.joined ∙ ap (λ none. none ++ flat_map made_in lists.items) c.in_ok-with_capacity.ensures.items) in
     rw c.from_vec.ensures (c.in_ok-plan.ensures.makes functions each).exact
 
 pub returns-clause-complete : goal.returns-clause-complete
@@ -41,7 +43,7 @@ returns-clause-complete g c =
     let each = made_of_parts R entries parts lists.items functions (c.in_ok-parts.ensures ∙ c.deref.ensures.value)
     (lengths lists c.in_ok-parts.parts c.in_ok-lists.ensures.as_many)
     (rw c.as_slice-blocks.ensures at c.in_ok-lists.ensures.each)
-    c.in_ok-functions.ensures.all c.in_ok-functions.ensures.joined in
+    c.in_ok-functions.ensures.made (c.in_ok-functions.ensures.joined ∙ ap (λ none. none ++ flat_map made_in lists.items) c.in_ok-with_capacity.ensures.items) in
     rw c.from_vec.ensures (c.in_ok-plan.ensures.makes functions each).complete
 
 pub returns-clause-ordered : goal.returns-clause-ordered
@@ -54,5 +56,5 @@ returns-clause-ordered g c =
     let each = made_of_parts R entries parts lists.items functions (c.in_ok-parts.ensures ∙ c.deref.ensures.value)
     (lengths lists c.in_ok-parts.parts c.in_ok-lists.ensures.as_many)
     (rw c.as_slice-blocks.ensures at c.in_ok-lists.ensures.each)
-    c.in_ok-functions.ensures.all c.in_ok-functions.ensures.joined in
+    c.in_ok-functions.ensures.made (c.in_ok-functions.ensures.joined ∙ ap (λ none. none ++ flat_map made_in lists.items) c.in_ok-with_capacity.ensures.items) in
     rw c.from_vec.ensures (c.in_ok-plan.ensures.makes functions each).ordered

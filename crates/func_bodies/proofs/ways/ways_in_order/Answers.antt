@@ -7,7 +7,7 @@ use Rattle.func_bodies.proofs.ways.ways_in_order.Goals.{then-ne+in_ok-push, else
 use denote.Enum.Bare.{same_true}
 
 pub loop-edge-init : goal.loop-edge-init
-loop-edge-init c = so_far_start c.args.blocks.now c.args.entries.now c.args.edges.now _ c.in_ok-ways.ensures.items
+loop-edge-init c = so_far_start c.args.blocks.now c.args.entries.now c.args.edges.now c.first_number-from.result _ c.in_ok-ways.ensures.items c.first_number-from.ensures
 
 pub number_from-from-requires-clause-before : goal.number_from-from-requires-clause-before
 number_from-from-requires-clause-before c = λ k d lt. c.loop-edge.invariant.before k d c.loop-edge.edge-index _ lt (omega arith) c.loop-edge-test.true
@@ -43,6 +43,8 @@ loop-edge-preserved c =
           (same_true the_type (search rules) _ _ (not-false _ (sym c.ne.ensures ∙ w.if-ne.false))))
     ]
 
-pub returns-clause-ways : goal.returns-clause-ways
-returns-clause-ways c =
-    so_far_end c.args.blocks.now c.args.entries.now c.args.edges.now c.loop-edge.edge-index c.loop-edge.from _ c.loop-edge-test.false c.loop-edge.invariant
+pub returns : goal.returns
+returns c = record {
+  exact = so_far_end c.args.blocks.now c.args.entries.now c.args.edges.now c.loop-edge.edge-index c.loop-edge.from _ c.loop-edge-test.false c.loop-edge.invariant;
+  rising = c.loop-edge.invariant.rising;
+}
