@@ -1,5 +1,6 @@
 -- Words that no public clause cites: what the steps of a run tell one another.
-use Rattle.std.specs.Prelude.{◌≡◌, ℕ, List, Option, Some, None, IfSome, IfOk, Result, Ok, Err}
+use Rattle.std.specs.Prelude.{◌≡◌, ℕ, List, Vec, Option, Some, None, IfSome, IfOk, Result, Ok, Err}
+use Rattle.std.specs.declared.alloc.Global.{Global}
 use Rattle.std.proofs.Common.{Bor}
 use Rattle.std.specs.FinMap as map
 use Rattle.cfg_model.specs.Program.Cuts.{AreCuts}
@@ -16,8 +17,9 @@ use Rattle.chain_index.specs.Found.{AreReachesOf}
 use Rattle.code_view.specs.declared.code.Code.{Code}
 use Rattle.code_view.specs.Cuts.{Counts, cut_of, CutsFit}
 use Rattle.code_view.specs.FileCode.{FileCode, program_of}
-use Rattle.code_view.specs.Program.{program_under}
+use Rattle.table_trim.specs.declared.jumps.TableJump.{TableJump}
 use Rattle.table_trim.specs.Extents.{extent_at}
+use Rattle.table_trim.specs.Tables.{AreAllTables}
 use Rattle.core_state.specs.declared.state.State.{State}
 use Rattle.finaliser.specs.declared.outline.Outline.{Outline}
 use Rattle.finaliser.specs.Closed.{IsClosedFromSome, IsOutlineOf}
@@ -25,8 +27,6 @@ use Rattle.func_bodies.specs.Listed.{AreOrdered, HaveEachEntry}
 use Rattle.elf_image.specs.declared.fault.Fault.TheVariants.{TooLarge}
 use Rattle.elf_image.specs.Faults.{first_fault}
 use Rattle.cfg_words.specs.Request.{Asked}
-use Rattle.cfg.specs.declared.ahead.Ahead.{Ahead}
-use Rattle.cfg.specs.declared.ahead.First.{First}
 use Rattle.cfg.specs.declared.refusal.Refusal.{Refusal}
 use Rattle.cfg.specs.declared.refusal.Refusal.TheVariants as refusals
 use Rattle.cfg.specs.Words.{IsForFile}
@@ -86,6 +86,16 @@ Surveys asks answers =
     ((image : Bor (List ℕ)) → asks image)
     × ((image : Bor (List ℕ)) (r : _) → answers image r → IfOk r (AreReachesOf image.now))
 
+-- Whoever may be called of any program of a file, and gives all jump tables of the file: by what it
+-- asks before a call, and what it says of its answer.
+abbrev pub Searches :
+    {E : Type 0} → (Bor Code → Type 0)
+    → (Bor Code → Result (Vec TableJump Global) E → Type 0) → Type 0
+Searches asks answers =
+    ((code : Bor Code) → asks code)
+    × ((code : Bor Code) (r : _) → answers code r
+    → IfOk r (λ jumps. AreAllTables code.now.bytes jumps.items))
+
 -- Whoever may be called of any program of a file and its seeds, and gives the closed state: by what
 -- it asks before a call, and what it says of its answer.
 abbrev pub Builds :
@@ -96,33 +106,6 @@ Builds asks answers =
     → asks code seeds)
     × ((code : Bor Code) (seeds : Bor (List ℕ)) (r : _) → answers code seeds r
     → IfOk r (λ state. IsClosed (program_of code.now) seeds.now state.maps))
-
--- What was built ahead is the closed state of the file with these bytes under its cuts.
-abbrev pub IsAheadOf : List ℕ → List ℕ → Ahead → Type 0
-IsAheadOf bytes seeds ahead =
-    IsClosed (program_under bytes (cut_of ahead.cuts)) seeds ahead.state.maps
-
--- The first of two states is the closed state of a program of a file, and the second that of another
--- one.
-pub record IsSideOf (code other : FileCode) (seeds : List ℕ) (side : ℕ) (state : State) : Type 0 where
-  pub first : side ≡ 0 → IsClosed (program_of code) seeds state.maps
-  pub second : side ≡ 1 → IsClosed (program_of other) seeds state.maps
-
--- The closed state of a program of a file, and perhaps one that was built ahead.
-pub record IsFirstOf (code : FileCode) (seeds : List ℕ) (first : First) : Type 0 where
-  pub closed : IsClosed (program_of code) seeds first.state.maps
-  pub ahead : IfSome first.ahead (IsAheadOf code.bytes seeds)
-
--- Whoever builds that of any program of a file without cuts and its seeds: by what it asks and what
--- it says, as above.
-abbrev pub Begins :
-    {E : Type 0} → (Bor Code → Bor (List ℕ) → Type 0)
-    → (Bor Code → Bor (List ℕ) → Result First E → Type 0) → Type 0
-Begins asks answers =
-    ((code : Bor Code) (seeds : Bor (List ℕ)) → code.now.cuts ≡ map.empty
-    → AreSeeds (program_of code.now) seeds.now → asks code seeds)
-    × ((code : Bor Code) (seeds : Bor (List ℕ)) (r : _) → answers code seeds r
-    → IfOk r (IsFirstOf code.now seeds.now))
 
 -- An answer with the functions of a program, in order, wherever it is one.
 abbrev pub AnswersFunctions :

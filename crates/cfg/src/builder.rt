@@ -1,8 +1,7 @@
 //! Who builds a graph: the caller's thread, or workers.
 
-ghost use Rattle.cfg.specs.Inner.{Begins, Builds, FindsCuts, Makes, ReadsOff, Surveys};
+ghost use Rattle.cfg.specs.Inner.{Builds, FindsCuts, Makes, ReadsOff, Searches, Surveys};
 
-use crate::ahead::First;
 use alone::build_alone;
 use cfg_model::Functions;
 use chain_index::ChainReaches;
@@ -12,11 +11,11 @@ use elf_image::Image;
 use finaliser::{Outline, blocks_and_edges};
 use func_bodies::functions;
 use std::alloc::Global;
-use table_trim::cuts;
+use table_trim::{TableJump, all_tables, cuts};
 
 /// Who does the parts of a graph's making that several threads can share: the reaches of the chains,
-/// the closed states, the cuts of jump tables, and the outline and the functions that a state
-/// shows. Whoever does them answers the same, or want of memory.
+/// the jump tables of all code, the closed states, the cuts that a state shows, and the outline and
+/// the functions that it shows. Whoever does them answers the same, or want of memory.
 pub trait Builder {
     ghost use Rattle.std.specs.Prelude.{◌≡◌, List, ℕ, IfOk, ⊤};
     ghost use Rattle.std.specs.FinMap as map;
@@ -31,8 +30,8 @@ pub trait Builder {
     ghost use Rattle.code_view.specs.FileCode.{program_of};
     ghost use Rattle.finaliser.specs.Closed.{IsClosedFromSome, IsOutlineOf};
     ghost use Rattle.table_trim.specs.Extents.{extent_at};
+    ghost use Rattle.table_trim.specs.Tables.{AreAllTables};
     ghost use Rattle.func_bodies.specs.Listed.{AreOrdered, HaveEachEntry};
-    ghost use Rattle.cfg.specs.Inner.{IsFirstOf};
 
     /// What holds of a builder that may be asked.
     ghost ready: { Self → Type 0 } = { λ _. ⊤ };
@@ -42,13 +41,10 @@ pub trait Builder {
         requires ready { ready self.now }
         ensures reaches { IfOk result (AreReachesOf image.now) };
 
-    /// The closed state of the program `code`, which has no cuts yet, and perhaps one under likely
-    /// cuts, built meanwhile.
-    fn first(&self, code: &Code, seeds: &[u64]) -> Result<First, core_state::Memory>
+    /// The jumps of all code that go through a table, reached or not.
+    fn tables(&self, code: &Code) -> Result<Vec<TableJump>, code_view::Memory>
         requires ready { ready self.now }
-        requires uncut { code.now.cuts ≡ map.empty }
-        requires seeds { AreSeeds (program_of code.now) seeds.now }
-        ensures first { IfOk result (IsFirstOf code.now seeds.now) };
+        ensures tables { IfOk result (λ jumps. AreAllTables code.now.bytes jumps.items) };
 
     /// The closed state of the program `code` whose seeds are `seeds`.
     fn state(&self, code: &Code, seeds: &[u64]) -> Result<State, core_state::Memory>
@@ -104,11 +100,8 @@ impl Builder for Alone {
         ChainReaches::new(self.alloc, image)
     }
 
-    fn first(&self, code: &Code, seeds: &[u64]) -> Result<First, core_state::Memory> {
-        Ok(First {
-            state: build_alone(self.alloc, code, seeds)?,
-            ahead: None,
-        })
+    fn tables(&self, code: &Code) -> Result<Vec<TableJump>, code_view::Memory> {
+        all_tables(self.alloc, code)
     }
 
     fn state(&self, code: &Code, seeds: &[u64]) -> Result<State, core_state::Memory> {
@@ -137,11 +130,11 @@ impl Builder for Alone {
 /// Workers, as the closures that set them to work. What starts threads has to stand where the
 /// runtime is: a method of an `impl` hands its block's bounds to no other thread.
 #[derive(Drop)]
-pub struct Workers<X, N, S, K, O, F> {
+pub struct Workers<X, T, S, K, O, F> {
     /// Makes what an index keeps.
     pub reaches: X,
-    /// Builds the first closed state.
-    pub first: N,
+    /// Finds the jump tables of all code.
+    pub tables: T,
     /// Builds a closed state.
     pub state: S,
     /// Finds the cuts of jump tables.
@@ -154,14 +147,14 @@ pub struct Workers<X, N, S, K, O, F> {
 
 impl<
     X: Fn(&Image) -> Result<ChainReaches, chain_index::Memory>,
-    N: Fn(&Code, &[u64]) -> Result<First, core_state::Memory>,
+    T: Fn(&Code) -> Result<Vec<TableJump>, code_view::Memory>,
     S: Fn(&Code, &[u64]) -> Result<State, core_state::Memory>,
     K: Fn(&Code, &State) -> Result<Cuts, code_view::Memory>,
     O: Fn(&Code, &State) -> Result<Outline, finaliser::Memory>,
     F: Fn(&Code, &[u64], &State, &Outline) -> Result<Functions, func_bodies::Memory>,
-> Builder for Workers<X, N, S, K, O, F> {
+> Builder for Workers<X, T, S, K, O, F> {
     ghost ready = { λ workers. Surveys (X.pre workers.reaches) (X.post workers.reaches)
-        × Begins (N.pre workers.first) (N.post workers.first)
+        × Searches (T.pre workers.tables) (T.post workers.tables)
         × Builds (S.pre workers.state) (S.post workers.state)
         × FindsCuts (K.pre workers.cuts) (K.post workers.cuts)
         × ReadsOff (O.pre workers.outline) (O.post workers.outline)
@@ -171,8 +164,8 @@ impl<
         (self.reaches)(image)
     }
 
-    fn first(&self, code: &Code, seeds: &[u64]) -> Result<First, core_state::Memory> {
-        (self.first)(code, seeds)
+    fn tables(&self, code: &Code) -> Result<Vec<TableJump>, code_view::Memory> {
+        (self.tables)(code)
     }
 
     fn state(&self, code: &Code, seeds: &[u64]) -> Result<State, core_state::Memory> {

@@ -1,19 +1,21 @@
-//! The graph of a file, step by step: the closed state without cuts, the cuts of its jump tables,
-//! the closed state under them, and what is read off it.
+//! The graph of a file, step by step: the closed state under the cuts that all jump tables of the
+//! code give, or, where some of them are not reached, under those of the tables that are; and what
+//! is read off it.
 
-ghost use Rattle.std.specs.Prelude.{◌≡◌, ℕ, ◌<◌, length, All, Contains, IsTrue, IfOk, IfErr, IfSome};
+ghost use Rattle.std.specs.Prelude.{◌≡◌, ℕ, ◌<◌, length, All, Contains, IsTrue, IfOk, IfErr};
 ghost use Rattle.std.specs.List.Sorted.{IsStrictlyIncreasing};
+ghost use Rattle.std.specs.FinMap as map;
 ghost use Rattle.elf_image.specs.Code.{is_code};
 ghost use Rattle.elf_image.specs.Header as header;
 ghost use Rattle.elf_image.specs.Seeds as spec;
 ghost use Rattle.cfg_model.specs.Graph.Graph.{IsGraph};
 ghost use Rattle.cfg_model.specs.Builder.Kept.{IsClosed};
+ghost use Rattle.code_view.specs.Cuts.{cut_of};
 ghost use Rattle.code_view.specs.FileCode.{program_of};
+ghost use Rattle.code_view.specs.Program.{program_under};
 ghost use Rattle.cfg_model.specs.Program.Reach.{AreSeeds};
 ghost use Rattle.cfg.specs.FileGraph.{IsGraphOf};
-ghost use Rattle.cfg.specs.Inner.{IsAheadOf};
 
-use crate::ahead::{Ahead, First};
 use crate::builder::Builder;
 use crate::refusal::Refusal;
 use cfg_model::Graph;
@@ -25,14 +27,16 @@ use finaliser::Outline;
 use func_bodies::mark_tails;
 use std::alloc::Global;
 use std::mem;
+use table_trim::{all_entered, cuts_of};
 
-/// The graph of a file from its seeds. `by` builds the closed states, finds the cuts, and makes
-/// the outline and the functions.
+/// The graph of a file from its seeds. `by` finds the jump tables, builds the closed states, finds
+/// the cuts, and makes the outline and the functions.
 ///
-/// Where a table is cut, the closed state under the cuts is made anew: what only the entries that
-/// are cut away lead to is not in it. The one without cuts is freed before, so that memory holds
-/// one closed state at a time, unless one under the same cuts was built beside it. A state behind
-/// which no other one is built is not freed: the run ends soon, and all memory with it.
+/// The cuts of a file are those of the tables whose jumps are reached where none is cut. Most often
+/// all tables of the code are reached, even under the cuts that all of them give, so that is tried
+/// first: then these are the cuts, and one closed state is built. Else two more are: one without
+/// cuts, which shows the cuts, and where there are some, one under them. Each is freed before the
+/// next one is built.
 pub fn graph_of<B: Builder>(
     alloc: Global,
     by: &B,
@@ -51,41 +55,70 @@ pub fn graph_of<B: Builder>(
     let index = ChainIndex::of(image, by.reaches(image)?);
     let none = Cuts::none(alloc);
     let uncut = Code::new(image, &index, &none);
-    let First { state, ahead } = by.first(&uncut, seeds)?;
-    let cuts = by.cuts(&uncut, &state)?;
-    if cuts.is_empty() {
-        drop(ahead);
-        return graph_from(by, &uncut, seeds, state, image.entry());
+    let tables = by.tables(&uncut)?;
+    let likely = cuts_of(alloc, &tables)?;
+    let code = uncut.under(&likely);
+    let state = by.state(&code, seeds)?;
+    if all_entered(&state, &tables) {
+        return graph_from(by, &code, seeds, state, image.entry());
     }
-    let code = Code::new(image, &index, &cuts);
-    let state = state_under(by, &code, &cuts, seeds, state, ahead)?;
-    graph_from(by, &code, seeds, state, image.entry())
+    graph_by_reached(by, &uncut, &likely, state, seeds, image.entry())
 }
 
-/// The closed state of the program `code`, which is under these cuts: the one that was built ahead,
-/// where that is under the same. Else the one without cuts is freed before another one is built.
-fn state_under<B: Builder>(
+/// The closed state of the program `uncut`, which has no cuts: `state`, the one under the likely
+/// cuts, where these are none, and else another one, for which that is freed.
+fn uncut_state<B: Builder>(
     by: &B,
-    code: &Code,
-    cuts: &Cuts,
+    uncut: &Code,
+    likely: &Cuts,
+    state: State,
     seeds: &[u64],
-    uncut: State,
-    ahead: Option<Ahead>,
 ) -> Result<State, core_state::Memory>
     requires build { B.ready by.now }
-    requires cuts { code.now.cuts ≡ cuts.now }
-    requires seeds { AreSeeds (program_of code.now) seeds.now }
-    requires ahead { IfSome ahead (IsAheadOf code.now.bytes seeds.now) }
-    ensures { IfOk result (λ state. IsClosed (program_of code.now) seeds.now state.maps) }
+    requires uncut { uncut.now.cuts ≡ map.empty }
+    requires seeds { AreSeeds (program_of uncut.now) seeds.now }
+    requires closed { IsClosed (program_under uncut.now.bytes (cut_of likely.now)) seeds.now
+        state.maps }
+    ensures { IfOk result (λ state. IsClosed (program_of uncut.now) seeds.now state.maps) }
 {
-    if let Some(ahead) = ahead {
-        if ahead.cuts.is_same(cuts) {
-            mem::forget(uncut);
-            return Ok(ahead.state);
-        }
+    if likely.is_empty() {
+        return Ok(state);
     }
-    drop(uncut);
-    by.state(code, seeds)
+    drop(state);
+    by.state(uncut, seeds)
+}
+
+/// The graph of a file some of whose tables are not reached under the likely cuts, under which
+/// `state` is closed. A closed state without cuts, which `uncut` has, shows the cuts.
+fn graph_by_reached<B: Builder>(
+    by: &B,
+    uncut: &Code,
+    likely: &Cuts,
+    state: State,
+    seeds: &[u64],
+    entry: u64,
+) -> Result<Graph, Refusal>
+    requires build { B.ready by.now }
+    requires uncut { uncut.now.cuts ≡ map.empty }
+    requires all { seeds.now ≡ spec.seeds uncut.now.bytes }
+    requires rising { IsStrictlyIncreasing seeds.now }
+    requires some { 0 < length seeds.now }
+    requires code { All (λ a. IsTrue (is_code uncut.now.bytes a)) seeds.now }
+    requires closed { IsClosed (program_under uncut.now.bytes (cut_of likely.now)) seeds.now
+        state.maps }
+    requires entry { entry ≡ header.entry uncut.now.bytes }
+    ensures graph { IfOk result (IsGraphOf uncut.now.bytes) }
+    ensures memory { IfErr result (λ refusal. refusal ≡ Refusal.Memory) }
+{
+    let state = uncut_state(by, uncut, likely, state, seeds)?;
+    let cuts = by.cuts(uncut, &state)?;
+    if cuts.is_empty() {
+        return graph_from(by, uncut, seeds, state, entry);
+    }
+    drop(state);
+    let code = uncut.under(&cuts);
+    let state = by.state(&code, seeds)?;
+    graph_from(by, &code, seeds, state, entry)
 }
 
 /// The graph that a closed state shows: its outline, the functions, and the tail calls among the

@@ -3,13 +3,12 @@
 //! - `run`: a whole run over any input and any sinks, and what is proved of it.
 //! - `reading`: the bytes of the file. `answer`: from these to the report.
 //! - `graph`: the graph of a file, under the cuts of its jump tables. `builder`: who builds it.
-//!   `sharing`: what several threads do of it. `ahead`: a closed state under likely cuts.
+//!   `sharing`: what several threads do of it.
 //! - `text`: the text of an answer, written piece by piece.
 //! - `safe`: a run where neither the input nor standard output can fail.
 //! - `status`, `refusal`: how a run ends, and the line that tells it.
 #![tactic(auto)]
 
-mod ahead;
 mod answer;
 mod builder;
 mod graph;

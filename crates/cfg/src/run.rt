@@ -10,6 +10,7 @@ ghost use Rattle.cfg_model.specs.Builder.Kept.{IsClosed};
 ghost use Rattle.chain_index.specs.Found.{AreReachesOf};
 ghost use Rattle.code_view.specs.FileCode.{program_of};
 ghost use Rattle.finaliser.specs.Closed.{IsClosedFromSome, IsOutlineOf};
+ghost use Rattle.table_trim.specs.Tables.{AreAllTables};
 ghost use Rattle.cfg_io.specs.Opened.{Nothing};
 ghost use Rattle.cfg_io.specs.Told.{TakesCount, TakesAtMost};
 ghost use Rattle.cfg_words.specs.Request.{asked, of_file};
@@ -18,17 +19,16 @@ ghost use Rattle.cfg.specs.Answer.{IsAnswer, text_answer};
 ghost use Rattle.cfg.specs.Refusal.{status_of};
 ghost use Rattle.cfg.specs.Lines.{refusal_line};
 ghost use Rattle.cfg.specs.Text.{bytes_of};
-ghost use Rattle.cfg.specs.Inner.{AnswersCuts, AnswersFunctions, IsFirstOf};
+ghost use Rattle.cfg.specs.Inner.{AnswersCuts, AnswersFunctions};
 ghost use Rattle.cfg.specs.Inner.{IsTrueOf, IsOfFile, IsFaultless};
 ghost use Rattle.cfg.specs.Run.{Grows, Tells, IsDecided, HasRead};
 ghost use Rattle.cfg.specs.Run.{Gives, GivesPart, IsLineOf, OpenedFor};
 
-use crate::ahead::First;
 use crate::answer::{report_of, summary_of};
 use crate::builder::{Alone, Builder, Workers};
 use crate::reading::{FILE_LIMIT, read_file};
 use crate::refusal::Refusal;
-use crate::sharing::{cuts_with, first_with, outline_with, state_with};
+use crate::sharing::{cuts_with, outline_with, state_with};
 use crate::status::Status;
 use crate::text::{Text, Unwritten};
 use cfg_io::{Input, Sink};
@@ -46,6 +46,7 @@ use std::alloc::Global;
 use std::marker::Sync;
 use std::sync::Wait;
 use std::thread::Threads;
+use table_trim::{TableJump, all_tables_by};
 
 /// Runs the program: reads the file that `words` ask for from `input`, writes the report of its
 /// control-flow graph to `out`, and tells on `err` why it did not. Of a made program, for which
@@ -57,10 +58,9 @@ use std::thread::Threads;
 /// `complete` they do wherever neither the input nor standard output failed in this run and memory
 /// sufficed. The other clauses say what holds where something failed.
 ///
-/// From two workers on, threads share the work. Where tables may overlap, half of the workers build
-/// one closed state, and the others a second one beside it. Two workers or more for one state, and
-/// two seeds or more, share a board, and pass the gate before each operation. The run may wait then.
-/// For one worker it calls [`run_one`].
+/// From two workers on, threads share the work: with two seeds or more they build the closed state
+/// on a board that they share, and pass the gate before each operation. The run may wait then. For
+/// one worker it calls [`run_one`].
 pub fn run<R: Threads + Wait + Sync, I: Input, O: Sink, E: Sink, G: Gate>(
     rt: &R,
     alloc: Global,
@@ -120,11 +120,10 @@ pub fn run<R: Threads + Wait + Sync, I: Input, O: Sink, E: Sink, G: Gate>(
             requires { IsSync R.row × (1 ≤ count) × (count ≤ 64) }
             ensures { IfOk result (AreReachesOf image.now) }
         { ChainReaches::new_by(rt, alloc, image, count) };
-        let first = |code: &Code, seeds: &[u64]| -> Result<First, core_state::Memory>
-            requires { IsSync R.row × IsSync G.row × (2 ≤ count) × (count ≤ 64)
-                × (code.now.cuts ≡ map.empty) × AreSeeds (program_of code.now) seeds.now }
-            ensures { IfOk result (IsFirstOf code.now seeds.now) }
-        { first_with(rt, alloc, code, seeds, count, gate) };
+        let tables = |code: &Code| -> Result<Vec<TableJump>, code_view::Memory>
+            requires { IsSync R.row × (1 ≤ count) }
+            ensures { IfOk result (λ jumps. AreAllTables code.now.bytes jumps.items) }
+        { all_tables_by(rt, alloc, code, count) };
         let state = |code: &Code, seeds: &[u64]| -> Result<State, core_state::Memory>
             requires { IsSync R.row × IsSync G.row × (2 ≤ count) × (count ≤ 64)
                 × AreSeeds (program_of code.now) seeds.now }
@@ -151,7 +150,7 @@ pub fn run<R: Threads + Wait + Sync, I: Input, O: Sink, E: Sink, G: Gate>(
         { functions_by(rt, alloc, code, seeds, state, outline, count) };
         let by = Workers {
             reaches,
-            first,
+            tables,
             state,
             cuts,
             outline,
