@@ -4,7 +4,7 @@
 ghost use Rattle.std.specs.Prelude.{◌≡◌, ◌⊎◌, IfOk, IfSome, IsSome};
 ghost use Rattle.rv_flow.specs.Straight.{IsStraightLength};
 ghost use Rattle.rv_flow.specs.Placed.{compressed_insn};
-ghost use Rattle.rv_flow.specs.Inner.{IsTable, goes_on, goes_on_behind};
+ghost use Rattle.rv_flow.specs.Inner.{IsTable, goes_on, goes_on_behind, short_goes_on};
 
 use crate::placed::{compressed_insn, whole_insn};
 use crate::raw::is_unimp;
@@ -53,9 +53,18 @@ fn short_forms(alloc: Global) -> Result<Vec<bool>, AllocError>
 {
     let mut shorts = Vec::with_capacity(alloc, HALFWORDS as usize)?;
     for half in 0..HALFWORDS {
-        shorts.push(goes_on_behind(compressed_insn(half as u16)))?;
+        shorts.push(short_goes_on(half as u16))?;
     }
     Ok(shorts)
+}
+
+// Whether a halfword is a 16-bit instruction behind which control goes straight on. One that begins
+// a longer instruction is not decoded: of all halfwords that would take longest, since no row of
+// the tables holds.
+fn short_goes_on(half: u16) -> bool
+    ensures { result ≡ short_goes_on half }
+{
+    half & 0b11 != 0b11 && goes_on_behind(compressed_insn(half))
 }
 
 // Whether control goes straight on behind what is an instruction.

@@ -1,8 +1,7 @@
 use Rattle.std.proofs.Common.{◌≡◌, ℕ, ◌+◌, ◌<◌, Bool, false, List, [], ◌∷◌, ◌++◌, length, get_or, sym, ap, ◌∙◌, arith, inl, inr}
 use Rattle.std.proofs.lemmas.Bool.{cases_order}
 use Rattle.std.proofs.lemmas.List.{get_or_push, get_or_append_left, length_push}
-use Rattle.rv_flow.specs.Inner.{goes_on_behind}
-use Rattle.rv_flow.specs.Placed.{compressed_insn}
+use Rattle.rv_flow.specs.Inner.{short_goes_on}
 use Rattle.rv_flow.proofs.straight.short_forms.Goals as goal
 
 -- a list that tells f, and one answer more
@@ -18,7 +17,7 @@ told_push f xs n b size told here k below =
 
 pub loop-half-preserved : goal.loop-half-preserved
 loop-half-preserved c = rw c.in_ok-push.ensures.items record {
-  size = length_push c.loop-half.shorts.items c.goes_on_behind.result ∙ ap (λ n. n + 1) c.loop-half.invariant.size;
-  told = told_push (λ half. goes_on_behind (compressed_insn half)) c.loop-half.shorts.items c.loop-half.half c.goes_on_behind.result
-      c.loop-half.invariant.size c.loop-half.invariant.told (c.goes_on_behind.ensures ∙ ap goes_on_behind c.compressed_insn.ensures);
+  size = length_push c.loop-half.shorts.items c.short_goes_on.result ∙ ap (λ n. n + 1) c.loop-half.invariant.size;
+  told = told_push short_goes_on c.loop-half.shorts.items c.loop-half.half c.short_goes_on.result
+      c.loop-half.invariant.size c.loop-half.invariant.told c.short_goes_on.ensures;
 }

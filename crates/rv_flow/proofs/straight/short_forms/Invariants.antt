@@ -1,11 +1,10 @@
 use Rattle.std.proofs.Common.{◌≡◌, ℕ, ◌<◌, length, get_or, false}
-use Rattle.rv_flow.specs.Placed.{compressed_insn}
-use Rattle.rv_flow.specs.Inner.{goes_on_behind}
+use Rattle.rv_flow.specs.Inner.{short_goes_on}
 use Rattle.rv_flow.proofs.straight.short_forms.Given as goal
 
 -- the halfwords below half are told
 abbrev pub invariant-loop-half : goal.invariant-loop-half
 invariant-loop-half l = record {
   size : length l.shorts.items ≡ l.half;
-  told : (k : ℕ) → k < l.half → get_or l.shorts.items k false ≡ goes_on_behind (compressed_insn k);
+  told : (k : ℕ) → k < l.half → get_or l.shorts.items k false ≡ short_goes_on k;
 }
