@@ -5,3 +5,4 @@ pub mod ChainEnds
 pub mod RegisterJumps
 pub mod JumpsFound
 pub mod EndLengths
+mod Worked

@@ -1,9 +1,10 @@
--- Only a jump through a register that links to x0 has a table, and its first halfword tells it.
+-- Only a jump through a register that links to x0 and is not a return has a table, and its first
+-- halfword tells it, but for whether a JALR is a return.
 use Rattle.std.proofs.Common.{◌≡◌, ◌≢◌, ℕ, ◌/◌, ◌%◌, ◌^◌, ◌<◌, ◌==◌, ◌&&◌, Bool, true, false, not, cond, List, [], ◌∷◌, ◌++◌, Option, Some, None, refl, sym, ap, ◌∙◌, subst, inl, inr, arith}
 use Rattle.std.specs.Prelude.{ℤ}
 use Rattle.std.specs.List.{list_all}
 use Rattle.std.specs.Option.{option_map, option_map_or, option_and_then, option_or}
-use Rattle.std.proofs.lemmas.Bool.{cases_eq, ne_eqb, eqb-false, cond_both, cond-true, cond-false}
+use Rattle.std.proofs.lemmas.Bool.{cases_eq, cases_Bool, false≢true, ne_eqb, eqb-false, and_left, and_right, cond_both, cond-true, cond-false}
 use Rattle.std.proofs.lemmas.Bool.Decides.{nat_tests}
 use Rattle.std.proofs.lemmas.Option.{same_Some, none-some}
 use Rattle.elf_image.specs.declared.section.Section.{Section}
@@ -19,7 +20,7 @@ use Rattle.rv_decode.proofs.Narrowing.{without, first_meaning-without}
 use Rattle.rvc_expand.specs.Formats.{r_type, i_type, s_type, b_type, u_type, j_type}
 use Rattle.rvc_expand.specs.Halfword.{first_register}
 use Rattle.rvc_expand.specs.Table.{Form, first_word, quadrant_0, quadrant_1, quadrant_2, forms, expansion}
-use Rattle.rvc_expand.proofs.FieldsRead.{r_type-opcode, i_type-opcode, i_type-rd, s_type-opcode, b_type-opcode, u_type-opcode, j_type-opcode}
+use Rattle.rvc_expand.proofs.FieldsRead.{r_type-opcode, i_type-opcode, i_type-rd, i_type-rs1, s_type-opcode, b_type-opcode, u_type-opcode, j_type-opcode}
 use Rattle.rv_float.specs.Table.{float_instruction, float_rows, memory_rows, fused_rows, operation_rows}
 use Rattle.rv_float.specs.Table as floats
 use Rattle.rv_float.specs.Forms.{float_expansion, float_forms}
@@ -28,11 +29,11 @@ use Rattle.rv_flow.specs.declared.raw.RawFlow.TheVariants as raw
 use Rattle.rv_flow.specs.Placed.{placed_at, placed_by, word_insn, compressed_insn, whole, whole_insn, bad}
 use Rattle.rv_flow.specs.Raw.{raw_flow_at, raw_flow_by, insn_flow, jalr_flow, pair_target, address_plus, is_unimp}
 use Rattle.jump_table.specs.Table.{table_at, table_through, jump_register}
-use Rattle.code_view.specs.RegisterJump.{is_register_jump, is_register_jump_at}
+use Rattle.code_view.specs.RegisterJump.{is_link_register, is_jump_by_c_jr, is_register_jump, is_register_jump_at}
 
--- A JALR that links to x0.
+-- A JALR that links to x0 and is not a return.
 abbrev jumps : Insn → Bool
-jumps (insns.Jalr rd rs1 imm) = rd == 0
+jumps (insns.Jalr rd rs1 imm) = rd == 0 && not (is_link_register rs1)
 jumps _ = false
 
 abbrev jumps_some : Option Insn → Bool
@@ -49,8 +50,13 @@ stop-none : (b : Bool) → jump_register (cond b raw.Stop raw.Straight) ≡ None
 stop-none true = refl
 stop-none false = refl
 
-jalr-none : (rd rs1 : ℕ) (imm : ℤ) (paired : Option ℕ) → (rd == 0) ≡ false → jump_register (jalr_flow rd rs1 imm paired) ≡ None
-jalr-none rd rs1 imm None never = rw never refl
+unpaired-none : (zero link : Bool) (rs1 : ℕ) (imm : ℤ) → (zero && not link) ≡ false → jump_register (cond zero (cond link raw.Return (raw.RegisterJump rs1 imm)) raw.IndirectCall) ≡ None
+unpaired-none false link rs1 imm never = refl
+unpaired-none true true rs1 imm never = refl
+unpaired-none true false rs1 imm never = absurd (false≢true (sym never))
+
+jalr-none : (rd rs1 : ℕ) (imm : ℤ) (paired : Option ℕ) → (rd == 0 && not (is_link_register rs1)) ≡ false → jump_register (jalr_flow rd rs1 imm paired) ≡ None
+jalr-none rd rs1 imm None never = unpaired-none (rd == 0) (is_link_register rs1) rs1 imm never
 jalr-none rd rs1 imm (Some target) never = either-none (rd == 0) target target
 
 module _ (bytes : List ℕ) (a : ℕ) where
@@ -86,7 +92,7 @@ module _ (bytes : List ℕ) (a : ℕ) where
   unfolding table_at
   table-none never = through-none (section_start bytes a) (jump_register (raw_flow_at bytes a)) (flow-none (placed_at bytes a).insn never)
 
--- ---- the word of such an instruction: opcode 67, and rd 0
+-- ---- the word of such an instruction: opcode 67, rd 0, and rs1 not a link register
 
 parts : (j rest : Bool) → (not j && rest) ≡ true → (j ≡ false) × (rest ≡ true)
 parts true rest h = absurd (cc)
@@ -111,7 +117,8 @@ unfolding instruction
 base-no w other = elim (cases_eq (opcode w) 0x67) [
   | inl is ↦
       subst (λ (o : Option Insn). jumps_some o ≡ false) (sym (jalr_cases w is))
-      (pick (funct3 w == 0) (insns.Jalr (rd w) (rs1 w) (i_immediate w)) None (ne_eqb (rd w) 0 (λ zero. other (omega (arith, is, zero)))) refl)
+      (pick (funct3 w == 0) (insns.Jalr (rd w) (rs1 w) (i_immediate w)) None
+      (and_left (rd w == 0) (not (is_link_register (rs1 w))) (ne_eqb (rd w) 0 (λ zero. other (omega (arith, is, zero))))) refl)
   | inr never ↦
       subst (λ (o : Option Insn). jumps_some o ≡ false) (first_meaning-without w (opcode_is 0x67) (ne_eqb (opcode w) 0x67 never) rows)
       (rows-no w (without (opcode_is 0x67) rows) (others-no w))
@@ -137,7 +144,7 @@ word-no w other = either-no (instruction w) (float_instruction w) (base-no w oth
 opcode-no : (w o : ℕ) → opcode w ≡ o → o ≢ 0x67 → jumps_some (word_insn w) ≡ false
 opcode-no w o is other = word-no w (λ e. other (omega (arith, is, e)))
 
--- ---- the halfword of such an instruction: C.JR
+-- ---- the halfword of such an instruction: C.JR, and its register not a link register
 
 r-no : (o f3 f7 rd rs1 rs2 : ℕ) → o < 2 ^ 7 → o ≢ 0x67 → jumps_some (word_insn (r_type o f3 f7 rd rs1 rs2)) ≡ false
 r-no o f3 f7 rd rs1 rs2 fits other = opcode-no (r_type o f3 f7 rd rs1 rs2) o (r_type-opcode o f3 f7 rd rs1 rs2 fits) other
@@ -164,7 +171,18 @@ link-no rs1 =
     let link = i_type-rd 0x67 0 1 rs1 0 (omega arith) (omega arith) in
     word-no (i_type 0x67 0 1 rs1 0) (λ e. omega (arith, code, link, e))
 
-module _ (h : ℕ) (never : (h % 2 ^ 7 == 0b10 && h / 2 ^ 12 % 16 == 0b1000) ≡ false) where
+-- and one through a link register
+return-no : (r : ℕ) → r < 2 ^ 5 → is_link_register r ≡ true → jumps_some (word_insn (i_type 0x67 0 0 r 0)) ≡ false
+return-no r fits link =
+    let w = i_type 0x67 0 0 r 0 in
+    let register = i_type-rs1 0x67 0 0 r 0 (omega arith) (omega arith) (omega arith) fits in
+    let return = ap (λ s. not (is_link_register s)) register ∙ ap not link in
+    either-no (instruction w) (float_instruction w)
+    (subst (λ (o : Option Insn). jumps_some o ≡ false) (sym (jalr_cases w (i_type-opcode 0x67 0 0 r 0 (omega arith))))
+    (pick (funct3 w == 0) (insns.Jalr (rd w) (rs1 w) (i_immediate w)) None (and_right (rd w == 0) (not (is_link_register (rs1 w))) return) refl))
+    (float-no w)
+
+module _ (h : ℕ) (never : is_jump_by_c_jr h ≡ false) where
   -- None of the forms that hold of the halfword is one.
   abbrev NoneJumps : List Form → Type 0
   NoneJumps [] = Unit {0}
@@ -251,7 +269,10 @@ module _ (h : ℕ) (never : (h % 2 ^ 7 == 0b10 && h / 2 ^ 12 % 16 == 0b1000) ≡
       (
         λ _. i-no 0x03 3 _ _ _ (omega arith) (omega arith),
         (
-          λ held. absurd (grind (arith, nat_tests)),
+          λ held. elim (cases_Bool (is_link_register (first_register h))) [
+            | inl link ↦ return-no (first_register h) (omega arith) link
+            | inr other ↦ absurd (grind (arith, nat_tests))
+          ],
           (
             λ _. r-no 0x33 0 0x00 _ _ _ (omega arith) (omega arith),
             (

@@ -14,9 +14,10 @@ pub record IsCodeOf (c : Inside) : Type 0 where
   pub cuts : CutsFit c.image.now (cut_of c.cuts.now)
   pub index : c.index.now ≡ c.image.now
 
--- These are addresses whose first halfword is that of a jump through a register, and all of those
--- whose code section is among the first n sections.
-pub record AreJumpsOfFirst (bytes : List ℕ) (n : ℕ) (jumps : List ℕ) : Type 0 where
-  pub sound : (a : ℕ) → Contains jumps a → IsTrue (is_register_jump_at bytes a)
+-- These are addresses, among those that are looked for, whose first halfword is that of a jump
+-- through a register, and all of those whose code section is among the first n sections.
+pub record AreJumpsOfFirst (bytes : List ℕ) (Among : ℕ → Type 0) (n : ℕ) (jumps : List ℕ)
+    : Type 0 where
+  pub sound : (a : ℕ) → Contains jumps a → IsTrue (is_register_jump_at bytes a) × Among a
   pub complete : (i a : ℕ) → i < n → code_section_of bytes a ≡ Some (section bytes i)
-      → IsTrue (is_register_jump_at bytes a) → Contains jumps a
+      → IsTrue (is_register_jump_at bytes a) → Among a → Contains jumps a

@@ -1,16 +1,26 @@
 -- What the first halfword of an instruction tells of jump tables (RISC-V Unprivileged ISA 20240411,
--- section 2.5.1, and chapter 26, "C").
-use Rattle.std.specs.Prelude.{◌↔◌, ℕ, ◌/◌, ◌%◌, ◌^◌, ◌==◌, ◌&&◌, Bool, false, IsTrue, List, Contains}
-use Rattle.std.specs.Prelude.{if◌then◌else◌}
+-- section 2.5.1 with its table of return-address stack hints, and chapter 26, "C").
+use Rattle.std.specs.Prelude.{◌↔◌, ℕ, ◌/◌, ◌%◌, ◌^◌, ◌<◌, ◌≤◌, ◌==◌, ◌&&◌, ◌||◌, Bool, not, false}
+use Rattle.std.specs.Prelude.{IsTrue, IfSome, List, Contains, Option, if◌then◌else◌}
 use Rattle.std.specs.Option.{option_map_or}
 use Rattle.elf_image.specs.Code.{half_at}
 
--- The first halfword of a jump through a register that links to x0: of a JALR, whose opcode is 67
--- and whose rd is 0, or of a C.JR.
+-- The registers that hold return addresses: x1 and x5.
+abbrev pub is_link_register : ℕ → Bool
+is_link_register register = register == 1 || register == 5
+
+-- A C.JR that is not a return: the register in its bits 11 to 7 is not a link register.
+abbrev pub is_jump_by_c_jr : ℕ → Bool
+is_jump_by_c_jr half =
+    half % 2 ^ 7 == 0b10 && half / 2 ^ 12 % 16 == 0b1000
+    && not (is_link_register (half / 2 ^ 7 % 32))
+
+-- The first halfword of a jump through a register that links to x0 and is not a return by C.JR: of
+-- a JALR, whose opcode is 67 and whose rd is 0, or of such a C.JR. A JALR counts whatever its
+-- register, which its first halfword does not tell.
 abbrev pub is_register_jump : ℕ → Bool
 is_register_jump half =
-    if half % 4 == 3 then half % 2 ^ 12 == 0x67
-    else (half % 2 ^ 7 == 0b10 && half / 2 ^ 12 % 16 == 0b1000)
+    if half % 4 == 3 then half % 2 ^ 12 == 0x67 else is_jump_by_c_jr half
 
 -- The same of the halfword at a code address.
 abbrev pub is_register_jump_at : List ℕ → ℕ → Bool
@@ -19,3 +29,12 @@ is_register_jump_at bytes a = option_map_or is_register_jump (half_at bytes a) f
 -- These are the addresses of a file whose first halfword is that of such a jump.
 abbrev pub AreRegisterJumps : List ℕ → List ℕ → Type 0
 AreRegisterJumps bytes jumps = (a : ℕ) → Contains jumps a ↔ IsTrue (is_register_jump_at bytes a)
+
+-- a lies above `after` and up to `last`, where there are these.
+abbrev pub IsBetween : Option ℕ → Option ℕ → ℕ → Type 0
+IsBetween after last a = IfSome after (λ b. b < a) × IfSome last (λ b. a ≤ b)
+
+-- These are those of them that lie above `after` and up to `last`.
+abbrev pub AreRegisterJumpsBetween : List ℕ → Option ℕ → Option ℕ → List ℕ → Type 0
+AreRegisterJumpsBetween bytes after last jumps =
+    (a : ℕ) → Contains jumps a ↔ (IsTrue (is_register_jump_at bytes a) × IsBetween after last a)

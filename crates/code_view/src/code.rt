@@ -5,7 +5,7 @@ use crate::flow::{call_flow, in_code, jump_flow, straight_flow, table_flow};
 use crate::jump_word::is_jump_word;
 use crate::kept::kept_targets;
 use crate::memory::Memory;
-use crate::register_jump::{is_register_jump, register_jumps_of};
+use crate::register_jump::{is_register_jump, register_jumps_between};
 use cfg_model::{Chains, Flow};
 use chain_index::ChainIndex;
 use elf_image::Image;
@@ -55,6 +55,7 @@ impl<'a> Code<'a> {
     ghost use Rattle.code_view.specs.Program.{program_under};
     ghost use Rattle.code_view.specs.FileCode.{program_of};
     ghost use Rattle.code_view.specs.RegisterJump.{is_register_jump_at, AreRegisterJumps};
+    ghost use Rattle.code_view.specs.RegisterJump.{IsBetween, AreRegisterJumpsBetween};
     ghost use Rattle.code_view.specs.JumpWord.{is_jump_word};
     ghost use Rattle.cfg_model.specs.Program.Instructions.{flow_at, IsLawful};
 
@@ -82,8 +83,11 @@ impl<'a> Code<'a> {
     }
 
     /// The code addresses whose first halfword is that of a jump through a register that links to
-    /// x0, whether an instruction of the program begins there or not: no other has a jump table. It
-    /// takes time linear in the sizes of the code sections.
+    /// x0 and is not a return by C.JR, through x1 or x5, the link registers (RISC-V Unprivileged
+    /// ISA 20240411, section 2.5.1, the table of return-address stack hints), whether an
+    /// instruction of the program begins there or not: no other has a jump table. A return by JALR
+    /// is among them, since its first halfword does not tell its register. It takes time linear in
+    /// the sizes of the code sections.
     pub fn register_jumps(&self, alloc: Global) -> Result<Vec<u64>, Memory>
         ensures exact { IfOk result (λ jumps. AreRegisterJumps self.now.bytes jumps.items) }
         ensures tables { IfOk result
@@ -91,7 +95,26 @@ impl<'a> Code<'a> {
         ensures code { IfOk result
             (λ jumps. All (λ a. IsTrue (is_code self.now.bytes a)) jumps.items) }
     {
-        register_jumps_of(alloc, self.image)
+        self.register_jumps_between(alloc, None, None)
+    }
+
+    /// Those of [`register_jumps`](Self::register_jumps) that lie above `after` and up to `last`,
+    /// where there are such bounds. It takes time linear in the number of sections and in the size
+    /// of the code there, so that several threads can each search a part of the code.
+    pub fn register_jumps_between(
+        &self,
+        alloc: Global,
+        after: Option<u64>,
+        last: Option<u64>,
+    ) -> Result<Vec<u64>, Memory>
+        ensures exact { IfOk result
+            (λ jumps. AreRegisterJumpsBetween self.now.bytes after last jumps.items) }
+        ensures tables { IfOk result (λ jumps. (a : ℕ) → IsBetween after last a
+            → IsSome (table_at self.now.bytes a) → Contains jumps.items a) }
+        ensures code { IfOk result
+            (λ jumps. All (λ a. IsTrue (is_code self.now.bytes a)) jumps.items) }
+    {
+        register_jumps_between(alloc, self.image, after, last)
     }
 
     /// The jump table of the jump at the code address `j`, before cuts; `None` exactly where it has
@@ -104,7 +127,8 @@ impl<'a> Code<'a> {
     }
 
     /// Whether the instruction at the code address `a` is a jump through a register that links to
-    /// x0, told by its first halfword: no other instruction has a jump table. It decodes nothing.
+    /// x0 and is not a return by C.JR, told by its first halfword: no other instruction has a jump
+    /// table. It decodes nothing.
     pub fn jumps_by_register(&self, a: u64) -> bool
         requires { IsTrue (is_code self.now.bytes a) }
         ensures form { result ≡ is_register_jump_at self.now.bytes a }

@@ -17,3 +17,9 @@ impl<T: Drop> From<AllocFailed<T>> for Memory {
         Memory
     }
 }
+
+impl From<chain_index::Memory> for Memory {
+    fn from(_: chain_index::Memory) -> Self {
+        Memory
+    }
+}

@@ -22,6 +22,12 @@ const TARGETS: [u64; 8] = [
     0x10020, 0x10020, 0x10020, 0x10020, 0x10020, 0x10020, 0x10020, 0x10024,
 ];
 
+// Where the code of row 15 jumps through a register: twice through a table, else it returns, by
+// JALR.
+const JUMPS: [u64; 7] = [
+    0x1001C, 0x10020, 0x10024, 0x10048, 0x1004C, 0x10050, 0x10054,
+];
+
 // The end of the chain of `a`: decodes one instruction after the other.
 fn walked(image: &Image, a: u64) -> u64 {
     let mut k = a;
@@ -86,6 +92,29 @@ fn targets_of_a_table(rt: HostRuntime) -> Result<(), Fail> {
     assert_eq!(rt; targets.as_slice(), TARGETS.as_slice());
     for i in 0..8 {
         assert_eq!(rt; code.target(JUMP, i), targets[i as usize]);
+    }
+    Ok(())
+}
+
+#[test]
+fn register_jumps_part_by_part(rt: HostRuntime) -> Result<(), Fail> {
+    let image = Image::parse(rt.alloc(), row_file(rt.alloc(), 15, 0)?)?;
+    let index = ChainIndex::new(rt.alloc(), &image)?;
+    let none = Cuts::none(rt.alloc());
+    let code = Code::new(&image, &index, &none);
+    let jumps = code.register_jumps(rt.alloc())?;
+    assert_eq!(rt; jumps.as_slice(), JUMPS.as_slice());
+    for workers in [1, 2, 4, 64] {
+        let mut found = Vec::new(rt.alloc());
+        let mut after = None;
+        for bound in code.bounds(rt.alloc(), workers)? {
+            let mut part = code.register_jumps_between(rt.alloc(), after, Some(bound))?;
+            found.append(&mut part)?;
+            after = Some(bound);
+        }
+        let mut part = code.register_jumps_between(rt.alloc(), after, None)?;
+        found.append(&mut part)?;
+        assert_eq!(rt; found.as_slice(), JUMPS.as_slice());
     }
     Ok(())
 }

@@ -1,23 +1,11 @@
-use Rattle.std.proofs.Common.{ℕ, Vec, Global, ap, subst}
-use Rattle.std.specs.Prelude.{IfOk}
+use Rattle.std.proofs.Common.{Vec, ℕ, Global}
 use Rattle.std.proofs.lemmas.Result.{IfOk-weaker}
-use Rattle.code_view.specs.FileCode.{FileCode}
-use Rattle.code_view.specs.RegisterJump.{AreRegisterJumps}
-use Rattle.code_view.proofs.JumpsFound.{table-found, jumps-code}
+use Rattle.code_view.proofs.JumpsFound.{all-jumps, all-tables}
 use Rattle.code_view.proofs.code.Code.register_jumps.Goals as goal
-use Rattle.code_view.proofs.code.Code.register_jumps.Goals.{After-register_jumps_of}
-
--- they are those of the file that is kept
-exact : (c : After-register_jumps_of) → IfOk c.register_jumps_of.result (λ jumps. AreRegisterJumps c.args.self.now.bytes jumps.items)
-exact c =
-    subst (λ bytes. IfOk c.register_jumps_of.result (λ jumps. AreRegisterJumps bytes jumps.items)) (ap (λ (f : FileCode). f.bytes) c.self.view_is)
-    c.register_jumps_of.ensures
 
 pub returns-clause-exact : goal.returns-clause-exact
-returns-clause-exact c = exact c
+returns-clause-exact c =
+    IfOk-weaker _ _ _ (λ (jumps : Vec ℕ Global) all. all-jumps c.args.self.now.bytes jumps.items all) c.register_jumps_between.ensures.exact
 
 pub returns-clause-tables : goal.returns-clause-tables
-returns-clause-tables c = IfOk-weaker _ _ _ (λ (jumps : Vec ℕ Global) all. table-found c.args.self.now.bytes jumps.items all) (exact c)
-
-pub returns-clause-code : goal.returns-clause-code
-returns-clause-code c = IfOk-weaker _ _ _ (λ (jumps : Vec ℕ Global) all. jumps-code c.args.self.now.bytes jumps.items all) (exact c)
+returns-clause-tables c = IfOk-weaker _ _ _ (λ (jumps : Vec ℕ Global) found. all-tables c.args.self.now.bytes jumps.items found) c.register_jumps_between.ensures.tables
