@@ -1,10 +1,8 @@
 -- The jump tables of all code: how they are found, and what their cuts are where all are reached.
-use Rattle.std.proofs.Common.{◌≡◌, ℕ, ◌+◌, ◌*◌, ◌/◌, ◌%◌, ◌<◌, List, [], ◌∷◌, ◌++◌, length, take, drop, get_or, Option, Some, None, is_some, IsSome, Ok, Err, false, sym, ap, ◌∙◌, subst, ⊎_elim, arith}
+use Rattle.std.proofs.Common.{◌≡◌, ℕ, ◌<◌, List, [], ◌∷◌, ◌++◌, length, get_or, Option, Some, None, is_some, IsSome, Ok, Err, false, sym, ap, ◌∙◌, subst, ⊎_elim, arith}
 use Rattle.std.specs.Prelude.{All, IfOk}
-use Rattle.std.specs.Fork.{slice_chunk}
 use Rattle.std.specs.List.{Contains, flat_map}
-use Rattle.std.proofs.lemmas.Nat.{div-add-mod', div_below, mod_below}
-use Rattle.std.proofs.lemmas.List.{get_or_default, get_or-take, get_or-drop, length-take, length-drop, map-append}
+use Rattle.std.proofs.lemmas.List.{map-append}
 use Rattle.std.proofs.lemmas.List.Elements.{All-push, Contains-append_left, Contains-push, Contains-push_cases}
 use Rattle.std.proofs.lemmas.Option.{none-some}
 use Rattle.jump_table.specs.declared.table.Table.{Table}
@@ -16,11 +14,17 @@ use Rattle.cfg_model.specs.Builder.Kept.{IsClosed}
 use Rattle.cfg_model.specs.Builder.State.{BuilderState, IsEntered}
 use Rattle.code_view.specs.Cuts.{CutsFit}
 use Rattle.code_view.specs.Program.{program_under}
+use Rattle.code_view.specs.RegisterJump.{IsBetween}
+use Rattle.core_state.specs.Least.{IsAbove}
+use Rattle.stretches.specs.declared.stretch.Stretch.{Stretch}
+use Rattle.stretches.specs.Stretch.{IsUpTo}
+use Rattle.stretches.specs.Gaps.{gap}
+use Rattle.stretches.proofs.Covered.{in_some_gap}
 use Rattle.stretches.proofs.Joined.{item_of, from_part, all_joined}
 use Rattle.table_trim.specs.declared.jumps.TableJump.{TableJump}
 use Rattle.table_trim.specs.Extents.{extent_at}
 use Rattle.table_trim.specs.Tables.{AreTablesOf, AreAllTables, addresses_of}
-use Rattle.table_trim.specs.Parts.{Answered, AreMade, jumps_in, AreTablesAmong, AreTablesByPart}
+use Rattle.table_trim.specs.Parts.{Answered, AreMade, jumps_in, AreTablesAmong, AreTablesIn, AreTablesByGap}
 use Rattle.table_trim.proofs.Shared.{addresses_in, addresses_joined}
 use Rattle.table_trim.proofs.Found.{same_length, jump_is}
 use Rattle.table_trim.proofs.Reached.{reached_jump, cuts-other, has-table}
@@ -57,44 +61,44 @@ module _ (bytes : List ℕ) where
     all_jumps = λ j has. among.complete j (complete j (ap (λ o. is_some o) has.at_jump)) has;
   }
 
--- ---- part by part
+  -- an address in a stretch lies between its ends
+  is_between : (after last : Option ℕ) (a : ℕ) → IsAbove after a → IsUpTo last a → IsBetween after last a
+  is_between None None a above up_to = (above, up_to)
+  is_between None (Some l) a above up_to = (above, up_to)
+  is_between (Some f) None a above up_to = (above, up_to)
+  is_between (Some f) (Some l) a above up_to = (above, up_to)
 
--- a place lies in the chunk of its number
-chunk_has : (xs : List ℕ) (size : ℕ) → 0 < size → (k d : ℕ) → k < length xs → Contains (slice_chunk xs size (k / size)) (get_or xs k d)
-chunk_has xs size some k d within =
-    let n = k / size in
-    let o = k % size in
-    let rest : List ℕ = drop (n * size) xs in
-    let adds : n * size + o ≡ k = div-add-mod' k size in
-    let low : o < size = mod_below k size some in
-    let read : (e : ℕ) → get_or (take size rest) o e ≡ get_or xs k e = λ e. get_or-take size rest o e low ∙ (get_or-drop (n * size) xs o e ∙ ap (λ i. get_or xs i e) adds) in
-    (o, omega (arith, length-take size rest, length-drop (n * size) xs), read (get_or xs k d) ∙ get_or_default xs k (get_or xs k d) d within)
+  pub among-in : (stretch : Stretch) (places : List ℕ) → ((a : ℕ) → IsBetween stretch.after stretch.last a → IsSome (table_at bytes a) → Contains places a) → (jumps : List TableJump) → AreTablesAmong bytes places jumps → AreTablesIn bytes stretch jumps
+  among-in stretch places complete jumps among = record {
+    tables = among.tables;
+    complete = λ j inside has. among.complete j (complete j (is_between stretch.after stretch.last j inside.0 inside.1) (ap (λ o. is_some o) has.at_jump)) has;
+  }
 
-made_among : (bytes places : List ℕ) (answer : Answered) → IfOk answer (λ jumps. AreTablesAmong bytes places jumps.items) → AreMade answer → AreTablesAmong bytes places (jumps_in answer)
-made_among bytes places (Ok jumps) are made = are
-made_among bytes places (Err e) are made = absurd (cc)
+-- ---- gap by gap
 
-module _ (bytes places : List ℕ) (size : ℕ) (some : 0 < size) (answers : List Answered) (parts : AreTablesByPart bytes size places answers) where
+made_in : (bytes : List ℕ) (stretch : Stretch) (answer : Answered) → IfOk answer (λ jumps. AreTablesIn bytes stretch jumps.items) → AreMade answer → AreTablesIn bytes stretch (jumps_in answer)
+made_in bytes stretch (Ok jumps) are made = are
+made_in bytes stretch (Err e) are made = absurd (cc)
+
+module _ (bytes bounds : List ℕ) (answers : List Answered) (gaps : AreTablesByGap bytes bounds answers) where
   module _ (made : All AreMade answers) where
-    found_in : (n : ℕ) (d : Answered) → n < length answers → AreTablesAmong bytes (slice_chunk places size n) (jumps_in (get_or answers n d))
-    found_in n d within = made_among bytes (slice_chunk places size n) (get_or answers n d) (parts.each n d within) (made n d within)
+    found_in : (i : ℕ) (d : Answered) → i < length answers → AreTablesIn bytes (gap bounds i) (jumps_in (get_or answers i d))
+    found_in i d within = made_in bytes (gap bounds i) (get_or answers i d) (gaps.each i d (omega (arith, within, gaps.as_many))) (made i d within)
 
-    parts-joined : AreTablesAmong bytes places (flat_map jumps_in answers)
-    parts-joined = record {
-      tables = all_joined jumps_in (λ (f : TableJump). table_at bytes f.jump ≡ Some f.table) answers (λ n d within. (found_in n d within).tables);
-      complete = λ j there has.
-          let n = there.0 / size in
-          let within : n < length answers = div_below there.0 size (length answers) some (omega (arith, there.1, parts.all)) in
-          let d : Answered = item_of answers n within in
-          let here : Contains (slice_chunk places size n) j = subst (Contains (slice_chunk places size n)) there.2 (chunk_has places size some there.0 j there.1) in
-          subst (λ (xs : List ℕ). Contains xs j) (sym (addresses_joined answers)) (from_part addresses_in answers n d j within ((found_in n d within).complete j here has));
+    gaps-joined : AreAllTables bytes (flat_map jumps_in answers)
+    gaps-joined = record {
+      tables = all_joined jumps_in (λ (f : TableJump). table_at bytes f.jump ≡ Some f.table) answers (λ i d within. (found_in i d within).tables);
+      all_jumps = λ j has.
+          let at = in_some_gap bounds j in
+          let within : at.0 < length answers = omega (arith, at.1, gaps.as_many) in
+          let d : Answered = item_of answers at.0 within in
+          subst (λ (xs : List ℕ). Contains xs j) (sym (addresses_joined answers)) (from_part addresses_in answers at.0 d j within ((found_in at.0 d within).complete j at.2 has));
     }
 
-  -- What was found in each part is, put together, all that there is.
-  pub parts-all : ((a : ℕ) → IsSome (table_at bytes a) → Contains places a) → (joined : Answered)
-      → IfOk joined (λ _. All AreMade answers) → IfOk joined (λ jumps. jumps.items ≡ flat_map jumps_in answers) → IfOk joined (λ jumps. AreAllTables bytes jumps.items)
-  parts-all complete (Ok jumps) made is = among-all bytes places complete jumps.items (subst (AreTablesAmong bytes places) (sym is) (parts-joined made))
-  parts-all complete (Err e) made is = tt
+  -- What was found in each gap is, put together, all that there is.
+  pub gaps-all : (joined : Answered) → IfOk joined (λ _. All AreMade answers) → IfOk joined (λ jumps. jumps.items ≡ flat_map jumps_in answers) → IfOk joined (λ jumps. AreAllTables bytes jumps.items)
+  gaps-all (Ok jumps) made is = subst (AreAllTables bytes) (sym is) (gaps-joined made)
+  gaps-all (Err e) made is = tt
 
 -- ---- where all are reached
 

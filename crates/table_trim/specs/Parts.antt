@@ -1,13 +1,13 @@
--- Words that no public clause cites: the table jumps of a state in one stretch of addresses, and
--- those among some places.
-use Rattle.std.specs.Prelude.{◌⊎◌, ◌↔◌, ℕ, ◌*◌, ◌<◌, ◌≤◌, List, [], length, slice_index_or}
+-- Words that no public clause cites: the table jumps of a state, or of all code, in one stretch of
+-- addresses, and those among some places.
+use Rattle.std.specs.Prelude.{◌≡◌, ◌⊎◌, ◌↔◌, ℕ, ◌+◌, ◌≤◌, List, [], length, slice_index_or}
 use Rattle.std.specs.Prelude.{Vec, Contains, Result, Ok, Err, IsOk, IfOk}
-use Rattle.std.specs.Fork.{slice_chunk}
 use Rattle.std.specs.declared.alloc.Global.{Global}
 use Rattle.cfg_model.specs.Program.Instructions.{InstructionMap, IsLawful}
 use Rattle.cfg_model.specs.Builder.State.{BuilderState, IsEntered}
 use Rattle.stretches.specs.declared.stretch.Stretch.{Stretch}
 use Rattle.stretches.specs.Stretch.{IsIn}
+use Rattle.stretches.specs.Gaps.{gap}
 use Rattle.code_view.specs.declared.memory.Memory.{Memory}
 use Rattle.table_trim.specs.declared.jumps.TableJump.{TableJump}
 use Rattle.table_trim.specs.Tables.{HasTable, AreTablesOf, addresses_of}
@@ -28,6 +28,11 @@ pub record AreTablesAmong (bytes places : List ℕ) (jumps : List TableJump) : T
   pub tables : AreTablesOf bytes jumps
   pub complete : (j : ℕ) → Contains places j → HasTable bytes j → Contains (addresses_of jumps) j
 
+-- These are jumps with their tables, among them each of a stretch that has a table.
+pub record AreTablesIn (bytes : List ℕ) (stretch : Stretch) (jumps : List TableJump) : Type 0 where
+  pub tables : AreTablesOf bytes jumps
+  pub complete : (j : ℕ) → IsIn stretch j → HasTable bytes j → Contains (addresses_of jumps) j
+
 -- What a thread answers of its part.
 abbrev pub Answered : Type 0
 Answered = Result (Vec TableJump Global) Memory
@@ -41,10 +46,9 @@ abbrev pub jumps_in : Answered → List TableJump
 jumps_in (Ok jumps) = jumps.items
 jumps_in (Err e) = []
 
--- Each part of so many places has an answer: its tables, where they were found.
-pub record AreTablesByPart (bytes : List ℕ) (size : ℕ) (places : List ℕ) (answers : List Answered)
-    : Type 0 where
-  pub all : length places ≤ length answers * size
-  pub each : (n : ℕ) (d : Answered) → n < length answers
-      → IfOk (slice_index_or answers n d)
-      (λ jumps. AreTablesAmong bytes (slice_chunk places size n) jumps.items)
+-- Each gap between bounds has an answer: its tables, where they were found.
+pub record AreTablesByGap (bytes bounds : List ℕ) (answers : List Answered) : Type 0 where
+  pub as_many : length answers ≡ length bounds + 1
+  pub each : (i : ℕ) (d : Answered) → i ≤ length bounds
+      → IfOk (slice_index_or answers i d)
+      (λ jumps. AreTablesIn bytes (gap bounds i) jumps.items)

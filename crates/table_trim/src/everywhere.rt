@@ -4,12 +4,13 @@ ghost use Rattle.std.specs.Prelude.{◌↔◌, IfOk, IsTrue, All};
 ghost use Rattle.elf_image.specs.Code.{is_code};
 ghost use Rattle.cfg_model.specs.Builder.State.{IsEntered};
 ghost use Rattle.table_trim.specs.Tables.{AreAllTables};
-ghost use Rattle.table_trim.specs.Parts.{AreTablesAmong};
+ghost use Rattle.table_trim.specs.Parts.{AreTablesAmong, AreTablesIn};
 
 use crate::jumps::TableJump;
 use code_view::{Code, Memory};
 use core_state::State;
 use std::alloc::Global;
+use stretches::Stretch;
 
 /// The jumps of `code` that go through a table, reached or not, each with its table. [`Memory`]
 /// where memory ran out.
@@ -23,12 +24,20 @@ pub fn all_tables(alloc: Global, code: &Code<'_>) -> Result<Vec<TableJump>, Memo
     tables_among(alloc, code, &places)
 }
 
-/// The jumps at these code addresses that go through a table, in order, each with its table.
-pub(crate) fn tables_among(
+/// Those that lie in a stretch of addresses. It goes once over the halfwords of the code there.
+pub(crate) fn tables_in(
     alloc: Global,
     code: &Code<'_>,
-    places: &[u64],
+    stretch: Stretch,
 ) -> Result<Vec<TableJump>, Memory>
+    ensures { IfOk result (λ jumps. AreTablesIn code.now.bytes stretch jumps.items) }
+{
+    let places = code.register_jumps_between(alloc, stretch.after, stretch.last)?;
+    tables_among(alloc, code, &places)
+}
+
+/// The jumps at these code addresses that go through a table, in order, each with its table.
+fn tables_among(alloc: Global, code: &Code<'_>, places: &[u64]) -> Result<Vec<TableJump>, Memory>
     requires { All (λ a. IsTrue (is_code code.now.bytes a)) places.now }
     ensures { IfOk result (λ jumps. AreTablesAmong code.now.bytes places.now jumps.items) }
 {

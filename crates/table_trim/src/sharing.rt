@@ -1,11 +1,10 @@
 //! The cuts of jump tables, and the tables of all code, made by several threads.
 
-ghost use Rattle.std.specs.Prelude.{◌≡◌, ℕ, ◌+◌, ◌<◌, ◌≤◌, List, length, vec_len, slice_index_or};
-ghost use Rattle.std.specs.Prelude.{All, IfOk, IsTrue};
+ghost use Rattle.std.specs.Prelude.{◌≡◌, ℕ, ◌+◌, ◌≤◌, List, length, vec_len, slice_index_or};
+ghost use Rattle.std.specs.Prelude.{All, IfOk};
 ghost use Rattle.std.specs.List.{flat_map};
 ghost use Rattle.std.specs.List.Sorted.{IsNonDecreasing};
 ghost use Rattle.std.specs.FinMap as map;
-ghost use Rattle.elf_image.specs.Code.{is_code};
 ghost use Rattle.stretches.specs.Gaps.{gap};
 ghost use Rattle.cfg_model.specs.Program.Cuts.{AreCuts};
 ghost use Rattle.cfg_model.specs.Builder.Kept.{IsClosed};
@@ -15,9 +14,9 @@ ghost use Rattle.code_view.specs.FileCode.{program_of};
 ghost use Rattle.table_trim.specs.Extents.{extent_at};
 ghost use Rattle.table_trim.specs.Tables.{AreAllTables};
 ghost use Rattle.table_trim.specs.Parts.{AreJumpsIn, AreMade, jumps_in};
-ghost use Rattle.table_trim.specs.Parts.{AreTablesAmong, AreTablesByPart};
+ghost use Rattle.table_trim.specs.Parts.{AreTablesIn, AreTablesByGap};
 
-use crate::everywhere::{all_tables, tables_among};
+use crate::everywhere::{all_tables, tables_in};
 use crate::jumps::{TableJump, table_jumps};
 use crate::trim::{cuts, cuts_of};
 use code_view::{Code, Cuts, Memory};
@@ -75,9 +74,9 @@ fn jumps_by_gap<R: Threads + Sync>(
     Ok(thread::map_indices(rt, alloc, bounds.len() + 1, &find)?)
 }
 
-/// The answer of [`all_tables`], for which so many threads look up the tables: each those of one
-/// part of the jumps through a register, which are found first. With one worker no thread is
-/// started. [`Memory`] where memory ran out.
+/// The answer of [`all_tables`], for which so many threads go over the code, each over a stretch of
+/// about the same size: it finds the jumps through a register there, and looks up their tables.
+/// With one worker no thread is started. [`Memory`] where memory ran out.
 pub fn all_tables_by<R: Threads + Sync>(
     rt: &R,
     alloc: Global,
@@ -90,31 +89,25 @@ pub fn all_tables_by<R: Threads + Sync>(
     if workers == 1 {
         return all_tables(alloc, code);
     }
-    let places = code.register_jumps(alloc)?;
-    let size = places.len() / workers as usize + 1;
-    let parts = tables_by_part(rt, alloc, code, &places, size)?;
+    let bounds = code.bounds(alloc, workers)?;
+    let parts = tables_by_gap(rt, alloc, code, &bounds)?;
     joined(alloc, parts)
 }
 
-/// The tables of each part of so many places, looked up on a thread of its own, in the order of the
-/// parts.
-fn tables_by_part<R: Threads + Sync>(
+/// The tables of the jumps in each gap, found on a thread of its own, in the order of the gaps.
+fn tables_by_gap<R: Threads + Sync>(
     rt: &R,
     alloc: Global,
     code: &Code<'_>,
-    places: &[u64],
-    size: usize,
+    bounds: &[u64],
 ) -> Result<Vec<Result<Vec<TableJump>, Memory>>, Memory>
-    requires code { All (λ a. IsTrue (is_code code.now.bytes a)) places.now }
-    requires some { 0 < size }
-    ensures { IfOk result (λ v. AreTablesByPart code.now.bytes size places.now v.items) }
+    ensures { IfOk result (λ v. AreTablesByGap code.now.bytes bounds.now v.items) }
 {
-    let look_up = |_: usize, part: &[u64]| -> Result<Vec<TableJump>, Memory>
-        requires { All (λ a. IsTrue (is_code code.now.bytes a)) part.now }
-        ensures { IfOk result
-            (λ jumps. AreTablesAmong code.entry.now.bytes part.entry.now jumps.items) }
-    { tables_among(alloc, code, part) };
-    Ok(thread::map_chunks(rt, alloc, places, size, &look_up)?)
+    let look_up = |i: usize| -> Result<Vec<TableJump>, Memory>
+        ensures { IfOk result (λ jumps. AreTablesIn code.entry.now.bytes
+            (gap bounds.entry.now i) jumps.items) }
+    { tables_in(alloc, code, Stretch::gap(bounds, i)) };
+    Ok(thread::map_indices(rt, alloc, bounds.len() + 1, &look_up)?)
 }
 
 /// All these jumps, one list after another, or the first of the errors.

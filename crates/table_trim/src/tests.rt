@@ -25,6 +25,31 @@ const SECOND: u64 = 0x10048;
 /// The entry of its file and the other symbol.
 const SEEDS: [u64; 2] = [0x10000, 0x10028];
 
+/// The header of a section of the first 40 bytes of the code of that file, in front of [`SEEDS`]'s
+/// second address.
+const LOWER: [u8; 64] = [
+    0, 0, 0, 0, 1, 0, 0, 0, 6, 0, 0, 0, 0, 0, 0, 0, 0, 0, 1, 0, 0, 0, 0, 0, 0x40, 0, 0, 0, 0, 0, 0,
+    0, 0x28, 0, 0, 0, 0, 0, 0, 0, 0, 0, 0, 0, 0, 0, 0, 0, 0, 0, 0, 0, 0, 0, 0, 0, 0, 0, 0, 0, 0, 0,
+    0, 0,
+];
+
+/// What else changes in the file: it has six sections, and of the code section, the first in the
+/// table, the address, the offset and the size.
+const UPPER: [(usize, u8); 4] = [(60, 6), (304, 0x28), (312, 0x68), (320, 0x30)];
+
+/// The file of row 15 with its code in two sections, of which the one at the lower addresses stands
+/// last in the table.
+fn in_two_sections(alloc: Global) -> Result<Vec<u8>, cfg_vectors::Memory> {
+    let mut file = row_file(alloc, 15, 0)?;
+    file.extend_from_slice(&LOWER)?;
+    for (at, byte) in UPPER {
+        if let Some(place) = file.get_mut(at) {
+            *place = byte;
+        }
+    }
+    Ok(file)
+}
+
 /// The kept targets of the jump at `a`.
 fn kept_targets(alloc: Global, code: &Code<'_>, a: u64) -> Result<Vec<u64>, AllocFailed<u64>>
     requires { IsSome (program_of code.now a) }
@@ -122,5 +147,23 @@ fn tables_of_all_code(rt: HostRuntime) -> Result<(), Fail> {
     assert!(rt; all_entered(&state, &tables));
     let nothing = State::new(rt.alloc())?;
     assert!(rt; !all_entered(&nothing, &tables) && all_entered(&nothing, &[]));
+    Ok(())
+}
+
+#[test]
+fn tables_of_sections_out_of_order(rt: HostRuntime) -> Result<(), Fail> {
+    let image = Image::parse(rt.alloc(), in_two_sections(rt.alloc())?)?;
+    let index = ChainIndex::new(rt.alloc(), &image)?;
+    let none = Cuts::none(rt.alloc());
+    let code = Code::new(&image, &index, &none);
+    let tables = all_tables(rt.alloc(), &code)?;
+    assert_eq!(rt; tables.len(), 2);
+    assert_eq!(rt; tables[0].jump, SECOND);
+    assert_eq!(rt; tables[1].jump, FIRST);
+    for workers in [1, 2, 4, 64] {
+        let made = all_tables_by(&rt, rt.alloc(), &code, workers)?;
+        assert_eq!(rt; made.len(), 2);
+        assert!(rt; made.contains(&tables[0]) && made.contains(&tables[1]));
+    }
     Ok(())
 }
