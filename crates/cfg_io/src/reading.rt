@@ -43,8 +43,11 @@ impl From<AllocError> for ReadEnd {
 /// The largest limit of [`read_whole`] in bytes, 1 GiB.
 pub const MAX_LIMIT: usize = 1_073_741_824;
 
-/// The buffer's first size in bytes.
-const FIRST_ROOM: usize = 65_536;
+/// How many bytes the buffer grows by at least.
+const LEAST_GROWTH: usize = 65_536;
+
+/// A buffer of n bytes grows by n divided by this, so that no more than that is made ready in vain.
+const GROWTH_PART: usize = 8;
 
 /// Reads the opened `input` to its end, and never takes more than `limit + 1` bytes of it.
 ///
@@ -137,7 +140,7 @@ fn read_at<I: Input>(input: &mut I, buffer: &mut [u8], at: usize) -> Result<usiz
     input.read(&mut buffer[at..])
 }
 
-// Makes `buffer` longer than `filled`, to twice its length, and to `limit + 1` bytes at most.
+// Makes `buffer` longer than `filled`, and `limit + 1` bytes long at most.
 fn make_room(buffer: &mut Vec<u8>, filled: usize, limit: usize) -> Result<(), AllocError>
     requires small { limit ≤ MAX_LIMIT }
     requires below { filled ≤ limit }
@@ -151,6 +154,6 @@ fn make_room(buffer: &mut Vec<u8>, filled: usize, limit: usize) -> Result<(), Al
     if filled < buffer.len() {
         return Ok(());
     }
-    let len = (2 * filled).max(FIRST_ROOM).min(limit + 1);
-    buffer.resize(len, 0)
+    let growth = (filled / GROWTH_PART).max(LEAST_GROWTH);
+    buffer.resize((filled + growth).min(limit + 1), 0)
 }
