@@ -97,11 +97,11 @@ module _ (blocks : List Block) (entries : List ℕ) where
               (front_below (λ (edge : Edge). edge.from) xs zs rising e.0 f.0 e.1 f.1));
         }
 
-    pub ways_joined : (size : ℕ) (edges : List Edge) (answers : List (Answered Way)) (start ways : List Way) → IsNonDecreasingBy (λ (edge : Edge). edge.from) edges
-        → AnswerChunks (AreRisingWaysOf blocks entries) size edges answers → All AreMade answers → start ≡ [] → ways ≡ start ++ flat_map made_in answers
+    pub ways_joined : (size : ℕ) (edges : List Edge) (answers : List (Answered Way)) (ways : List Way) → IsNonDecreasingBy (λ (edge : Edge). edge.from) edges
+        → AnswerChunks (AreRisingWaysOf blocks entries) size edges answers → All AreMade answers → ways ≡ flat_map made_in answers
         → AreRisingWaysOf blocks entries edges ways
-    ways_joined size edges answers start ways rising chunks made empty is =
-        subst (AreRisingWaysOf blocks entries edges) (sym (is ∙ ap (λ (xs : List Way). xs ++ flat_map made_in answers) empty))
+    ways_joined size edges answers ways rising chunks made is =
+        subst (AreRisingWaysOf blocks entries edges) (sym is)
         (chunks_joined MadeInOrder
         (λ in_order. record { exact = ways_start blocks entries; rising = λ i j d le within. absurd (omega arith) })
         made_append size edges answers

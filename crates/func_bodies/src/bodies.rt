@@ -98,7 +98,7 @@ fn add_target(way: Way, entry: usize, stamp: u32, found: &mut Found) -> Result<(
     ensures as_many { length found.new.stamps.items ≡ length found.old.stamps.items }
 {
     if stays(way, entry) {
-        found.add(stamp, way.to)?;
+        found.add(stamp, way.to as usize)?;
     }
     Ok(())
 }
@@ -107,5 +107,5 @@ fn add_target(way: Way, entry: usize, stamp: u32, found: &mut Found) -> Result<(
 fn stays(way: Way, entry: usize) -> bool
     ensures { IsTrue result ↔ Stays entry way }
 {
-    way.to == entry || !way.enters
+    way.to as usize == entry || !way.enters
 }

@@ -41,7 +41,7 @@ fn add_called(edge: Edge, called: &mut Vec<u64>) -> Result<(), Memory>
 }
 
 /// The same addresses, rising, each once.
-pub(crate) fn rising(mut addresses: Vec<u64>) -> Vec<u64>
+fn rising(mut addresses: Vec<u64>) -> Vec<u64>
     ensures rising { IsStrictlyIncreasing result.items }
     ensures same { (a : ℕ) → Contains result.items a ↔ Contains addresses.items a }
 {

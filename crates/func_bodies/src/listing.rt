@@ -25,7 +25,8 @@ use std::alloc::Global;
 /// The functions of the program `code` whose seeds are `seeds`, in the order of their entries, from
 /// the closed state of its builder and its outline: exactly the seeds and the targets of reached
 /// calls. A function may return exactly where its entry does, and its body rises. [`Memory`] where
-/// memory ran out.
+/// memory ran out. [`Memory`] too where there are 2^32 - 1 functions or more, which alone take more
+/// than 160 GiB, or 2^32 blocks or more, or as many edges but calls, which alone take 96 GiB.
 ///
 /// The time of a body is that of the edges from its blocks, and of sorting the blocks: a block that
 /// functions share is looked at once for each of them. What is made of the blocks and edges for all

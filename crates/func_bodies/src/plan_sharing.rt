@@ -10,9 +10,9 @@ ghost use Rattle.func_bodies.specs.Inner.Ways.{JoinsBlocks, AreWaysOf};
 ghost use Rattle.func_bodies.specs.Inner.Plans.{Serves, MakesAll};
 ghost use Rattle.func_bodies.specs.Inner.Parts.{AnswerChunks, AreRisingWaysOf};
 
-use crate::entries::{entered_of, entries_of, rising};
+use crate::entries::{entered_of, entries_of};
 use crate::listing::{Plan, know_laws};
-use crate::lists::joined;
+use crate::lists::{appended, joined};
 use crate::memory::Memory;
 use crate::ways::{Way, Ways, ways_in_order};
 use cfg_model::{Block, Chains, Edge};
@@ -52,7 +52,7 @@ pub(crate) fn plan_by<R: Threads + Sync, C: Chains>(
 }
 
 /// The answer of [`entries_of`], made by one thread for each part of so many edges: what is left to
-/// this one is to sort the seeds and what each part calls, which is listed once for each part.
+/// this one is to merge the seeds and what each part calls, which is listed once for each part.
 fn entries_by<R: Threads + Sync>(
     rt: &R,
     alloc: Global,
@@ -64,8 +64,11 @@ fn entries_by<R: Threads + Sync>(
     ensures { IfOk result (λ v. AreEntriesBy edges.now seeds.now v.items) }
 {
     let lists = called_by_part(rt, alloc, edges, size)?;
-    let all = joined(Vec::from_slice(alloc, seeds)?, lists)?;
-    Ok(rising(all))
+    let mut entries = appended(Vec::from_slice(alloc, seeds)?, lists)?;
+    // Unlike an unstable sort, this one merges lists that rise.
+    entries.sort()?;
+    entries.dedup();
+    Ok(entries)
 }
 
 /// The targets of calls among the edges of each part, rising, each once. Each part is made on a
@@ -106,7 +109,7 @@ fn ways_by<R: Threads + Sync>(
 {
     let entered = entered_of(alloc, blocks, entries)?;
     let lists = ways_by_part(rt, alloc, blocks, edges, entries, &entered, size)?;
-    let ways = joined(Vec::with_capacity(alloc, edges.len())?, lists)?;
+    let ways = joined(alloc, lists, edges.len())?;
     Ways::new(alloc, ways, blocks)
 }
 

@@ -27,10 +27,12 @@ use std::thread::{self, Threads};
 pub const MOST_WORKERS: u32 = 64;
 
 /// The answer of [`functions`], made by so many workers, from 1 to 64. With one worker no thread is
-/// started. [`Memory`] where memory ran out.
+/// started. [`Memory`] where memory ran out. [`Memory`] too where one part has 2^32 - 1 functions or
+/// more, which alone take more than 160 GiB, or where there are 2^32 blocks or more, or as many
+/// edges but calls, which alone take 96 GiB.
 ///
 /// The edges are cut into one part for each worker, which lists the targets of calls in it, and
-/// then makes its ways between blocks. One thread puts together what they made, sorts the entries,
+/// then makes its ways between blocks. One thread puts together what they made, merges the entries,
 /// and goes over the blocks. The entries are cut into one part for each worker too, with about as
 /// many blocks between the first and the last one of each. A worker needs four bytes for each block
 /// of the program, besides its functions.
@@ -59,7 +61,7 @@ pub fn functions_by<R: Threads + Sync, C: Chains>(
     let plan = plan_by(rt, alloc, code, seeds, state, outline, workers)?;
     let parts = parts_of(alloc, &plan.entries, blocks, workers)?;
     let lists = made_by_part(rt, alloc, code, state, blocks, &plan.ways, parts)?;
-    let functions = joined(Vec::with_capacity(alloc, plan.entries.len())?, lists)?;
+    let functions = joined(alloc, lists, plan.entries.len())?;
     Ok(Functions::from_vec(functions))
 }
 

@@ -14,6 +14,7 @@ use crate::memory::Memory;
 use cfg_model::{Block, Edge, EdgeKind};
 use std::alloc::Global;
 use std::marker::Model;
+use std::mem::size_of;
 
 /// How far in front of a block and behind it another one is looked for first.
 const NEAR: usize = 32;
@@ -22,11 +23,14 @@ const NEAR: usize = 32;
 /// the list of all blocks.
 #[derive(Clone, Copy, Drop)]
 pub(crate) struct Way {
-    pub(crate) from: usize,
-    pub(crate) to: usize,
+    pub(crate) from: u32,
+    pub(crate) to: u32,
     /// Whether a function starts where the way leads to.
     pub(crate) enters: bool,
 }
+
+/// A way takes 12 bytes.
+const _: () = prove!(size_of::<Way>() == 12);
 
 /// Ways between blocks, by the block that they leave, so that the ways from one block lie side by
 /// side.
@@ -34,7 +38,7 @@ pub(crate) struct Way {
 pub(crate) struct Ways {
     ways: Vec<Way>,
     /// For each block, and for one behind the last, the place of the first way from there on.
-    firsts: Vec<usize>,
+    firsts: Vec<u32>,
 }
 
 impl Model for Ways {
@@ -50,7 +54,8 @@ impl Model for Ways {
 }
 
 impl Ways {
-    /// These ways, which leave some of these blocks.
+    /// These ways, which leave some of these blocks. [`Memory`] too where there are 2^32 ways or
+    /// more, whose edges alone take 96 GiB.
     pub(crate) fn new(alloc: Global, ways: Vec<Way>, blocks: &[Block]) -> Result<Self, Memory>
         requires rising { IsNonDecreasingBy (λ way. way.from) ways.items }
         requires within { All (λ way. way.from < length blocks.now) ways.items }
@@ -67,21 +72,25 @@ impl Ways {
         if i >= self.firsts.len() - 1 {
             return &[];
         }
-        &self.ways[self.firsts[i]..self.firsts[i + 1]]
+        &self.ways[self.firsts[i] as usize..self.firsts[i + 1] as usize]
     }
 }
 
-/// The place of the first way from each of these blocks on, and the end of the ways.
-fn firsts_of(alloc: Global, ways: &[Way], blocks: &[Block]) -> Result<Vec<usize>, Memory>
+/// The place of the first way from each of these blocks on, and the end of the ways. [`Memory`] too
+/// where there are 2^32 ways or more.
+fn firsts_of(alloc: Global, ways: &[Way], blocks: &[Block]) -> Result<Vec<u32>, Memory>
     requires { IsNonDecreasingBy (λ way. way.from) ways.now }
     ensures { IfOk result (λ v. AreFirstsOf ways.now (length blocks.now) v.items) }
 {
+    if ways.len() > u32::MAX as usize {
+        return Err(Memory);
+    }
     let ends = blocks.len() + 1;
     let mut firsts = Vec::with_capacity(alloc, ends)?;
     let mut first = 0;
     for i in 0..ends {
         first = first_from(ways, first, i);
-        firsts.push(first)?;
+        firsts.push(first as u32)?;
     }
     Ok(firsts)
 }
@@ -94,7 +103,7 @@ fn first_from(ways: &[Way], mut first: usize, i: usize) -> usize
     requires before { (k : ℕ) (d : _) → k < first → (slice_index_or ways.now k d).from < i }
     ensures { IsFirst ways.now i result }
 {
-    while first < ways.len() && ways[first].from < i {
+    while first < ways.len() && (ways[first].from as usize) < i {
         first += 1;
     }
     first
@@ -121,7 +130,8 @@ pub(crate) fn ways_of(
 }
 
 /// The ways of these edges, in the order of the edges. The walk along the blocks begins at the one
-/// that the first edge leaves.
+/// that the first edge leaves. [`Memory`] too where there are 2^32 blocks or more, whose numbers a
+/// way has no room for: the blocks alone take 96 GiB.
 pub(crate) fn ways_in_order(
     alloc: Global,
     blocks: &[Block],
@@ -135,6 +145,9 @@ pub(crate) fn ways_in_order(
     requires entered { AreEntered blocks.now entries.now entered.now }
     ensures { IfOk result (λ v. AreRisingWaysOf blocks.now entries.now edges.now v.items) }
 {
+    if blocks.len() > u32::MAX as usize {
+        return Err(Memory);
+    }
     let mut ways = Vec::with_capacity(alloc, edges.len())?;
     let mut from = first_number(blocks, edges);
     for edge in edges {
@@ -142,7 +155,11 @@ pub(crate) fn ways_in_order(
         if edge.kind != EdgeKind::Call {
             let to = number_near(blocks, from, edge.to);
             let enters = entered[to];
-            ways.push(Way { from, to, enters })?;
+            ways.push(Way {
+                from: from as u32,
+                to: to as u32,
+                enters,
+            })?;
         }
     }
     Ok(ways)

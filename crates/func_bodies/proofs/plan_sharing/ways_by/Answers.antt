@@ -8,20 +8,17 @@ use Rattle.func_bodies.proofs.plan_sharing.ways_by.Goals as goal
 pub new-requires-clause-rising : goal.new-requires-clause-rising
 new-requires-clause-rising g c =
     let they = ways_joined c.args.blocks.now c.args.entries.now c.requires.blocks c.args.size c.args.edges.now c.in_ok-lists.lists.items
-    c.in_ok-with_capacity.field-0.items c.in_ok-ways.ways.items c.requires.edges c.in_ok-lists.ensures c.in_ok-ways.ensures.made
-    c.in_ok-with_capacity.ensures.items c.in_ok-ways.ensures.joined in
+    c.in_ok-ways.ways.items c.requires.edges c.in_ok-lists.ensures c.in_ok-ways.ensures.made c.in_ok-ways.ensures.joined in
     they.rising
 
 pub new-requires-clause-within : goal.new-requires-clause-within
 new-requires-clause-within g c =
     let they = ways_joined c.args.blocks.now c.args.entries.now c.requires.blocks c.args.size c.args.edges.now c.in_ok-lists.lists.items
-    c.in_ok-with_capacity.field-0.items c.in_ok-ways.ways.items c.requires.edges c.in_ok-lists.ensures c.in_ok-ways.ensures.made
-    c.in_ok-with_capacity.ensures.items c.in_ok-ways.ensures.joined in
+    c.in_ok-ways.ways.items c.requires.edges c.in_ok-lists.ensures c.in_ok-ways.ensures.made c.in_ok-ways.ensures.joined in
     ways_leave c.args.blocks.now c.args.edges.now c.args.entries.now c.in_ok-ways.ways.items they.exact
 
 pub returns : goal.returns
 returns g c =
     let they = ways_joined c.args.blocks.now c.args.entries.now c.requires.blocks c.args.size c.args.edges.now c.in_ok-lists.lists.items
-    c.in_ok-with_capacity.field-0.items c.in_ok-ways.ways.items c.requires.edges c.in_ok-lists.ensures c.in_ok-ways.ensures.made
-    c.in_ok-with_capacity.ensures.items c.in_ok-ways.ensures.joined in
+    c.in_ok-ways.ways.items c.requires.edges c.in_ok-lists.ensures c.in_ok-ways.ensures.made c.in_ok-ways.ensures.joined in
     starts_weaker c.new.result (λ ways is. subst (AreWaysOf c.args.blocks.now c.args.entries.now c.args.edges.now) (sym is) they.exact) c.new.ensures

@@ -1,9 +1,8 @@
-use Rattle.std.proofs.Common.{◌≡◌, ◌++◌, length, Vec, Global, vec_len, sym, ap, ◌∙◌}
-use Rattle.std.specs.List.{flat_map}
+use Rattle.std.proofs.Common.{◌≡◌, length, Vec, Global, vec_len, sym, ◌∙◌}
 use Rattle.cfg_model.specs.declared.graph.Function.{Function}
 use Rattle.func_bodies.specs.Inner.Bodies.{IsFunctionBy}
 use Rattle.func_bodies.specs.Inner.Plans.{Serves}
-use Rattle.func_bodies.specs.Inner.Parts.{Answered, made_in}
+use Rattle.func_bodies.specs.Inner.Parts.{Answered}
 use Rattle.func_bodies.proofs.Joining.{Part, serves_part, made_of_parts}
 use Rattle.func_bodies.proofs.sharing.functions_by.Goals as goal
 
@@ -30,7 +29,7 @@ returns-clause-exact g c =
     let each = made_of_parts R entries parts lists.items functions (c.in_ok-parts.ensures ∙ c.deref.ensures.value)
     (lengths lists c.in_ok-parts.parts c.in_ok-lists.ensures.as_many)
     (rw c.as_slice-blocks.ensures at c.in_ok-lists.ensures.each)
-    c.in_ok-functions.ensures.made (c.in_ok-functions.ensures.joined ∙ ap (λ none. none ++ flat_map made_in lists.items) c.in_ok-with_capacity.ensures.items) in
+    c.in_ok-functions.ensures.made c.in_ok-functions.ensures.joined in
     rw c.from_vec.ensures (c.in_ok-plan.ensures.makes functions each).exact
 
 pub returns-clause-complete : goal.returns-clause-complete
@@ -43,7 +42,7 @@ returns-clause-complete g c =
     let each = made_of_parts R entries parts lists.items functions (c.in_ok-parts.ensures ∙ c.deref.ensures.value)
     (lengths lists c.in_ok-parts.parts c.in_ok-lists.ensures.as_many)
     (rw c.as_slice-blocks.ensures at c.in_ok-lists.ensures.each)
-    c.in_ok-functions.ensures.made (c.in_ok-functions.ensures.joined ∙ ap (λ none. none ++ flat_map made_in lists.items) c.in_ok-with_capacity.ensures.items) in
+    c.in_ok-functions.ensures.made c.in_ok-functions.ensures.joined in
     rw c.from_vec.ensures (c.in_ok-plan.ensures.makes functions each).complete
 
 pub returns-clause-ordered : goal.returns-clause-ordered
@@ -56,5 +55,5 @@ returns-clause-ordered g c =
     let each = made_of_parts R entries parts lists.items functions (c.in_ok-parts.ensures ∙ c.deref.ensures.value)
     (lengths lists c.in_ok-parts.parts c.in_ok-lists.ensures.as_many)
     (rw c.as_slice-blocks.ensures at c.in_ok-lists.ensures.each)
-    c.in_ok-functions.ensures.made (c.in_ok-functions.ensures.joined ∙ ap (λ none. none ++ flat_map made_in lists.items) c.in_ok-with_capacity.ensures.items) in
+    c.in_ok-functions.ensures.made c.in_ok-functions.ensures.joined in
     rw c.from_vec.ensures (c.in_ok-plan.ensures.makes functions each).ordered
