@@ -9,8 +9,8 @@ use Rattle.cfg_model.specs.Program.Instructions.{InstructionMap, IsLawful}
 use Rattle.cfg_model.specs.Program.Status.{Returns}
 use Rattle.cfg_model.specs.Graph.Block.{IsBlockOf}
 use Rattle.cfg_model.specs.Graph.Edge.{LeadsTo}
-use Rattle.cfg_model.specs.Graph.Listing.{Gains}
-use Rattle.cfg_model.specs.Graph.Graph.{BlockBefore}
+use Rattle.cfg_model.specs.Graph.Listing.{Gains, Lists}
+use Rattle.cfg_model.specs.Graph.Graph.{BlockBefore, EdgeBefore}
 use Rattle.cfg_model.specs.Builder.State.{BuilderState, HasEnd, IsNear}
 use Rattle.cfg_model.proofs.Graphs.Lists.{Contains-none}
 use Rattle.stretches.specs.declared.stretch.Stretch.{Stretch}
@@ -18,10 +18,9 @@ use Rattle.stretches.specs.Stretch.{IsIn}
 use Rattle.stretches.specs.Gaps.{gap, whole}
 use Rattle.stretches.proofs.Covered.{one_gap}
 use Rattle.stretches.proofs.Joined.{item_of, joined_has, pairs_joined, known_joined}
-use Rattle.finaliser.specs.declared.part.Part.{Part}
 use Rattle.finaliser.specs.Closed.{IsClosedFromSome}
 use Rattle.finaliser.specs.Inner.Shown.{IsShownBlock, IsShownEdge, StartApart}
-use Rattle.finaliser.specs.Inner.Parts.{Answered, AreMade, ArePartOf, AreInOrder, blocks_in, edges_in}
+use Rattle.finaliser.specs.Inner.Parts.{Answered, AreMade, ArePartOf, blocks_in, edges_in}
 use Rattle.finaliser.proofs.Closed.{near_has, near_once}
 use Rattle.finaliser.proofs.Moved.{gains_moved}
 
@@ -42,13 +41,13 @@ gains_all xs P is = record {
 rising_apart : (blocks : List Block) → AllPairs BlockBefore blocks → AllPairs StartApart blocks
 rising_apart blocks rising i j d less within same = let up : (get_or blocks i d).start < (get_or blocks j d).start = rising i j d less within in omega arith
 
-pub part_in_order : (map : InstructionMap) (state : BuilderState) (stretch : Stretch) (part : Part) (blocks : List Block) (edges : List Edge)
-    → ArePartOf map state stretch part.blocks.items part.edges.items → AreInOrder part blocks edges → ArePartOf map state stretch blocks edges
-part_in_order map state stretch part blocks edges are sorted = record {
+pub part_in_order : (map : InstructionMap) (state : BuilderState) (stretch : Stretch) (found blocks : List Block) (ways edges : List Edge)
+    → ArePartOf map state stretch found ways → Lists BlockBefore (Contains found) blocks → Lists EdgeBefore (Contains ways) edges → ArePartOf map state stretch blocks edges
+part_in_order map state stretch found blocks ways edges are by_start by_source = record {
   lawful = are.lawful;
-  all_blocks = gains_moved [] part.blocks.items blocks (IsShownBlock map state stretch) sorted.same_blocks are.all_blocks;
-  apart = rising_apart blocks sorted.rising_blocks;
-  all_edges = gains_moved [] part.edges.items edges (IsShownEdge map state stretch) sorted.same_edges are.all_edges;
+  all_blocks = gains_moved [] found blocks (IsShownBlock map state stretch) (λ x. (by_start.sound x, by_start.complete x)) are.all_blocks;
+  apart = rising_apart blocks by_start.in_order;
+  all_edges = gains_moved [] ways edges (IsShownEdge map state stretch) (λ x. (by_source.sound x, by_source.complete x)) are.all_edges;
 }
 
 -- the parts of all gaps
@@ -89,8 +88,8 @@ module _ (map : InstructionMap) (state : BuilderState) (closed : IsClosedFromSom
       let e : a.0 ≡ b.0 = near_once map lawful state closed x.start a.0 b.0 a.2 (subst (IsNear state.ends b.0) (sym same) b.2) in
       one_gap bounds rising i j b.0 less (omega (arith, long)) (subst (IsIn (gap bounds i)) e a.1) b.1
 
-  pub parts_joined : (blocks : List Block) (edges : List Edge) → blocks ≡ flat_map blocks_in answers → edges ≡ flat_map edges_in answers → ArePartOf map state whole blocks edges
-  parts_joined blocks edges b e = subst (λ (xs : List Block). ArePartOf map state whole xs edges) (sym b) (subst (λ (ys : List Edge). ArePartOf map state whole (flat_map blocks_in answers) ys) (sym e) (record {
+  pub parts_joined : ArePartOf map state whole (flat_map blocks_in answers) (flat_map edges_in answers)
+  parts_joined = record {
     lawful = ⊎_elim (λ lawful. inl lawful) (λ none. inr (λ k has inside. none k has))
         (known_joined (λ k. HasEnd state.ends k) bounds (λ i within. (part_at i (item_of answers i (omega (arith, long))) (omega (arith, long))).lawful));
     all_blocks = gains_all (flat_map blocks_in answers) (IsShownBlock map state whole) (λ x.
@@ -102,4 +101,4 @@ module _ (map : InstructionMap) (state : BuilderState) (closed : IsClosedFromSom
         let has = joined_has edges_in (λ k (edge : Edge). IsNear state.ends k edge.from × LeadsTo map (Returns map) k edge.to edge.kind) bounds answers long
         edges_at x in
         (λ there. let k = has.0 there in (k.0, (tt, tt), k.1.0, k.1.1), λ shown. has.1 (shown.0, (shown.2, shown.3))));
-  }))
+  }

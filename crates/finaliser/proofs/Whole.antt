@@ -1,7 +1,7 @@
 -- What the ends of a closed state show are the blocks and edges of the program.
-use Rattle.std.proofs.Common.{ℕ, ◌⊎◌, List, [], inl, inr, ⊎_elim}
-use Rattle.std.specs.List.{AllPairs, Contains}
-use Rattle.std.specs.Prelude.{◌↔◌}
+use Rattle.std.proofs.Common.{ℕ, ◌⊎◌, List, [], Result, Ok, Err, inl, inr, ⊎_elim}
+use Rattle.std.specs.List.{Contains}
+use Rattle.std.specs.Prelude.{◌↔◌, IfOk}
 use Rattle.cfg_model.specs.declared.graph.Block.{Block}
 use Rattle.cfg_model.specs.declared.graph.Edge.{Edge}
 use Rattle.cfg_model.specs.Program.Instructions.{InstructionMap, IsLawful}
@@ -16,17 +16,19 @@ use Rattle.status_laws.proofs.ClosedLaws.{closed_shows_graph}
 use Rattle.cfg_model.proofs.Graphs.Lists.{Contains-none}
 use Rattle.stretches.specs.Stretch.{IsIn}
 use Rattle.stretches.specs.Gaps.{whole}
-use Rattle.finaliser.specs.declared.part.Part.{Part}
+use Rattle.finaliser.specs.declared.memory.Memory.{Memory}
+use Rattle.finaliser.specs.declared.outline.Outline.{Outline}
+use Rattle.finaliser.specs.Closed.{IsOutlineOf}
 use Rattle.finaliser.specs.Inner.Shown.{IsShownBlock, IsShownEdge}
-use Rattle.finaliser.specs.Inner.Parts.{ArePartOf, AreInOrder}
+use Rattle.finaliser.specs.Inner.Parts.{ArePartOf}
 use Rattle.finaliser.proofs.Closed.{near_has, none_reached}
 
 -- a list that gained what holds, put in order, lists what it is the same as
-lists_all : {X : Type 0} (Before : X → X → Type 0) (P Q : X → Type 0) (found xs : List X) → ((x : X) → P x ↔ Q x) → Gains [] found P → AllPairs Before xs → ((x : X) → Contains xs x ↔ Contains found x) → Lists Before Q xs
-lists_all Before P Q found xs is gains ordered same = record {
-  in_order = ordered;
-  sound = λ x c. ⊎_elim (λ none. absurd (Contains-none x none)) (λ p. (is x).0 p) (gains.nothing_else x ((same x).0 c));
-  complete = λ x q. (same x).1 (gains.added x ((is x).1 q));
+lists_all : {X : Type 0} (Before : X → X → Type 0) (P Q : X → Type 0) (found xs : List X) → ((x : X) → P x ↔ Q x) → Gains [] found P → Lists Before (Contains found) xs → Lists Before Q xs
+lists_all Before P Q found xs is gains sorted = record {
+  in_order = sorted.in_order;
+  sound = λ x c. ⊎_elim (λ none. absurd (Contains-none x none)) (λ p. (is x).0 p) (gains.nothing_else x (sorted.sound x c));
+  complete = λ x q. sorted.complete x (gains.added x ((is x).1 q));
 }
 
 module _ (map : InstructionMap) (seeds : List ℕ) (state : BuilderState) (closed : IsClosed map seeds state) where
@@ -66,12 +68,20 @@ module _ (map : InstructionMap) (seeds : List ℕ) (state : BuilderState) (close
   lawful_or_none sure = ⊎_elim (λ lawful. inl lawful) (λ none. inr (λ k has. none k has (tt, tt))) sure
 
   -- the blocks and edges of all ends, in order
-  pub outline_shown : (part : Part) (blocks : List Block) (edges : List Edge) → ArePartOf map state whole part.blocks.items part.edges.items → AreInOrder part blocks edges → IsOutline map seeds blocks edges
-  outline_shown part blocks edges are sorted =
+  pub outline_shown : (found blocks : List Block) (ways edges : List Edge) → ArePartOf map state whole found ways
+      → Lists BlockBefore (Contains found) blocks → Lists EdgeBefore (Contains ways) edges → IsOutline map seeds blocks edges
+  outline_shown found blocks ways edges are by_start by_source =
       let sure = lawful_or_none are.lawful in
       record {
-        all_blocks = lists_all BlockBefore (IsShownBlock map state whole) (IsBlock map seeds) part.blocks.items blocks (λ block. ⊎_elim (λ lawful. block_is lawful block) (λ none. no_block none block) sure)
-            are.all_blocks sorted.rising_blocks sorted.same_blocks;
-        all_edges = lists_all EdgeBefore (IsShownEdge map state whole) (IsEdge map seeds) part.edges.items edges (λ edge. ⊎_elim (λ lawful. edge_is lawful edge) (λ none. no_edge none edge) sure)
-            are.all_edges sorted.rising_edges sorted.same_edges;
+        all_blocks = lists_all BlockBefore (IsShownBlock map state whole) (IsBlock map seeds) found blocks (λ block. ⊎_elim (λ lawful. block_is lawful block) (λ none. no_block none block) sure)
+            are.all_blocks by_start;
+        all_edges = lists_all EdgeBefore (IsShownEdge map state whole) (IsEdge map seeds) ways edges (λ edge. ⊎_elim (λ lawful. edge_is lawful edge) (λ none. no_edge none edge) sure)
+            are.all_edges by_source;
       }
+
+-- an answer that has them in order is the outline of the state
+pub outline_answered : (map : InstructionMap) (state : BuilderState) (found : List Block) (ways : List Edge) → ArePartOf map state whole found ways → (answer : Result Outline Memory)
+    → IfOk answer (λ outline. Lists BlockBefore (Contains found) outline.blocks) → IfOk answer (λ outline. Lists EdgeBefore (Contains ways) outline.edges)
+    → IfOk answer (IsOutlineOf map state)
+outline_answered map state found ways are (Ok outline) blocks edges = λ seeds closed. outline_shown map seeds state closed found outline.blocks ways outline.edges are blocks edges
+outline_answered map state found ways are (Err e) blocks edges = tt

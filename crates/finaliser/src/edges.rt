@@ -2,7 +2,8 @@
 
 ghost use Rattle.std.specs.Prelude.{◌≡◌, ◌↔◌, Contains, IsTrue, OnOk, Some};
 ghost use Rattle.cfg_model.specs.Graph.Edge.{Leaves};
-ghost use Rattle.cfg_model.specs.Graph.Listing.{Gains};
+ghost use Rattle.cfg_model.specs.Graph.Graph.{EdgeBefore};
+ghost use Rattle.cfg_model.specs.Graph.Listing.{Gains, Lists};
 ghost use Rattle.cfg_model.specs.Program.Status.{Returns};
 ghost use Rattle.cfg_model.specs.Program.Successors.{IsCall};
 ghost use Rattle.cfg_model.specs.Program.Instructions.{IsLawful, flow_at};
@@ -11,7 +12,7 @@ ghost use Rattle.finaliser.specs.Closed.{IsClosedFromSome};
 
 use crate::memory::Memory;
 use crate::status::may_return;
-use cfg_model::{Chains, Edge, Flow, add_edges_by};
+use cfg_model::{Chains, Edge, Flow, add_edges_by, edges_in_order};
 use core_state::State;
 
 /// Gains the edges of the block that starts at `s` and whose last instruction stands at `k` and has
@@ -61,4 +62,12 @@ fn callee_returns<C: Chains>(code: &C, state: &State, s: u64, k: u64, flow: Flow
         Flow::Call { target, .. } => may_return(code, state, target),
         _ => false,
     }
+}
+
+/// The same edges, each once, by the start of the block that they leave, then of the block that
+/// they enter, then by kind.
+pub(crate) fn by_source(edges: Vec<Edge>) -> Vec<Edge>
+    ensures { Lists EdgeBefore (Contains edges.items) result.items }
+{
+    edges_in_order(edges)
 }

@@ -1,8 +1,9 @@
 //! The blocks and edges that a closed state shows.
 
-ghost use Rattle.std.specs.Prelude.{AllPairs, IfOk};
+ghost use Rattle.std.specs.Prelude.{AllPairs, Contains, IfOk};
+ghost use Rattle.cfg_model.specs.Graph.Graph.{BlockBefore, EdgeBefore};
+ghost use Rattle.cfg_model.specs.Graph.Listing.{Lists};
 ghost use Rattle.finaliser.specs.Closed.{IsClosedFromSome, IsOutlineOf};
-ghost use Rattle.finaliser.specs.Inner.Parts.{AreInOrder};
 ghost use Rattle.finaliser.specs.Inner.Shown.{StartApart};
 
 use crate::memory::Memory;
@@ -42,9 +43,10 @@ pub fn blocks_and_edges<C: Chains>(
 }
 
 /// The outline whose blocks and edges these are.
-pub(crate) fn outline_from(part: Part) -> Outline
+fn outline_from(part: Part) -> Outline
     requires { AllPairs StartApart part.blocks.items }
-    ensures { AreInOrder part result.blocks result.edges }
+    ensures blocks { Lists BlockBefore (Contains part.blocks.items) result.blocks }
+    ensures edges { Lists EdgeBefore (Contains part.edges.items) result.edges }
 {
     let part = part.in_order();
     Outline {

@@ -1,19 +1,21 @@
 //! The blocks and edges that the ends of a closed state show in one stretch of addresses.
 
-ghost use Rattle.std.specs.Prelude.{◌≡◌, AllPairs, IfOk, IsSome, Some};
+ghost use Rattle.std.specs.Prelude.{◌≡◌, AllPairs, Contains, IfOk, IsSome, Some};
 ghost use Rattle.cfg_model.specs.Graph.Block.{IsBlockOf};
+ghost use Rattle.cfg_model.specs.Graph.Graph.{BlockBefore, EdgeBefore};
+ghost use Rattle.cfg_model.specs.Graph.Listing.{Lists};
 ghost use Rattle.cfg_model.specs.Program.Instructions.{IsLawful, flow_at};
 ghost use Rattle.cfg_model.specs.Builder.State.{HasEnd, IsNear};
 ghost use Rattle.core_state.specs.Least.{IsAbove, IsLeast};
 ghost use Rattle.stretches.specs.Stretch.{IsUpTo};
 ghost use Rattle.finaliser.specs.Closed.{IsClosedFromSome};
-ghost use Rattle.finaliser.specs.Inner.Parts.{AreInOrder, ArePartOf};
+ghost use Rattle.finaliser.specs.Inner.Parts.{ArePartOf};
 ghost use Rattle.finaliser.specs.Inner.Shown.{StartApart};
 
 use crate::blocks::by_start;
-use crate::edges::add_ways;
+use crate::edges::{add_ways, by_source};
 use crate::memory::Memory;
-use cfg_model::{Block, Chains, Edge, EndKind, Flow, block_by, edges_in_order};
+use cfg_model::{Block, Chains, Edge, EndKind, Flow, block_by};
 use core_state::State;
 use std::alloc::Global;
 use stretches::Stretch;
@@ -29,11 +31,12 @@ impl Part {
     /// The same blocks and edges in the order of a graph, each once.
     pub(crate) fn in_order(self) -> Part
         requires { AllPairs StartApart self.blocks.items }
-        ensures { AreInOrder self result.blocks.items result.edges.items }
+        ensures blocks { Lists BlockBefore (Contains self.blocks.items) result.blocks.items }
+        ensures edges { Lists EdgeBefore (Contains self.edges.items) result.edges.items }
     {
         Part {
             blocks: by_start(self.blocks),
-            edges: edges_in_order(self.edges),
+            edges: by_source(self.edges),
         }
     }
 }

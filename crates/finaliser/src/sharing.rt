@@ -1,17 +1,23 @@
 //! The blocks and edges of a program, made by several threads.
 
-ghost use Rattle.std.specs.Prelude.{◌≡◌, ℕ, ◌+◌, ◌≤◌, IfOk, length, vec_len, slice_index_or, All};
+ghost use Rattle.std.specs.Prelude.{◌≡◌, ℕ, ◌+◌, ◌≤◌, IfOk, length, vec_len, slice_index_or};
+ghost use Rattle.std.specs.Prelude.{All, AllPairs, Contains};
 ghost use Rattle.std.specs.List.{flat_map};
 ghost use Rattle.std.specs.List.Sorted.{IsNonDecreasing};
 ghost use Rattle.std.specs.Thread.{IsSync};
+ghost use Rattle.cfg_model.specs.Graph.Graph.{BlockBefore, EdgeBefore};
+ghost use Rattle.cfg_model.specs.Graph.Listing.{Lists};
 ghost use Rattle.stretches.specs.Gaps.{gap};
 ghost use Rattle.finaliser.specs.Closed.{IsClosedFromSome, IsOutlineOf};
 ghost use Rattle.finaliser.specs.Inner.Parts.{AreMade, ArePartOf, blocks_in, edges_in};
+ghost use Rattle.finaliser.specs.Inner.Shown.{StartApart};
 
+use crate::blocks::by_start;
+use crate::edges::by_source;
 use crate::memory::Memory;
-use crate::outline::{Outline, blocks_and_edges, outline_from};
+use crate::outline::{Outline, blocks_and_edges};
 use crate::part::{Part, read_ends};
-use cfg_model::{Block, Chains, Edge};
+use cfg_model::{Block, Blocks, Chains, Edge, Edges};
 use core_state::State;
 use std::alloc::Global;
 use std::thread::{self, Threads, join};
@@ -36,8 +42,8 @@ pub fn blocks_and_edges_by<R: Threads + Sync, C: Chains>(
         return blocks_and_edges(alloc, code, state);
     }
     let parts = made_by_gap(rt, alloc, code, state, bounds)?;
-    let part = joined(rt, alloc, &parts)?;
-    Ok(outline_from(part))
+    all_made(&parts)?;
+    joined(rt, alloc, &parts)
 }
 
 /// The blocks and edges of each gap, made on a thread of its own, in the order of the gaps.
@@ -77,26 +83,34 @@ fn part_of<C: Chains>(
     Ok(part.in_order())
 }
 
-/// The blocks and edges of all these parts, one after another, or one of their errors. The blocks
-/// are put together by one thread, and the edges by another.
-fn joined<R: Threads>(rt: &R, alloc: Global, parts: &[Result<Part, Memory>]) -> Result<Part, Memory>
-    ensures all { IfOk result (λ _. All AreMade parts.now) }
-    ensures blocks { IfOk result (λ part. part.blocks.items ≡ flat_map blocks_in parts.now) }
-    ensures edges { IfOk result (λ part. part.edges.items ≡ flat_map edges_in parts.now) }
+/// The blocks and edges of all these parts in the order of a graph, or one of their errors. The
+/// blocks are put together and in order by one thread, and the edges by another.
+fn joined<R: Threads>(
+    rt: &R,
+    alloc: Global,
+    parts: &[Result<Part, Memory>],
+) -> Result<Outline, Memory>
+    requires apart { AllPairs StartApart (flat_map blocks_in parts.now) }
+    ensures blocks { IfOk result (λ outline.
+        Lists BlockBefore (Contains (flat_map blocks_in parts.now)) outline.blocks) }
+    ensures edges { IfOk result (λ outline.
+        Lists EdgeBefore (Contains (flat_map edges_in parts.now)) outline.edges) }
 {
-    all_made(parts)?;
     let (blocks, edges) = join(
         rt,
         || -> Result<Vec<Block>, Memory>
-            ensures { IfOk result (λ blocks. blocks.items ≡ flat_map blocks_in parts.entry.now) }
-        { joined_blocks(alloc, parts) },
+            requires { AllPairs StartApart (flat_map blocks_in parts.now) }
+            ensures { IfOk result (λ blocks.
+                Lists BlockBefore (Contains (flat_map blocks_in parts.entry.now)) blocks.items) }
+        { Ok(by_start(joined_blocks(alloc, parts)?)) },
         || -> Result<Vec<Edge>, Memory>
-            ensures { IfOk result (λ edges. edges.items ≡ flat_map edges_in parts.entry.now) }
-        { joined_edges(alloc, parts) },
+            ensures { IfOk result (λ edges.
+                Lists EdgeBefore (Contains (flat_map edges_in parts.entry.now)) edges.items) }
+        { Ok(by_source(joined_edges(alloc, parts)?)) },
     );
-    Ok(Part {
-        blocks: blocks?,
-        edges: edges?,
+    Ok(Outline {
+        blocks: Blocks::from_vec(blocks?),
+        edges: Edges::from_vec(edges?),
     })
 }
 

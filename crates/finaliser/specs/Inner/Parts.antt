@@ -1,9 +1,8 @@
 -- The blocks and edges that the ends of a state show in one stretch of addresses.
-use Rattle.std.specs.Prelude.{◌⊎◌, ◌↔◌, ℕ, List, [], AllPairs, Contains, Result, Ok, Err, IsOk}
+use Rattle.std.specs.Prelude.{◌⊎◌, ℕ, List, [], AllPairs, Result, Ok, Err, IsOk}
 use Rattle.cfg_model.specs.declared.graph.Block.{Block}
 use Rattle.cfg_model.specs.declared.graph.Edge.{Edge}
 use Rattle.cfg_model.specs.Program.Instructions.{InstructionMap, IsLawful}
-use Rattle.cfg_model.specs.Graph.Graph.{BlockBefore, EdgeBefore}
 use Rattle.cfg_model.specs.Graph.Listing.{Gains}
 use Rattle.cfg_model.specs.Builder.State.{BuilderState, HasEnd}
 use Rattle.stretches.specs.declared.stretch.Stretch.{Stretch}
@@ -21,13 +20,6 @@ pub record ArePartOf
   pub all_blocks : Gains [] blocks (IsShownBlock map state stretch)
   pub apart : AllPairs StartApart blocks
   pub all_edges : Gains [] edges (IsShownEdge map state stretch)
-
--- These are the blocks and edges of a part, in the order of a graph.
-pub record AreInOrder (part : Part) (blocks : List Block) (edges : List Edge) : Type 0 where
-  pub rising_blocks : AllPairs BlockBefore blocks
-  pub same_blocks : (block : Block) → Contains blocks block ↔ Contains part.blocks.items block
-  pub rising_edges : AllPairs EdgeBefore edges
-  pub same_edges : (edge : Edge) → Contains edges edge ↔ Contains part.edges.items edge
 
 -- What a thread answers of its part.
 abbrev pub Answered : Type 0

@@ -1,34 +1,23 @@
-use Rattle.std.proofs.Common.{◌≡◌, ◌+◌, List, length, sym, ap, ◌∙◌, subst}
-use Rattle.std.specs.List.{All, flat_map}
-use Rattle.finaliser.specs.Inner.Parts.{Answered, AreMade, blocks_in, edges_in}
-use Rattle.finaliser.proofs.Whole.{outline_shown}
+use Rattle.std.proofs.Common.{sym, ◌∙◌}
+use Rattle.std.specs.List.{flat_map}
+use Rattle.finaliser.specs.Inner.Parts.{blocks_in, edges_in}
+use Rattle.finaliser.proofs.Whole.{outline_answered}
 use Rattle.finaliser.proofs.Shared.{parts_joined}
 use Rattle.finaliser.proofs.sharing.blocks_and_edges_by.Goals as goal
 
-pub outline_from-requires : goal.outline_from-requires
-outline_from-requires g c =
-    let map = g.C.Chains.map c.args.code.now in
+pub joined-requires : goal.joined-requires
+joined-requires g c =
     let parts = c.in_ok-parts.parts in
-    let part = c.in_ok-part.part in
-    let long : length parts.items ≡ length c.args.bounds.now + 1 = sym parts.ok.0 ∙ c.in_ok-parts.ensures.as_many in
-    let are = parts_joined map c.args.state.now.maps c.requires.closed c.args.bounds.now c.requires.rising parts.items long c.in_ok-parts.ensures.each
-    (subst (λ (xs : List Answered). All AreMade xs) c.deref.ensures.value c.in_ok-part.ensures.all)
-    part.blocks.items part.edges.items
-    (c.in_ok-part.ensures.blocks ∙ ap (λ (xs : List Answered). flat_map blocks_in xs) c.deref.ensures.value)
-    (c.in_ok-part.ensures.edges ∙ ap (λ (xs : List Answered). flat_map edges_in xs) c.deref.ensures.value) in
-    are.apart
+    let are = parts_joined (g.C.Chains.map c.args.code.now) c.args.state.now.maps c.requires.closed c.args.bounds.now c.requires.rising
+    parts.items (sym parts.ok.0 ∙ c.in_ok-parts.ensures.as_many) c.in_ok-parts.ensures.each (rw c.deref.ensures.value at c.in_ok-all_made.ensures) in
+    record { apart = rw c.deref-2.ensures.value are.apart }
 
 pub returns : goal.returns
 returns g c =
-    let map = g.C.Chains.map c.args.code.now in
     let parts = c.in_ok-parts.parts in
-    let part = c.in_ok-part.part in
-    let long : length parts.items ≡ length c.args.bounds.now + 1 = sym parts.ok.0 ∙ c.in_ok-parts.ensures.as_many in
-    let are = parts_joined map c.args.state.now.maps c.requires.closed c.args.bounds.now c.requires.rising parts.items long c.in_ok-parts.ensures.each
-    (subst (λ (xs : List Answered). All AreMade xs) c.deref.ensures.value c.in_ok-part.ensures.all)
-    part.blocks.items part.edges.items
-    (c.in_ok-part.ensures.blocks ∙ ap (λ (xs : List Answered). flat_map blocks_in xs) c.deref.ensures.value)
-    (c.in_ok-part.ensures.edges ∙ ap (λ (xs : List Answered). flat_map edges_in xs) c.deref.ensures.value) in
+    let are = parts_joined (g.C.Chains.map c.args.code.now) c.args.state.now.maps c.requires.closed c.args.bounds.now c.requires.rising
+    parts.items (sym parts.ok.0 ∙ c.in_ok-parts.ensures.as_many) c.in_ok-parts.ensures.each (rw c.deref.ensures.value at c.in_ok-all_made.ensures) in
     record {
-      outline = λ seeds closed. outline_shown map seeds c.args.state.now.maps closed part c.outline_from.result.blocks c.outline_from.result.edges are c.outline_from.ensures;
+      outline = outline_answered (g.C.Chains.map c.args.code.now) c.args.state.now.maps (flat_map blocks_in parts.items) (flat_map edges_in parts.items) are c.joined.result
+          (rw c.deref-2.ensures.value at c.joined.ensures.blocks) (rw c.deref-2.ensures.value at c.joined.ensures.edges);
     }
