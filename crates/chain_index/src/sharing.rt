@@ -8,9 +8,10 @@ ghost use Rattle.chain_index.specs.Inner.{Reaches, ReachesFrom, IsReach};
 use crate::memory::Memory;
 use crate::reach::{pass_back, room_for, section_reaches};
 use elf_image::{Image, Section};
+use fan_out::for_each_chunk_mut;
 use rv_flow::StraightForms;
 use std::alloc::Global;
-use std::thread::{self, Threads};
+use std::thread::Threads;
 
 /// The most workers that an index is made by.
 pub const MOST_WORKERS: u32 = 64;
@@ -69,7 +70,7 @@ fn pass_all<R: Threads + Sync>(
         → IsReach image.now s i (slice_index_or reaches.new i d) }
 {
     let share = reaches.len() / workers + 1;
-    thread::for_each_chunk_mut(
+    for_each_chunk_mut(
         rt,
         reaches,
         share,
