@@ -21,8 +21,9 @@ use crate::jumps::{TableJump, table_jumps};
 use crate::trim::{cuts, cuts_of};
 use code_view::{Code, Cuts, Memory};
 use core_state::State;
+use fan_out::map_indices;
 use std::alloc::Global;
-use std::thread::{self, Threads};
+use std::thread::Threads;
 use stretches::Stretch;
 
 /// The answer of [`cuts`], for which one thread more than there are bounds go over the terminators
@@ -71,7 +72,7 @@ fn jumps_by_gap<R: Threads + Sync>(
         ensures { IfOk result (λ jumps. AreJumpsIn (program_of code.entry.now)
             code.entry.now.bytes state.entry.now.maps (gap bounds.entry.now i) jumps.items) }
     { table_jumps(alloc, code, state, Stretch::gap(bounds, i)) };
-    Ok(thread::map_indices(rt, alloc, bounds.len() + 1, &find)?)
+    Ok(map_indices(rt, alloc, bounds.len() + 1, &find)?)
 }
 
 /// The answer of [`all_tables`], for which so many threads go over the code, each over a stretch of
@@ -107,7 +108,7 @@ fn tables_by_gap<R: Threads + Sync>(
         ensures { IfOk result (λ jumps. AreTablesIn code.entry.now.bytes
             (gap bounds.entry.now i) jumps.items) }
     { tables_in(alloc, code, Stretch::gap(bounds, i)) };
-    Ok(thread::map_indices(rt, alloc, bounds.len() + 1, &look_up)?)
+    Ok(map_indices(rt, alloc, bounds.len() + 1, &look_up)?)
 }
 
 /// All these jumps, one list after another, or the first of the errors.
