@@ -19,8 +19,9 @@ use crate::outline::{Outline, blocks_and_edges};
 use crate::part::{Part, read_ends};
 use cfg_model::{Block, Blocks, Chains, Edge, Edges};
 use core_state::State;
+use fan_out::map_indices;
 use std::alloc::Global;
-use std::thread::{self, Threads, join};
+use std::thread::{Threads, join};
 use stretches::Stretch;
 
 /// The answer of [`blocks_and_edges`], made by one thread more than there are bounds: each makes
@@ -65,7 +66,7 @@ fn made_by_gap<R: Threads + Sync, C: Chains>(
         ensures { IfOk result (λ part. ArePartOf (C.map code.entry.now) state.entry.now.maps
             (gap bounds.entry.now i) part.blocks.items part.edges.items) }
     { part_of(alloc, code, state, Stretch::gap(bounds, i)) };
-    Ok(thread::map_indices(rt, alloc, bounds.len() + 1, &make)?)
+    Ok(map_indices(rt, alloc, bounds.len() + 1, &make)?)
 }
 
 /// The blocks that end in a stretch, and the edges from there, in the order of a graph.
