@@ -1,6 +1,7 @@
 //! What is made for all functions together, made by several threads.
 
-ghost use Rattle.std.specs.Prelude.{ℕ, ◌<◌, ◌≤◌, [], All, AllPairs, IfOk};
+ghost use Rattle.std.specs.Prelude.{◌≡◌, ℕ, ◌*◌, ◌<◌, ◌≤◌, [], All, AllPairs, IfOk, length};
+ghost use Rattle.std.specs.Fork.{slice_chunk};
 ghost use Rattle.std.specs.List.Sorted.{IsNonDecreasingBy, IsStrictlyIncreasing};
 ghost use Rattle.cfg_model.specs.Graph.Graph.{BlockBefore};
 ghost use Rattle.cfg_model.specs.Builder.Kept.{IsClosed};
@@ -17,9 +18,10 @@ use crate::memory::Memory;
 use crate::ways::{Way, Ways, ways_in_order};
 use cfg_model::{Block, Chains, Edge};
 use core_state::State;
+use fan_out::map_indices;
 use finaliser::Outline;
 use std::alloc::Global;
-use std::thread::{self, Threads};
+use std::thread::Threads;
 
 /// The answer of [`plan_of`](crate::listing::plan_of), made by so many workers. The edges are cut
 /// into one part for each of them, of which each makes first the entries and then the ways.
@@ -83,10 +85,11 @@ fn called_by_part<R: Threads + Sync>(
     ensures { IfOk result
         (λ v. AnswerChunks (λ part called. AreEntriesBy part [] called) size edges.now v.items) }
 {
-    let make = |_: usize, part: &[Edge]| -> Result<Vec<u64>, Memory>
-        ensures { IfOk result (λ v. AreEntriesBy part.entry.now [] v.items) }
-    { entries_of(alloc, part, &[]) };
-    Ok(thread::map_chunks(rt, alloc, edges, size, &make)?)
+    let make = |n: usize| -> Result<Vec<u64>, Memory>
+        requires { n * size < length edges.now }
+        ensures { IfOk result (λ v. AreEntriesBy (slice_chunk edges.entry.now size n) [] v.items) }
+    { entries_of(alloc, chunk(edges, size, n), &[]) };
+    Ok(map_indices(rt, alloc, edges.len().div_ceil(size), &make)?)
 }
 
 /// The answer of [`ways_of`](crate::ways::ways_of), made by one thread for each part of so many
@@ -132,12 +135,23 @@ fn ways_by_part<R: Threads + Sync>(
     ensures { IfOk result
         (λ v. AnswerChunks (AreRisingWaysOf blocks.now entries.now) size edges.now v.items) }
 {
-    let make = |_: usize, part: &[Edge]| -> Result<Vec<Way>, Memory>
-        requires { AllPairs BlockBefore blocks.now
-            × IsNonDecreasingBy (λ edge. edge.from) part.now × All (JoinsBlocks blocks.now) part.now
+    let make = |n: usize| -> Result<Vec<Way>, Memory>
+        requires { n * size < length edges.now × AllPairs BlockBefore blocks.now
+            × IsNonDecreasingBy (λ edge. edge.from) (slice_chunk edges.now size n)
+            × All (JoinsBlocks blocks.now) (slice_chunk edges.now size n)
             × AreEntered blocks.now entries.now entered.now }
         ensures { IfOk result
-            (λ v. AreRisingWaysOf blocks.entry.now entries.entry.now part.entry.now v.items) }
-    { ways_in_order(alloc, blocks, part, entries, entered) };
-    Ok(thread::map_chunks(rt, alloc, edges, size, &make)?)
+            (λ v. AreRisingWaysOf blocks.entry.now entries.entry.now
+            (slice_chunk edges.entry.now size n) v.items) }
+    { ways_in_order(alloc, blocks, chunk(edges, size, n), entries, entered) };
+    Ok(map_indices(rt, alloc, edges.len().div_ceil(size), &make)?)
+}
+
+/// The edges of the part of this number, from 0, as `chunks` would cut them.
+fn chunk(edges: &[Edge], size: usize, n: usize) -> &[Edge]
+    requires inside { n * size < length edges.now }
+    ensures { result.now ≡ slice_chunk edges.now size n }
+{
+    let rest = &edges[n * size..];
+    &rest[..size.min(rest.len())]
 }

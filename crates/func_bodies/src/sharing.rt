@@ -19,9 +19,10 @@ use crate::plan_sharing::plan_by;
 use crate::ways::Ways;
 use cfg_model::{Block, Chains, Function, Functions};
 use core_state::State;
+use fan_out::map_indices;
 use finaliser::Outline;
 use std::alloc::Global;
-use std::thread::{self, Threads};
+use std::thread::Threads;
 
 /// The most workers that functions are made by.
 pub const MOST_WORKERS: u32 = 64;
@@ -60,7 +61,7 @@ pub fn functions_by<R: Threads + Sync, C: Chains>(
     let workers = workers as usize;
     let plan = plan_by(rt, alloc, code, seeds, state, outline, workers)?;
     let parts = parts_of(alloc, &plan.entries, blocks, workers)?;
-    let lists = made_by_part(rt, alloc, code, state, blocks, &plan.ways, parts)?;
+    let lists = made_by_part(rt, alloc, code, state, blocks, &plan.ways, &parts)?;
     let functions = joined(alloc, lists, plan.entries.len())?;
     Ok(Functions::from_vec(functions))
 }
@@ -105,22 +106,22 @@ fn made_by_part<R: Threads + Sync, C: Chains>(
     state: &State,
     blocks: &[Block],
     ways: &Ways,
-    parts: Vec<&[u64]>,
+    parts: &[&[u64]],
 ) -> Result<Vec<Result<Vec<Function>, Memory>>, Memory>
     requires { All
-        (λ part. Serves (C.map code.now) state.now.maps blocks.now ways.now part.now) parts.items }
-    ensures as_many { IfOk result (λ v. vec_len v ≡ vec_len parts.entry) }
-    ensures each { IfOk result (λ v. (i : ℕ) (d : _) (e : _) → i < length parts.entry.items
+        (λ part. Serves (C.map code.now) state.now.maps blocks.now ways.now part.now) parts.now }
+    ensures as_many { IfOk result (λ v. vec_len v ≡ length parts.now) }
+    ensures each { IfOk result (λ v. (i : ℕ) (d : _) (e : _) → i < length parts.now
         → IfOk (slice_index_or v.items i e) (λ w.
         AllZip (IsFunctionBy (C.map code.now) blocks.now ways.now)
-        (slice_index_or parts.entry.items i d).now w.items)) }
+        (slice_index_or parts.now i d).now w.items)) }
 {
-    let make = |part: &[u64]| -> Result<Vec<Function>, Memory>
-        requires { IsSync C.row
-            × Serves (C.map code.now) state.now.maps blocks.now ways.now part.now }
+    let make = |i: usize| -> Result<Vec<Function>, Memory>
+        requires { IsSync C.row × i < length parts.now
+            × All (λ part. Serves (C.map code.now) state.now.maps blocks.now ways.now part.now) parts.now }
         ensures { IfOk result
-            (λ v. AllZip (IsFunctionBy (C.map code.entry.now) blocks.entry.now ways.entry.now)
-            part.entry.now v.items) }
-    { functions_at(alloc, code, state, blocks, ways, part) };
-    Ok(thread::map_vec(rt, parts, &make)?)
+            (λ v. (d : _) → AllZip (IsFunctionBy (C.map code.entry.now) blocks.entry.now ways.entry.now)
+            (slice_index_or parts.entry.now i d).now v.items) }
+    { functions_at(alloc, code, state, blocks, ways, parts[i]) };
+    Ok(map_indices(rt, alloc, parts.len(), &make)?)
 }

@@ -1,13 +1,8 @@
-use Rattle.std.proofs.Common.{◌≡◌, length, Vec, Global, vec_len, sym, ◌∙◌}
-use Rattle.cfg_model.specs.declared.graph.Function.{Function}
+use Rattle.std.proofs.Common.{sym, ◌∙◌}
 use Rattle.func_bodies.specs.Inner.Bodies.{IsFunctionBy}
 use Rattle.func_bodies.specs.Inner.Plans.{Serves}
-use Rattle.func_bodies.specs.Inner.Parts.{Answered}
-use Rattle.func_bodies.proofs.Joining.{Part, serves_part, made_of_parts}
+use Rattle.func_bodies.proofs.Joining.{serves_part, made_of_parts}
 use Rattle.func_bodies.proofs.sharing.functions_by.Goals as goal
-
-lengths : (lists : Vec (Answered Function) Global) (parts : Vec Part Global) → vec_len lists ≡ vec_len parts → length lists.items ≡ length parts.items
-lengths lists parts same = sym lists.ok.0 ∙ same ∙ parts.ok.0
 
 pub made_by_part-requires-after_bounds : goal.made_by_part-requires-after_bounds
 made_by_part-requires-after_bounds g c κs within =
@@ -17,7 +12,7 @@ made_by_part-requires-after_bounds g c κs within =
     let ways = plan.ways in
     let serves : Serves map c.args.state.now.maps blocks ways plan.entries.items =
     rw c.as_slice-blocks.ensures c.in_ok-plan.ensures.serves in
-    serves_part map c.args.state.now.maps blocks ways plan.entries.items c.in_ok-parts.parts.items (c.in_ok-parts.ensures ∙ c.deref.ensures.value) serves
+    rw c.deref-2.ensures.value (serves_part map c.args.state.now.maps blocks ways plan.entries.items c.in_ok-parts.parts.items (c.in_ok-parts.ensures ∙ c.deref.ensures.value) serves)
 
 pub returns-clause-exact : goal.returns-clause-exact
 returns-clause-exact g c =
@@ -27,8 +22,8 @@ returns-clause-exact g c =
     let lists = c.in_ok-lists.lists in
     let functions = c.in_ok-functions.functions.items in
     let each = made_of_parts R entries parts lists.items functions (c.in_ok-parts.ensures ∙ c.deref.ensures.value)
-    (lengths lists c.in_ok-parts.parts c.in_ok-lists.ensures.as_many)
-    (rw c.as_slice-blocks.ensures at c.in_ok-lists.ensures.each)
+    (sym lists.ok.0 ∙ (rw c.deref-2.ensures.value at c.in_ok-lists.ensures.as_many))
+    (rw (c.as_slice-blocks.ensures, c.deref-2.ensures.value) at c.in_ok-lists.ensures.each)
     c.in_ok-functions.ensures.made c.in_ok-functions.ensures.joined in
     rw c.from_vec.ensures (c.in_ok-plan.ensures.makes functions each).exact
 
@@ -40,8 +35,8 @@ returns-clause-complete g c =
     let lists = c.in_ok-lists.lists in
     let functions = c.in_ok-functions.functions.items in
     let each = made_of_parts R entries parts lists.items functions (c.in_ok-parts.ensures ∙ c.deref.ensures.value)
-    (lengths lists c.in_ok-parts.parts c.in_ok-lists.ensures.as_many)
-    (rw c.as_slice-blocks.ensures at c.in_ok-lists.ensures.each)
+    (sym lists.ok.0 ∙ (rw c.deref-2.ensures.value at c.in_ok-lists.ensures.as_many))
+    (rw (c.as_slice-blocks.ensures, c.deref-2.ensures.value) at c.in_ok-lists.ensures.each)
     c.in_ok-functions.ensures.made c.in_ok-functions.ensures.joined in
     rw c.from_vec.ensures (c.in_ok-plan.ensures.makes functions each).complete
 
@@ -53,7 +48,7 @@ returns-clause-ordered g c =
     let lists = c.in_ok-lists.lists in
     let functions = c.in_ok-functions.functions.items in
     let each = made_of_parts R entries parts lists.items functions (c.in_ok-parts.ensures ∙ c.deref.ensures.value)
-    (lengths lists c.in_ok-parts.parts c.in_ok-lists.ensures.as_many)
-    (rw c.as_slice-blocks.ensures at c.in_ok-lists.ensures.each)
+    (sym lists.ok.0 ∙ (rw c.deref-2.ensures.value at c.in_ok-lists.ensures.as_many))
+    (rw (c.as_slice-blocks.ensures, c.deref-2.ensures.value) at c.in_ok-lists.ensures.each)
     c.in_ok-functions.ensures.made c.in_ok-functions.ensures.joined in
     rw c.from_vec.ensures (c.in_ok-plan.ensures.makes functions each).ordered
