@@ -6,7 +6,7 @@ use Rattle.std.proofs.lemmas.Nat.{div-add-mod', mod-mul-add, mod_below}
 use denote.Param.Members.{Shared}
 use Rattle.std.specs.Fork.{slice_chunk, IsChunk, ChangesChunks, IsInChunk}
 use Rattle.std.specs.Fork.Halves.{AllChunks, ChangesByChunks}
-use Rattle.fan_out.specs.Chunks.{IsEachChunk}
+use Rattle.fan_out.specs.Inner.{IsEachChunk}
 
 -- a list of one chunk at most
 whole : {X : Type 0} (size : ℕ) (xs : List X) → length xs ≤ size → slice_chunk xs size 0 ≡ xs

@@ -3,7 +3,7 @@
 ghost use Rattle.std.specs.Prelude.{◌<◌};
 ghost use Rattle.std.specs.Fork.{AcceptsAt, ChangesAt, AcceptsChunksMut, ChangesChunks, AllInChunks};
 ghost use Rattle.std.specs.Fork.Halves.{ChangesByChunks};
-ghost use Rattle.fan_out.specs.Chunks.{IsEachChunk};
+ghost use Rattle.fan_out.specs.Inner.{IsEachChunk};
 ghost use Rattle.std.specs.Thread.{IsSend, IsSync};
 
 use std::marker::{Send, Sync};

@@ -1,9 +1,9 @@
 //! Calls side by side, each on a thread of its own.
 //!
 //! `std::thread::map_indices` and `for_each_chunk_mut` halve their calls, and start half of the
-//! threads from threads that they have just started. Linux lays such a thread on the processor of the
-//! one that started it, where it waits for milliseconds beside idle processors. Here the caller starts
-//! all threads itself.
+//! threads from threads that they have just started. Linux may lay such a thread on the processor of
+//! the one that started it, where it waits for milliseconds beside idle processors. Here the caller
+//! starts all threads itself.
 #![tactic(auto)]
 
 ghost use Rattle.std.specs.Prelude.{◌≡◌, ℕ, ◌<◌, IfOk, vec_len};
