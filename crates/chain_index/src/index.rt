@@ -13,7 +13,6 @@ use crate::over_sections::over_sections;
 use crate::reach::section_reaches;
 use crate::sharing::{LEAST_SHARED, MOST_WORKERS, reaches_by, workers_for};
 use elf_image::Image;
-use rv_flow::StraightForms;
 use std::alloc::Global;
 use std::marker::Model;
 use std::thread::Threads;
@@ -64,9 +63,8 @@ impl ChainReaches {
     pub fn new(alloc: Global, image: &Image) -> Result<ChainReaches, Memory>
         ensures { IfOk result (AreReachesOf image.now) }
     {
-        let forms = StraightForms::new(alloc)?;
-        let sections = over_sections(alloc, image, |s, behind| {
-            section_reaches(alloc, image, &forms, s, behind)
+        let sections = over_sections(alloc, image, |forms, s, behind| {
+            section_reaches(alloc, image, forms, s, behind)
         })?;
         Ok(ChainReaches { sections })
     }
@@ -103,18 +101,17 @@ impl ChainReaches {
         requires { 1 ≤ workers }
         ensures { IfOk result (AreReachesOf image.now) }
     {
-        let forms = StraightForms::new(alloc)?;
         let workers = workers as usize;
         let sections = over_sections(
             alloc,
             image,
-            |s, behind|
+            |forms, s, behind|
                 requires section { IsCodeOf image.now s }
                 requires behind { Reaches image.now (s.address + 2 * (s.size / 2)) behind }
                 requires workers { 0 < workers }
             {
                 let count = workers_for(s.size / 2, workers, least);
-                reaches_by(rt, alloc, image, &forms, s, behind, count)
+                reaches_by(rt, alloc, image, forms, s, behind, count)
             },
         )?;
         Ok(ChainReaches { sections })

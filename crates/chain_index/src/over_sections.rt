@@ -8,29 +8,34 @@ use crate::lookup::{SectionReaches, first_reach};
 use crate::memory::Memory;
 use crate::sections::code_sections;
 use elf_image::{Image, Section};
+use rv_flow::StraightForms;
 use std::alloc::Global;
 
 /// The code sections that hold a halfword, from the highest address down, with the reaches that
-/// `pass` makes of each; it also gets how far the chain of the address behind the section's last
-/// halfword reaches, where code stands there.
-pub(crate) fn over_sections<F: Fn(Section, Option<u32>) -> Result<Vec<u32>, Memory>>(
+/// `pass` makes of each. It gets the forms that all passes on this thread share, and how far the
+/// chain of the address behind the section's last halfword reaches, where code stands there.
+pub(crate) fn over_sections<F>(
     alloc: Global,
     image: &Image,
     pass: F,
 ) -> Result<Vec<SectionReaches>, Memory>
-    requires callable { (s : _) (behind : _) → IsCodeOf image.now s
-        → Reaches image.now (s.address + 2 * (s.size / 2)) behind → F.pre pass s behind }
-    requires right { (s : _) (behind : _) (made : _) → IsCodeOf image.now s
-        → Reaches image.now (s.address + 2 * (s.size / 2)) behind → F.post pass s behind made
+where
+    F: Fn(&mut StraightForms, Section, Option<u32>) -> Result<Vec<u32>, Memory>,
+    requires callable { (forms : _) (s : _) (behind : _) → IsCodeOf image.now s
+        → Reaches image.now (s.address + 2 * (s.size / 2)) behind → F.pre pass forms s behind }
+    requires right { (forms : _) (s : _) (behind : _) (made : _) (left : _) → IsCodeOf image.now s
+        → Reaches image.now (s.address + 2 * (s.size / 2)) behind
+        → F.post pass forms s behind made left
         → IfOk made (λ reaches. (length reaches.items ≡ s.size / 2)
         × AreReaches image.now s.address reaches.items) }
     ensures { IfOk result (λ found. AreReachesOf image.now found.items) }
 {
     let mut left = code_sections(alloc, image)?;
     let mut found = Vec::new(alloc);
+    let mut forms = StraightForms::new(alloc);
     while let Some(s) = left.pop() {
         let behind = first_reach(&found, s.address + s.size / 2 * 2);
-        let reaches = pass(s, behind)?;
+        let reaches = pass(&mut forms, s, behind)?;
         found.push(SectionReaches {
             address: s.address,
             offset: s.offset,

@@ -18,7 +18,7 @@ use std::alloc::Global;
 pub(crate) fn section_reaches(
     alloc: Global,
     image: &Image,
-    forms: &StraightForms,
+    forms: &mut StraightForms,
     s: Section,
     behind: Option<u32>,
 ) -> Result<Vec<u32>, Memory>
@@ -51,7 +51,7 @@ pub(crate) fn room_for(alloc: Global, s: Section, behind: Option<u32>) -> Result
 /// from its last one.
 pub(crate) fn pass_back(
     image: &Image,
-    forms: &StraightForms,
+    forms: &mut StraightForms,
     s: Section,
     behind: Option<u32>,
     from: usize,
@@ -88,7 +88,7 @@ pub(crate) fn section_bytes(image: &Image, s: Section) -> &[u8]
 
 /// The length of the instruction at an offset of a section's bytes, where control goes straight on
 /// behind it.
-pub(crate) fn length_at(forms: &StraightForms, code: &[u8], at: usize) -> Option<u8>
+pub(crate) fn length_at(forms: &mut StraightForms, code: &[u8], at: usize) -> Option<u8>
     requires { at + 2 ≤ length code.now }
     ensures answer { IsStraightLength (u16_at code.now at) (word_of code.now at) result }
     ensures bytes { IfSome result (λ n. (n ≡ 2) ⊎ ((n ≡ 4) × (at + 4 ≤ length code.now))) }

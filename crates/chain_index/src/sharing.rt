@@ -28,12 +28,13 @@ pub(crate) fn workers_for(halfwords: u64, workers: usize, least: u64) -> usize
     if halfwords < least { 1 } else { workers }
 }
 
-/// The answer of [`section_reaches`]. Each worker makes the reaches of a stretch.
+/// The answer of [`section_reaches`]. Each worker makes the reaches of a stretch; where there are
+/// several, each has forms of its own.
 pub(crate) fn reaches_by<R: Threads + Sync>(
     rt: &R,
     alloc: Global,
     image: &Image,
-    forms: &StraightForms,
+    forms: &mut StraightForms,
     s: Section,
     behind: Option<u32>,
     workers: usize,
@@ -48,15 +49,16 @@ pub(crate) fn reaches_by<R: Threads + Sync>(
         return section_reaches(alloc, image, forms, s, behind);
     }
     let mut reaches = room_for(alloc, s, behind)?;
-    pass_all(rt, image, forms, s, behind, &mut reaches, workers);
+    pass_all(rt, alloc, image, s, behind, &mut reaches, workers);
     Ok(reaches)
 }
 
 /// Makes the reaches of all halfwords, a stretch of them on a thread of its own for each worker.
+/// Each decodes for itself, so that nothing has to be decoded before the threads start.
 fn pass_all<R: Threads + Sync>(
     rt: &R,
+    alloc: Global,
     image: &Image,
-    forms: &StraightForms,
     s: Section,
     behind: Option<u32>,
     reaches: &mut [u32],
@@ -74,6 +76,9 @@ fn pass_all<R: Threads + Sync>(
         rt,
         reaches,
         share,
-        &|from, part| pass_back(image, forms, s, behind, from, part),
+        &|from, part| {
+            let mut forms = StraightForms::new(alloc);
+            pass_back(image, &mut forms, s, behind, from, part)
+        },
     );
 }

@@ -13,7 +13,7 @@ use rv_flow::StraightForms;
 /// chain in the section.
 pub(crate) fn reach_at(
     image: &Image,
-    forms: &StraightForms,
+    forms: &mut StraightForms,
     s: Section,
     behind: Option<u32>,
     i: usize,
@@ -31,7 +31,13 @@ pub(crate) fn reach_at(
 
 /// How far the chain of the halfword with the number `i` of a section reaches: it is walked to its
 /// end, or to its last instruction in the section.
-fn walked(image: &Image, forms: &StraightForms, s: Section, behind: Option<u32>, i: usize) -> u32
+fn walked(
+    image: &Image,
+    forms: &mut StraightForms,
+    s: Section,
+    behind: Option<u32>,
+    i: usize,
+) -> u32
     requires section { IsCodeOf image.now s }
     requires behind { ReachesFrom image.now s (s.size / 2) behind }
     requires inside { i < s.size / 2 }

@@ -1,9 +1,11 @@
 -- Words that no public clause cites.
-use Rattle.std.specs.Prelude.{◌≡◌, ℕ, ◌<◌, ◌%◌, ◌^◌, ◌==◌, ◌||◌, not, Bool, true, false, List, Option, Some, None}
-use Rattle.std.specs.Prelude.{length, get_or, if◌then◌else◌}
+use Rattle.std.specs.Prelude.{◌≡◌, ℕ, ◌==◌, ◌||◌, not, Bool, true, false, List, get_or}
+use Rattle.std.specs.Prelude.{Option, Some, None}
 use Rattle.rv_decode.specs.Fields.{opcode}
 use Rattle.rv_decode.specs.declared.instructions.Insn.{Insn}
 use Rattle.rv_decode.specs.declared.instructions.Insn.TheVariants as insns
+use Rattle.rv_flow.specs.declared.straight.ShortForm.{ShortForm}
+use Rattle.rv_flow.specs.declared.straight.ShortForm.TheVariants.{Unasked, GoesOn, Stops}
 use Rattle.rv_flow.specs.Placed.{compressed_insn}
 use Rattle.rv_flow.specs.Raw.{is_unimp}
 
@@ -21,15 +23,15 @@ abbrev pub goes_on_behind : Option Insn → Bool
 goes_on_behind None = false
 goes_on_behind (Some insn) = goes_on insn
 
--- A halfword is a 16-bit instruction behind which control goes straight on. With the low bits 11 it
--- begins a longer one.
+-- Control goes straight on behind a halfword as a 16-bit instruction.
 abbrev pub short_goes_on : ℕ → Bool
-short_goes_on half = if half % 4 == 3 then false else goes_on_behind (compressed_insn half)
+short_goes_on half = goes_on_behind (compressed_insn half)
 
--- Of each halfword, whether it is such an instruction.
-pub record IsTable (shorts : List Bool) : Type 0 where
-  pub size : length shorts ≡ 2 ^ 16
-  pub told : (half : ℕ) → half < 2 ^ 16 → get_or shorts half false ≡ short_goes_on half
+-- What is kept of a halfword, at its place, is true of it. Of one that was not asked for nothing is
+-- said.
+pub record AreTold (shorts : List ShortForm) : Type 0 where
+  pub on : (half : ℕ) → get_or shorts half Unasked ≡ GoesOn → short_goes_on half ≡ true
+  pub stops : (half : ℕ) → get_or shorts half Unasked ≡ Stops → short_goes_on half ≡ false
 
 -- The opcode of a word is that of LUI or AUIPC.
 abbrev pub is_upper : ℕ → Bool

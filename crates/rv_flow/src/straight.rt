@@ -1,70 +1,96 @@
 //! Whether control goes straight on behind an instruction, told from its bytes alone: that depends
 //! neither on its address nor on what stands before it.
 
-ghost use Rattle.std.specs.Prelude.{◌≡◌, ◌⊎◌, IfOk, IfSome, IsSome};
+ghost use Rattle.std.specs.Prelude.{◌≡◌, ◌⊎◌, IfSome, IsSome};
 ghost use Rattle.rv_flow.specs.Straight.{IsStraightLength};
 ghost use Rattle.rv_flow.specs.Placed.{compressed_insn};
-ghost use Rattle.rv_flow.specs.Inner.{IsTable, goes_on, goes_on_behind, short_goes_on};
+ghost use Rattle.rv_flow.specs.Inner.{AreTold, goes_on, goes_on_behind, short_goes_on};
 
 use crate::placed::{compressed_insn, whole_insn};
 use crate::raw::is_unimp;
 use rv_decode::Insn;
-use std::alloc::{AllocError, Global};
+use std::alloc::Global;
 
 /// How many halfwords there are.
-const HALFWORDS: u32 = 1 << 16;
+const HALFWORDS: usize = 1 << 16;
 
-/// Instructions behind which control goes straight on. The 16-bit ones are decoded once, so that to
-/// ask for each halfword of a file takes little time.
+/// What is kept of a halfword as a 16-bit instruction.
+#[derive(Clone, Copy)]
+enum ShortForm {
+    /// It was not asked for.
+    Unasked,
+    /// Control goes straight on behind it.
+    GoesOn,
+    /// Control does not, or it is no instruction.
+    Stops,
+}
+
+// A byte each, so that all of them are quickly set.
+const _: () = prove!(size_of::<ShortForm>() == 1);
+
+/// Instructions behind which control goes straight on. Each 16-bit one is decoded when it is first
+/// asked for and kept in mind, so that to ask for each halfword of a file takes little time.
 #[derive(Drop)]
 pub struct StraightForms {
-    /// Of each halfword, whether it is such a 16-bit instruction.
-    shorts: Vec<bool>,
-    ghost table: { IsTable shorts.items },
+    /// Of each halfword, what was found of it. Empty where memory for it was missing: then each is
+    /// decoded anew.
+    shorts: Vec<ShortForm>,
+    ghost told: { AreTold shorts.items },
 }
 
 impl StraightForms {
-    /// Decodes all 16-bit instructions.
-    pub fn new(alloc: Global) -> Result<StraightForms, AllocError> {
-        Ok(StraightForms {
-            shorts: short_forms(alloc)?,
-        })
+    /// Nothing is decoded yet. It takes 64 KiB of memory; where these are missing, nothing is kept
+    /// in mind.
+    pub fn new(alloc: Global) -> StraightForms {
+        match vec![in alloc; ShortForm::Unasked; HALFWORDS] {
+            Ok(shorts) => StraightForms { shorts },
+            Err(_) => StraightForms {
+                shorts: Vec::new(alloc),
+            },
+        }
     }
 
     /// The length of the instruction that begins with the halfword `half`, where control goes
     /// straight on behind it; `word` are its four bytes, where all of them are there.
-    pub fn length(&self, half: u16, word: Option<u32>) -> Option<u8>
+    pub fn length(&mut self, half: u16, word: Option<u32>) -> Option<u8>
         ensures answer { IsStraightLength half word result }
         ensures bytes { IfSome result (λ n. (n ≡ 2) ⊎ ((n ≡ 4) × IsSome word)) }
     {
         if half & 0b11 != 0b11 {
-            self.shorts[usize::from(half)].then_some(2)
+            self.short_goes_on(half).then_some(2)
         } else if half >> 2 & 0b111 == 0b111 {
             None
         } else {
             goes_on_behind(whole_insn(word)).then_some(4)
         }
     }
-}
 
-// Of each halfword, whether it is a 16-bit instruction behind which control goes straight on.
-fn short_forms(alloc: Global) -> Result<Vec<bool>, AllocError>
-    ensures { IfOk result (λ shorts. IsTable shorts.items) }
-{
-    let mut shorts = Vec::with_capacity(alloc, HALFWORDS as usize)?;
-    for half in 0..HALFWORDS {
-        shorts.push(short_goes_on(half as u16))?;
+    // Whether control goes straight on behind a halfword as a 16-bit instruction.
+    fn short_goes_on(&mut self, half: u16) -> bool
+        ensures { result ≡ short_goes_on half }
+    {
+        match self.shorts.get(usize::from(half)) {
+            Some(ShortForm::GoesOn) => true,
+            Some(ShortForm::Stops) => false,
+            _ => self.decode(half),
+        }
     }
-    Ok(shorts)
-}
 
-// Whether a halfword is a 16-bit instruction behind which control goes straight on. One that begins
-// a longer instruction is not decoded: of all halfwords that would take longest, since no row of
-// the tables holds.
-fn short_goes_on(half: u16) -> bool
-    ensures { result ≡ short_goes_on half }
-{
-    half & 0b11 != 0b11 && goes_on_behind(compressed_insn(half))
+    // The same, decoded, and kept in mind where there is room for it.
+    #[cold]
+    fn decode(&mut self, half: u16) -> bool
+        ensures { result ≡ short_goes_on half }
+    {
+        let goes_on = goes_on_behind(compressed_insn(half));
+        if let Some(place) = self.shorts.get_mut(usize::from(half)) {
+            *place = if goes_on {
+                ShortForm::GoesOn
+            } else {
+                ShortForm::Stops
+            };
+        }
+        goes_on
+    }
 }
 
 // Whether control goes straight on behind what is an instruction.

@@ -59,6 +59,29 @@ fn flows_of_a_small_file(rt: HostRuntime) -> Result<(), Fail> {
     Ok(())
 }
 
+/// First halfwords, their words, and the lengths where control goes straight on: `c.nop`,
+/// `c.jr x5`, no instruction, `addi x0, x0, 0`, its lower half alone, `jal x0, 0`, and a longer
+/// form.
+const FORMS: [(u16, Option<u32>, Option<u8>); 7] = [
+    (1, None, Some(2)),
+    (0x8282, None, None),
+    (0, None, None),
+    (0x13, Some(0x13), Some(4)),
+    (0x13, None, None),
+    (0x6F, Some(0x6F), None),
+    (0x1F, Some(0x1F), None),
+];
+
+/// A form is told the same when it is asked for again.
+#[test]
+fn straight_forms(rt: HostRuntime) -> Result<(), Fail> {
+    let mut forms = StraightForms::new(rt.alloc());
+    for (half, word, length) in FORMS.iter().chain(&FORMS).copied() {
+        assert_eq!(rt; forms.length(half, word), length, "the length of {half}");
+    }
+    Ok(())
+}
+
 #[test]
 fn laws_hold() {
     every_expansion_decodes();

@@ -30,7 +30,7 @@ behind g c =
 pub pass-requires : goal.pass-requires
 pass-requires g c =
     let at = (goal.at.pass-requires g c).After-first_reach-behind in
-    c.requires.callable c.in-Some.s c.first_reach-behind.result (code g at) (behind g at)
+    c.requires.callable _ c.in-Some.s c.first_reach-behind.result (code g at) (behind g at)
 
 pub loop-s-preserved : goal.loop-s-preserved
 loop-s-preserved g c =
@@ -40,7 +40,7 @@ loop-s-preserved g c =
     let found : List SectionReaches = c.loop-s.found.items in
     let kept : SectionReaches = record { address = s.address; offset = s.offset; reaches = c.in_ok-reaches.reaches } in
     let at = (goal.at.loop-s-preserved g c).After-first_reach-behind in
-    let made = c.requires.right s c.first_reach-behind.result _ (code g at) (behind g at) c.in_ok-reaches.ensures in
+    let made = c.requires.right _ s c.first_reach-behind.result _ _ (code g at) (behind g at) c.in_ok-reaches.ensures in
     let more : IsLeft bytes rest (found ++ kept ∷ []) = less_left bytes rest s found kept (taken g at) refl refl made.0 made.1 in
     subst (IsLeft bytes rest) (sym c.in_ok-push.ensures.items) more
 
