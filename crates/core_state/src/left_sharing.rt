@@ -13,8 +13,9 @@ use crate::left::left_of;
 use crate::maps::{Maps, SHARDS};
 use crate::memory::Memory;
 use crate::shard;
+use fan_out::map_indices;
 use std::alloc::Global;
-use std::thread::{self, Threads};
+use std::thread::Threads;
 
 /// Work that is left in a state with these maps, where these addresses are to be starts, found by
 /// so many workers, each in a thread of its own. Each looks at the shards of its share, and at the
@@ -56,7 +57,7 @@ fn found_by_share<R: Threads + Sync>(
         requires { 0 < shares }
         ensures { IsFoundIn shares share seeds.entry.now shards.entry.now result }
     { left_in_share(shards, seeds, shares, share) };
-    Ok(thread::map_indices(rt, alloc, shares, &look)?)
+    Ok(map_indices(rt, alloc, shares, &look)?)
 }
 
 /// Work that is left in a share: at a seed, or in a shard.
