@@ -3,12 +3,14 @@
 //! - [`outline`]: the blocks and edges, in the order of the report.
 //! - `part`: those of one stretch of addresses.
 //! - [`sharing`]: all of them, made by several threads.
+//! - `lists`: what was made part by part, put together.
 //! - [`status`]: which starts return.
 //! - [`memory`]: the one free answer, want of memory.
 #![tactic(auto)]
 
 mod blocks;
 mod edges;
+mod lists;
 pub mod memory;
 pub mod outline;
 mod part;

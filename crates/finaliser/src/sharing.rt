@@ -9,11 +9,12 @@ ghost use Rattle.cfg_model.specs.Graph.Graph.{BlockBefore, EdgeBefore};
 ghost use Rattle.cfg_model.specs.Graph.Listing.{Lists};
 ghost use Rattle.stretches.specs.Gaps.{gap};
 ghost use Rattle.finaliser.specs.Closed.{IsClosedFromSome, IsOutlineOf};
-ghost use Rattle.finaliser.specs.Inner.Parts.{AreMade, ArePartOf, blocks_in, edges_in};
+ghost use Rattle.finaliser.specs.Inner.Parts.{AreMade, ArePartOf, all_in, blocks_in, edges_in};
 ghost use Rattle.finaliser.specs.Inner.Shown.{StartApart};
 
 use crate::blocks::by_start;
 use crate::edges::by_source;
+use crate::lists::joined;
 use crate::memory::Memory;
 use crate::outline::{Outline, blocks_and_edges};
 use crate::part::{Part, read_ends};
@@ -43,8 +44,8 @@ pub fn blocks_and_edges_by<R: Threads + Sync, C: Chains>(
         return blocks_and_edges(alloc, code, state);
     }
     let parts = made_by_gap(rt, alloc, code, state, bounds)?;
-    all_made(&parts)?;
-    joined(rt, alloc, &parts)
+    let (blocks, edges) = taken_apart(alloc, parts)?;
+    put_together(rt, alloc, blocks, edges)
 }
 
 /// The blocks and edges of each gap, made on a thread of its own, in the order of the gaps.
@@ -84,81 +85,52 @@ fn part_of<C: Chains>(
     Ok(part.in_order())
 }
 
-/// The blocks and edges of all these parts in the order of a graph, or one of their errors. The
-/// blocks are put together and in order by one thread, and the edges by another.
-fn joined<R: Threads>(
+/// The blocks of each of these parts and the edges of each, or the first of their errors.
+fn taken_apart(
+    alloc: Global,
+    parts: Vec<Result<Part, Memory>>,
+) -> Result<(Vec<Vec<Block>>, Vec<Vec<Edge>>), Memory>
+    ensures made { IfOk result (λ _. All AreMade parts.items) }
+    ensures blocks { IfOk result (λ lists. all_in lists.0.items ≡ flat_map blocks_in parts.items) }
+    ensures edges { IfOk result (λ lists. all_in lists.1.items ≡ flat_map edges_in parts.items) }
+{
+    let mut blocks = Vec::with_capacity(alloc, parts.len())?;
+    let mut edges = Vec::with_capacity(alloc, parts.len())?;
+    for part in parts {
+        let part = part?;
+        blocks.push(part.blocks)?;
+        edges.push(part.edges)?;
+    }
+    Ok((blocks, edges))
+}
+
+/// These blocks and edges in the order of a graph. The blocks are put together and in order by one
+/// thread, and the edges by another.
+fn put_together<R: Threads>(
     rt: &R,
     alloc: Global,
-    parts: &[Result<Part, Memory>],
+    blocks: Vec<Vec<Block>>,
+    edges: Vec<Vec<Edge>>,
 ) -> Result<Outline, Memory>
-    requires apart { AllPairs StartApart (flat_map blocks_in parts.now) }
+    requires apart { AllPairs StartApart (all_in blocks.items) }
     ensures blocks { IfOk result (λ outline.
-        Lists BlockBefore (Contains (flat_map blocks_in parts.now)) outline.blocks) }
+        Lists BlockBefore (Contains (all_in blocks.items)) outline.blocks) }
     ensures edges { IfOk result (λ outline.
-        Lists EdgeBefore (Contains (flat_map edges_in parts.now)) outline.edges) }
+        Lists EdgeBefore (Contains (all_in edges.items)) outline.edges) }
 {
     let (blocks, edges) = join(
         rt,
-        || -> Result<Vec<Block>, Memory>
-            requires { AllPairs StartApart (flat_map blocks_in parts.now) }
-            ensures { IfOk result (λ blocks.
-                Lists BlockBefore (Contains (flat_map blocks_in parts.entry.now)) blocks.items) }
-        { Ok(by_start(joined_blocks(alloc, parts)?)) },
-        || -> Result<Vec<Edge>, Memory>
-            ensures { IfOk result (λ edges.
-                Lists EdgeBefore (Contains (flat_map edges_in parts.entry.now)) edges.items) }
-        { Ok(by_source(joined_edges(alloc, parts)?)) },
+        move || -> Result<Vec<Block>, Memory>
+            requires { AllPairs StartApart (all_in blocks.items) }
+            ensures { IfOk result (λ v.
+                Lists BlockBefore (Contains (all_in blocks.items)) v.items) }
+        { Ok(by_start(joined(alloc, blocks)?)) },
+        move || -> Result<Vec<Edge>, Memory>
+            ensures { IfOk result (λ v. Lists EdgeBefore (Contains (all_in edges.items)) v.items) }
+        { Ok(by_source(joined(alloc, edges)?)) },
     );
     Ok(Outline {
         blocks: Blocks::from_vec(blocks?),
         edges: Edges::from_vec(edges?),
     })
-}
-
-/// The first error of these parts, if there is any.
-fn all_made(parts: &[Result<Part, Memory>]) -> Result<(), Memory>
-    ensures { IfOk result (λ _. All AreMade parts.now) }
-{
-    for part in parts {
-        if let Err(e) = part {
-            return Err(*e);
-        }
-    }
-    Ok(())
-}
-
-/// The blocks of all these parts, one after another, or the first of their errors.
-fn joined_blocks(alloc: Global, parts: &[Result<Part, Memory>]) -> Result<Vec<Block>, Memory>
-    ensures { IfOk result (λ blocks. blocks.items ≡ flat_map blocks_in parts.now) }
-{
-    let mut count = 0_usize;
-    for part in parts {
-        count = count.saturating_add(part.as_ref().map_or(0, |part| part.blocks.len()));
-    }
-    let mut blocks = Vec::with_capacity(alloc, count)?;
-    for part in parts {
-        match part {
-            Ok(part) => blocks.extend_from_slice(&part.blocks)?,
-            Err(e) => return Err(*e),
-        }
-    }
-    Ok(blocks)
-}
-
-/// The edges of all these parts, one after another, or the first of their errors.
-fn joined_edges(alloc: Global, parts: &[Result<Part, Memory>]) -> Result<Vec<Edge>, Memory>
-    ensures { IfOk result (λ edges. edges.items ≡ flat_map edges_in parts.now) }
-{
-    let mut count = 0_usize;
-    for part in parts {
-        count = count.saturating_add(part.as_ref().map_or(0, |part| part.edges.len()));
-    }
-    let mut edges = Vec::with_capacity(alloc, count)?;
-    for part in parts {
-        match part {
-            Ok(part) => edges.extend_from_slice(&part.edges)?,
-            Err(e) => return Err(*e),
-        }
-    }
-    Ok(edges)
 }

@@ -3,7 +3,7 @@
 ghost use Rattle.std.specs.Prelude.{IfOk};
 ghost use Rattle.std.specs.List.Sorted.{IsNonDecreasing};
 
-use crate::{Memory, Outline, blocks_and_edges, blocks_and_edges_by, may_return};
+use crate::{Memory, Outline, blocks_and_edges, blocks_and_edges_by};
 use alone::build_alone;
 use cfg_model::{Block, Edge, EdgeKind, EndKind};
 use sample_program::{Sample, row_6, row_8, row_9, row_10, table_jump};

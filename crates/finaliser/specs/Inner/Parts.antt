@@ -1,5 +1,7 @@
 -- The blocks and edges that the ends of a state show in one stretch of addresses.
-use Rattle.std.specs.Prelude.{◌⊎◌, ℕ, List, [], AllPairs, Result, Ok, Err, IsOk}
+use Rattle.std.specs.Prelude.{◌⊎◌, ℕ, List, [], AllPairs, Vec, Result, Ok, Err, IsOk}
+use Rattle.std.specs.List.{flat_map}
+use Rattle.std.specs.declared.alloc.Global.{Global}
 use Rattle.cfg_model.specs.declared.graph.Block.{Block}
 use Rattle.cfg_model.specs.declared.graph.Edge.{Edge}
 use Rattle.cfg_model.specs.Program.Instructions.{InstructionMap, IsLawful}
@@ -37,3 +39,7 @@ blocks_in (Err e) = []
 abbrev pub edges_in : Answered → List Edge
 edges_in (Ok part) = part.edges.items
 edges_in (Err e) = []
+
+-- The items of all these lists, one after another.
+abbrev pub all_in : {X : Type 0} → List (Vec X Global) → List X
+all_in lists = flat_map (λ list. list.items) lists

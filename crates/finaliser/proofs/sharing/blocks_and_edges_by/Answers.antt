@@ -5,19 +5,19 @@ use Rattle.finaliser.proofs.Whole.{outline_answered}
 use Rattle.finaliser.proofs.Shared.{parts_joined}
 use Rattle.finaliser.proofs.sharing.blocks_and_edges_by.Goals as goal
 
-pub joined-requires : goal.joined-requires
-joined-requires g c =
+pub put_together-requires : goal.put_together-requires
+put_together-requires g c =
     let parts = c.in_ok-parts.parts in
     let are = parts_joined (g.C.Chains.map c.args.code.now) c.args.state.now.maps c.requires.closed c.args.bounds.now c.requires.rising
-    parts.items (sym parts.ok.0 ∙ c.in_ok-parts.ensures.as_many) c.in_ok-parts.ensures.each (rw c.deref.ensures.value at c.in_ok-all_made.ensures) in
-    record { apart = rw c.deref-2.ensures.value are.apart }
+    parts.items (sym parts.ok.0 ∙ c.in_ok-parts.ensures.as_many) c.in_ok-parts.ensures.each c.in_ok-blocks.ensures.made in
+    record { apart = rw c.in_ok-blocks.ensures.blocks are.apart }
 
 pub returns : goal.returns
 returns g c =
     let parts = c.in_ok-parts.parts in
     let are = parts_joined (g.C.Chains.map c.args.code.now) c.args.state.now.maps c.requires.closed c.args.bounds.now c.requires.rising
-    parts.items (sym parts.ok.0 ∙ c.in_ok-parts.ensures.as_many) c.in_ok-parts.ensures.each (rw c.deref.ensures.value at c.in_ok-all_made.ensures) in
+    parts.items (sym parts.ok.0 ∙ c.in_ok-parts.ensures.as_many) c.in_ok-parts.ensures.each c.in_ok-blocks.ensures.made in
     record {
-      outline = outline_answered (g.C.Chains.map c.args.code.now) c.args.state.now.maps (flat_map blocks_in parts.items) (flat_map edges_in parts.items) are c.joined.result
-          (rw c.deref-2.ensures.value at c.joined.ensures.blocks) (rw c.deref-2.ensures.value at c.joined.ensures.edges);
+      outline = outline_answered (g.C.Chains.map c.args.code.now) c.args.state.now.maps (flat_map blocks_in parts.items) (flat_map edges_in parts.items) are c.put_together.result
+          (rw c.in_ok-blocks.ensures.blocks at c.put_together.ensures.blocks) (rw c.in_ok-blocks.ensures.edges at c.put_together.ensures.edges);
     }

@@ -1,0 +1,12 @@
+use Rattle.std.proofs.Common.{◌≡◌}
+use Rattle.std.specs.List.{All, flat_map}
+use Rattle.finaliser.specs.Inner.Parts.{AreMade, all_in, blocks_in, edges_in}
+use Rattle.finaliser.proofs.sharing.taken_apart.Given as goal
+
+-- all parts so far were made, and are taken apart
+abbrev pub invariant-loop-part : goal.invariant-loop-part
+invariant-loop-part l = record {
+  made : All AreMade l.yielded;
+  blocks : all_in l.blocks.items ≡ flat_map blocks_in l.yielded;
+  edges : all_in l.edges.items ≡ flat_map edges_in l.yielded;
+}
