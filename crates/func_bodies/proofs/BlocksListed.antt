@@ -28,7 +28,8 @@ use Rattle.cfg_model.proofs.Graphs.LeaderFacts.{target_leads}
 use Rattle.split_laws.proofs.SettledLaws.{starts_are_near_once}
 use Rattle.cfg_model.proofs.Program.Known.{reached_along}
 use Rattle.cfg_model.proofs.Graphs.Lists.{Contains-here}
-use Rattle.func_bodies.specs.Inner.Ways.{HasBlockAt, JoinsBlocks}
+use Rattle.func_bodies.specs.Inner.Blocks.{HasBlockAt}
+use Rattle.func_bodies.specs.Inner.Exits.{JoinsBlocks}
 use Rattle.cfg_model.specs.Program.Status.{Returns}
 
 successor_by : (map : InstructionMap) (k a : ℕ) (flow : Flow) → flow_at map k ≡ Some flow → Contains (successors_by (targets_at map k) flow) a → IsSuccessor map k a

@@ -1,5 +1,5 @@
 -- Which blocks an entry stands at the start of, found by going along both in order.
-use Rattle.std.proofs.Common.{◌≡◌, ◌↔◌, ℕ, Bool, false, ◌+◌, ◌<◌, ◌≤◌, List, length, get_or, IsTrue, sym, ap, ◌∙◌, subst, inl, inr, arith}
+use Rattle.std.proofs.Common.{◌≡◌, ◌↔◌, ℕ, Bool, false, ◌+◌, ◌<◌, ◌≤◌, List, length, get_or, IsTrue, sym, ◌∙◌, subst, inl, inr, arith}
 use Rattle.std.specs.List.{AllPairs, Contains}
 use Rattle.std.specs.List.Sorted.{IsStrictlyIncreasing}
 use Rattle.std.proofs.lemmas.Bool.{cases_eq, cases_lt}
@@ -8,8 +8,9 @@ use Rattle.std.proofs.lemmas.List.Elements.{Contains-get_or}
 use Rattle.std.proofs.lemmas.List.Kept.{AllPairs-from_increasing}
 use Rattle.cfg_model.specs.declared.graph.Block.{Block}
 use Rattle.cfg_model.specs.Graph.Graph.{BlockBefore}
-use Rattle.func_bodies.specs.Inner.Ways.{IsNumber}
+use Rattle.func_bodies.specs.Inner.Blocks.{IsNumber}
 use Rattle.func_bodies.specs.Inner.Entries.{AreEntered}
+use Rattle.func_bodies.proofs.Numbers.{later_start}
 
 -- the mark says whether an entry stands at the start of block j
 abbrev pub MarksBlock : List Block → List ℕ → ℕ → Bool → Type 0
@@ -59,8 +60,7 @@ pub still_before : (blocks : List Block) (entries : List ℕ) → AllPairs Block
     → (k j : ℕ) (e : Block) → k < next → i + 1 ≤ j → j < length blocks → get_or entries k 0 < (get_or blocks j e).start
 still_before blocks entries up i next d lt before k j e below past within =
     let low : get_or entries k 0 < (get_or blocks i d).start = before k below in
-    let same : (get_or blocks i d).start ≡ (get_or blocks i e).start = ap (λ (b : Block). b.start) (get_or_default blocks i d e lt) in
-    let rise : (get_or blocks i e).start < (get_or blocks j e).start = up i j e (omega arith) within in
+    let rise : (get_or blocks i d).start < (get_or blocks j e).start = later_start blocks i j d e up (omega arith) within in
     omega arith
 
 pub all_entered : (blocks : List Block) (entries : List ℕ) (marks : List Bool) (i : ℕ) → length marks ≡ i → length blocks ≤ i → i ≤ length blocks

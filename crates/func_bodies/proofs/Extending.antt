@@ -53,6 +53,15 @@ extends_one old new a P p one more = record {
   only = λ b h. elim (more.only b h) [ inl k ↦ inl k | inr k ↦ inr (subst P (sym k) p) ];
 }
 
+-- what it is made longer by, said in other words
+pub extends_same : (old new : List ℕ) (P Q : ℕ → Type 0) → ((a : ℕ) → P a → Q a) → ((a : ℕ) → Q a → P a) → Extends old new P → Extends old new Q
+extends_same old new P Q there back more = record {
+  rest = more.rest;
+  goes_on = more.goes_on;
+  has = λ a h. more.has a (back a h);
+  only = λ a h. elim (more.only a h) [ inl k ↦ inl k | inr p ↦ inr (there a p) ];
+}
+
 extends_then : (xs ys zs : List ℕ) (P Q R : ℕ → Type 0) → ((a : ℕ) → R a → P a ⊎ Q a) → ((a : ℕ) → P a → R a) → ((a : ℕ) → Q a → R a)
     → Extends xs ys P → Extends ys zs Q → Extends xs zs R
 extends_then xs ys zs P Q R split left right first second = record {

@@ -1,83 +1,102 @@
 -- The work list of a body: its blocks before a place are followed.
-use Rattle.std.proofs.Common.{◌≡◌, ◌↔◌, ℕ, ◌+◌, ◌<◌, ◌≤◌, List, [], ◌∷◌, length, get_or, Contains, below_more, refl, sym, ◌∙◌, subst, inl, inr, ⊎_elim, arith}
+use Rattle.std.proofs.Common.{◌≡◌, ◌↔◌, ℕ, Bool, true, false, ◌+◌, ◌<◌, ◌≤◌, List, [], ◌∷◌, length, get_or, IsTrue, below_more, sym, ◌∙◌, subst, inl, inr, ⊎_elim, arith}
+use Rattle.std.specs.List.{Contains}
+use Rattle.std.proofs.lemmas.Bool.{false≢true}
 use Rattle.std.proofs.lemmas.List.{get_or_default}
 use Rattle.std.proofs.lemmas.List.Elements.{Contains-get_or}
+use Rattle.cfg_model.specs.declared.graph.Edge.{Edge}
+use Rattle.cfg_model.specs.Graph.Function.{InBody}
 use Rattle.cfg_model.specs.Graph.Listing.{Extends}
-use Rattle.func_bodies.specs.declared.ways.Way.{Way}
-use Rattle.func_bodies.specs.Inner.Ways.{StaysTo, StaysAmong, InBodyBy}
 use Rattle.cfg_model.proofs.Graphs.Lists.{Contains-here, Contains-cons_cases, Contains-none}
+use Rattle.func_bodies.specs.declared.exits.Exits.{Exits}
+use Rattle.func_bodies.specs.Inner.Blocks.{IsNumber, HasBlockAt}
+use Rattle.func_bodies.specs.Inner.Exits.{AreExits, InBodyBy, IsEntered, JoinsBlocks, LeadsOn}
 use Rattle.func_bodies.proofs.Extending.{contains_onward, get_or_onward, length_onward}
+use Rattle.func_bodies.proofs.Numbers.{none, number_of_block, one_number, one_start}
 
--- a way from a leads to b, and stays in the function
-pub record Leads (ways : List Way) (entry a b : ℕ) : Type 0 where
-  pub way : Way
-  pub listed : Contains ways way
-  pub from : way.from ≡ a
-  pub to : StaysTo entry way b
-
-pub record IsBodySoFar (ways : List Way) (entry : ℕ) (order : List ℕ) (i : ℕ) : Type 0 where
-  pub first : Contains order entry
-  pub sound : (a : ℕ) → Contains order a → InBodyBy ways entry a
-  pub followed : (k : ℕ) → k < i → (b : ℕ) → Leads ways entry (get_or order k 0) b → Contains order b
+pub record IsBodySoFar (exits : Exits) (entry : ℕ) (order : List ℕ) (i : ℕ) : Type 0 where
+  pub first : (e : ℕ) → IsNumber exits.blocks.now e entry → Contains order e
+  pub sound : (j a : ℕ) → Contains order j → IsNumber exits.blocks.now j a → InBodyBy exits entry a
+  pub followed : (k : ℕ) → k < i → (b : ℕ) → LeadsOn exits entry (get_or order k 0) b → Contains order b
   pub within : i ≤ length order
 
-module _ (ways : List Way) (entry : ℕ) where
-  only_one : (a : ℕ) → Contains (entry ∷ []) a → entry ≡ a
-  only_one a h = ⊎_elim (λ same. same) (λ more. absurd (Contains-none a more)) (Contains-cons_cases entry [] a h)
+-- each edge of the list joins two blocks
+pub edge_joined : (exits : Exits) → AreExits exits → (edge : Edge) → Contains exits.edges.now edge → JoinsBlocks exits.blocks.now edge
+edge_joined exits are edge h = subst (JoinsBlocks exits.blocks.now) h.2 (are.joined h.0 edge h.1)
 
-  pub body_start : (order : List ℕ) → order ≡ entry ∷ [] → IsBodySoFar ways entry order 0
-  body_start order one = record {
-    first = subst (λ v. Contains v entry) (sym one) (Contains-here entry []);
-    sound = λ a h. subst (InBodyBy ways entry) (only_one a (subst (λ v. Contains v a) one h)) InBodyBy.entry;
+-- a block starts at each address of a body
+pub body_listed : {exits : Exits} {entry : ℕ} → AreExits exits → HasBlockAt exits.blocks.now entry → {a : ℕ} → InBodyBy exits entry a → HasBlockAt exits.blocks.now a
+body_listed are there InBody.entry = there
+body_listed {exits} are there (InBody.along {edge = edge} h listed stays) = (edge_joined exits are edge listed).enters
+
+-- the mark of a block says whether a function starts there
+module _ (exits : Exits) (are : AreExits exits) (number a : ℕ) (is : IsNumber exits.blocks.now number a) (d : Bool) where
+  mark_at : get_or exits.entered.items number false ≡ get_or exits.entered.items number d
+  mark_at =
+      let all : length exits.entered.items ≡ length exits.blocks.now = are.marks in
+      let within : number < length exits.blocks.now = is.within in
+      get_or_default exits.entered.items number false d (omega arith)
+
+  pub entered_there : get_or exits.entered.items number d ≡ true → IsEntered exits a
+  entered_there on = record { number = number; numbered = is; marked = mark_at ∙ on }
+
+  pub not_entered : get_or exits.entered.items number d ≡ false → ¬ IsEntered exits a
+  not_entered off entered =
+      let same : entered.number ≡ number = one_number exits.blocks.now none entered.number number a are.in_order entered.numbered is in
+      false≢true (sym off ∙ (sym mark_at ∙ subst (λ n. IsTrue (get_or exits.entered.items n false)) same entered.marked))
+
+module _ (exits : Exits) (entry : ℕ) (are : AreExits exits) where
+  pub body_start : (e : ℕ) (order : List ℕ) → IsNumber exits.blocks.now e entry → order ≡ e ∷ [] → IsBodySoFar exits entry order 0
+  body_start e order number one = record {
+    first = λ n is. subst (Contains order) (one_number exits.blocks.now none e n entry are.in_order number is) (subst (λ v. Contains v e) (sym one) (Contains-here e []));
+    sound = λ j a h is.
+        let same : e ≡ j = ⊎_elim (λ here. here) (λ more. absurd (Contains-none j more)) (Contains-cons_cases e [] j (subst (λ v. Contains v j) one h)) in
+        subst (InBodyBy exits entry) (one_start exits.blocks.now none j entry a (subst (λ n. IsNumber exits.blocks.now n entry) same number) is) InBody.entry;
     followed = λ k lt b h. absurd (omega arith);
     within = omega arith;
   }
 
-  along_to : (way : Way) (b : ℕ) → InBodyBy ways entry way.from → Contains ways way → StaysTo entry way b → InBodyBy ways entry b
-  along_to way b h listed to = subst (InBodyBy ways entry) (sym to.target) (InBodyBy.along h listed to.stays)
-
-  -- the blocks that the ways of one place lead to are added
-  pub body_more : (here : List Way) (order order' : List ℕ) (i a : ℕ)
-      → i < length order → a ≡ get_or order i 0
-      → ((way : Way) → Contains here way ↔ (Contains ways way × (way.from ≡ a)))
-      → IsBodySoFar ways entry order i
-      → Extends order order' (StaysAmong here entry)
-      → IsBodySoFar ways entry order' (i + 1)
-  body_more here order order' i a lt is side p f =
-      let listed : Contains order (get_or order i 0) = Contains-get_or order i 0 lt in
+  -- the blocks that the edges from one place lead to are added
+  pub body_more : (order order' : List ℕ) (i a : ℕ) → i < length order → a ≡ get_or order i 0 → IsBodySoFar exits entry order i
+      → Extends order order' (LeadsOn exits entry a) → IsBodySoFar exits entry order' (i + 1)
+  body_more order order' i a lt is p f =
+      let listed : Contains order a = subst (Contains order) (sym is) (Contains-get_or order i 0 lt) in
       let old_at : (k : ℕ) → k < length order → get_or order' k 0 ≡ get_or order k 0 =
       λ k below. get_or_onward order order' f.rest f.goes_on k 0 below in
       let kept : (b : ℕ) → Contains order b → Contains order' b = λ b h. contains_onward order order' f.rest f.goes_on b h in
       record {
-        first = kept entry p.first;
-        sound = λ b h.
-            elim (f.only b h) [
-              | inl k ↦ p.sound b k
-              | inr e ↦
-                  let at = (side e.0).0 e.1 in
-                  along_to e.0 b (subst (InBodyBy ways entry) (sym (at.1 ∙ is)) (p.sound (get_or order i 0) listed)) at.0 e.2
+        first = λ e number. kept e (p.first e number);
+        sound = λ j b h number.
+            elim (f.only j h) [
+              | inl k ↦ p.sound j b k number
+              | inr l ↦
+                  subst (InBodyBy exits entry) (one_start exits.blocks.now none j l.edge.to b l.leads.target number)
+                  (InBody.along (p.sound a l.edge.from listed l.leaves) l.listed l.leads.stays)
             ];
-        followed = below_more (λ k. (b : ℕ) → Leads ways entry (get_or order' k 0) b → Contains order' b) i
-            (λ k below b l. kept b (p.followed k below b (subst (λ (x : ℕ). Leads ways entry x b) (old_at k (omega (arith, p.within))) l)))
-            (λ b l. f.has b (l.way, (side l.way).1 (l.listed, l.from ∙ (old_at i lt ∙ sym is)), l.to));
+        followed = below_more (λ k. (b : ℕ) → LeadsOn exits entry (get_or order' k 0) b → Contains order' b) i
+            (λ k below b l. kept b (p.followed k below b (subst (λ (x : ℕ). LeadsOn exits entry x b) (old_at k (omega (arith, p.within))) l)))
+            (λ b l. f.has b (subst (λ (x : ℕ). LeadsOn exits entry x b) (old_at i lt ∙ sym is) l));
         within = let longer : length order ≤ length order' = length_onward order order' f.rest f.goes_on in omega arith;
       }
 
-  closed_body : (order : List ℕ) (i : ℕ) → length order ≤ i → IsBodySoFar ways entry order i
-      → (a b : ℕ) → Contains order a → Leads ways entry a b → Contains order b
+  closed_body : (order : List ℕ) (i : ℕ) → length order ≤ i → IsBodySoFar exits entry order i
+      → (a b : ℕ) → Contains order a → LeadsOn exits entry a b → Contains order b
   closed_body order i past p a b h l =
       let at : get_or order h.0 0 ≡ a = get_or_default order h.0 0 a h.1 ∙ h.2 in
       let lt : h.0 < length order = h.1 in
-      p.followed h.0 (omega arith) b (subst (λ (x : ℕ). Leads ways entry x b) (sym at) l)
+      p.followed h.0 (omega arith) b (subst (λ (x : ℕ). LeadsOn exits entry x b) (sym at) l)
 
 -- a list that has the entry and is closed has the whole body
-body_in_closed : {ways : List Way} {entry : ℕ} (order : List ℕ) → Contains order entry
-    → ((a b : ℕ) → Contains order a → Leads ways entry a b → Contains order b)
-    → {a : ℕ} → InBodyBy ways entry a → Contains order a
-body_in_closed order first closed InBodyBy.entry = first
-body_in_closed order first closed (InBodyBy.along {way = way} h listed stays) =
-    closed way.from way.to (body_in_closed order first closed h) (record { way = way; listed = listed; from = refl; to = record { stays = stays; target = refl } })
+body_in_closed : {exits : Exits} {entry : ℕ} (order : List ℕ) → AreExits exits → ((e : ℕ) → IsNumber exits.blocks.now e entry → Contains order e)
+    → ((a b : ℕ) → Contains order a → LeadsOn exits entry a b → Contains order b)
+    → {a : ℕ} → InBodyBy exits entry a → (j : ℕ) → IsNumber exits.blocks.now j a → Contains order j
+body_in_closed order are first closed InBody.entry j number = first j number
+body_in_closed {exits} order are first closed (InBody.along {edge = edge} h listed stays) j number =
+    let from = number_of_block exits.blocks.now edge.from (edge_joined exits are edge listed).leaves in
+    closed from.0 j (body_in_closed order are first closed h from.0 from.1)
+    (record { edge = edge; listed = listed; leaves = from.1; leads = record { stays = stays; target = number } })
 
-pub body_at_end : (ways : List Way) (entry : ℕ) (order : List ℕ) (i : ℕ) → length order ≤ i → IsBodySoFar ways entry order i
-    → (a : ℕ) → Contains order a ↔ InBodyBy ways entry a
-body_at_end ways entry order i past p a = (p.sound a, λ h. body_in_closed order p.first (closed_body ways entry order i past p) h)
+pub body_at_end : (exits : Exits) (entry : ℕ) → AreExits exits → (order : List ℕ) (i : ℕ) → length order ≤ i → IsBodySoFar exits entry order i
+    → (j a : ℕ) → IsNumber exits.blocks.now j a → Contains order j ↔ InBodyBy exits entry a
+body_at_end exits entry are order i past p j a number =
+    ((λ h. p.sound j a h number), (λ h. body_in_closed order are p.first (closed_body exits entry are order i past p) h j number))

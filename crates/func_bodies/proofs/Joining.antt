@@ -4,12 +4,11 @@ use Rattle.std.specs.Prelude.{IfOk}
 use Rattle.std.specs.List.{All, AllZip, flat_map}
 use Rattle.std.proofs.lemmas.List.Concat.{get_or-flat_map}
 use Rattle.std.proofs.lemmas.List.Folds.{length-flat_map-take}
-use Rattle.cfg_model.specs.declared.graph.Block.{Block}
 use Rattle.cfg_model.specs.declared.graph.Function.{Function}
 use Rattle.cfg_model.specs.Program.Instructions.{InstructionMap}
 use Rattle.cfg_model.specs.Builder.State.{BuilderState, IsStart}
-use Rattle.func_bodies.specs.declared.ways.Way.{Way}
-use Rattle.func_bodies.specs.Inner.Ways.{HasBlockAt}
+use Rattle.func_bodies.specs.declared.exits.Exits.{Exits}
+use Rattle.func_bodies.specs.Inner.Blocks.{HasBlockAt}
 use Rattle.func_bodies.specs.Inner.Plans.{Serves}
 use Rattle.func_bodies.specs.Inner.Parts.{Answered, AreMade, made_in}
 
@@ -26,16 +25,15 @@ all_part P parts i e lt all = λ j d below.
     let fits = length-flat_map-take entries_of parts i e lt in
     subst P (get_or-flat_map entries_of parts i j e d lt below) (all (length (flat_map entries_of (take i parts)) + j) d (omega (arith, fits)))
 
-pub serves_part : (map : InstructionMap) (state : BuilderState) (blocks : List Block) (ways : List Way) (entries : List ℕ) (parts : List Part)
-    → flat_map entries_of parts ≡ entries → Serves map state blocks ways entries → All (λ part. Serves map state blocks ways part.now) parts
-serves_part map state blocks ways entries parts whole serves = λ i d lt.
-    let serves_all : Serves map state blocks ways (flat_map entries_of parts) = rw whole serves in
+pub serves_part : (map : InstructionMap) (state : BuilderState) (exits : Exits) (entries : List ℕ) (parts : List Part)
+    → flat_map entries_of parts ≡ entries → Serves map state exits entries → All (λ part. Serves map state exits part.now) parts
+serves_part map state exits entries parts whole serves = λ i d lt.
+    let serves_all : Serves map state exits (flat_map entries_of parts) = rw whole serves in
     record {
       closed = serves.closed;
       starts = all_part (IsStart state.starts) parts i d lt serves_all.starts;
-      in_order = serves.in_order;
-      listed = all_part (HasBlockAt blocks) parts i d lt serves_all.listed;
-      within = serves.within;
+      edges = serves.edges;
+      listed = all_part (HasBlockAt exits.blocks.now) parts i d lt serves_all.listed;
     }
 
 zip_append : {A B : Type 0} (R : A → B → Type 0) (xs zs : List A) (ys ws : List B) → AllZip R xs ys → AllZip R zs ws → AllZip R (xs ++ zs) (ys ++ ws)

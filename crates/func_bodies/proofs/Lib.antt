@@ -7,10 +7,10 @@ pub mod Stamps
 pub mod Extending
 pub mod Following
 pub mod Sorting
-pub mod MakingWays
 pub mod Marks
 pub mod Marked
 pub mod Together
+pub mod TailPlaces
 pub mod BlocksListed
 pub mod Whole
 pub mod Parts

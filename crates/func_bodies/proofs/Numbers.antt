@@ -6,10 +6,10 @@ use Rattle.std.proofs.lemmas.List.{get_or_default, get_or-take, get_or-drop, len
 use Rattle.cfg_model.specs.declared.graph.Block.{Block}
 use Rattle.cfg_model.specs.declared.graph.EndKind.TheVariants as ends
 use Rattle.cfg_model.specs.Graph.Graph.{BlockBefore}
-use Rattle.func_bodies.specs.Inner.Ways.{HasBlockAt, IsNumber}
+use Rattle.func_bodies.specs.Inner.Blocks.{HasBlockAt, IsNumber}
 
 -- a block of any start, for reads of a list
-none : Block
+abbrev pub none : Block
 none = record { start = 0; end = 0; kind = ends.Fall }
 
 pub number_at : (blocks : List Block) (i : ℕ) (e : Block) → i < length blocks → IsNumber blocks i (get_or blocks i e).start
@@ -47,48 +47,30 @@ one_number blocks d i j a up one other =
 pub one_start : (blocks : List Block) (d : Block) (i a b : ℕ) → IsNumber blocks i a → IsNumber blocks i b → a ≡ b
 one_start blocks d i a b one other = sym (one.starts d) ∙ other.starts d
 
--- all blocks before a place start below what the block there starts at
-pub all_before : (blocks : List Block) (i a : ℕ) → AllPairs BlockBefore blocks → IsNumber blocks i a → (k : ℕ) (d : Block) → k < i → (get_or blocks k d).start < a
-all_before blocks i a up is k d lt =
-    let less : (get_or blocks k d).start < (get_or blocks i d).start = up k i d lt is.within in
-    let at : (get_or blocks i d).start ≡ a = is.starts d in
+-- so what starts less far lies before
+pub numbers_less : (blocks : List Block) (d : Block) (i j a b : ℕ) → AllPairs BlockBefore blocks → IsNumber blocks i a → IsNumber blocks j b → b < a → j < i
+numbers_less blocks d i j a b up one other less =
+    elim (cases_lt j i) [
+      | inl lt ↦ lt
+      | inr le ↦
+          elim (cases_eq i j) [
+            | inl e ↦ let same : a ≡ b = one_start blocks d j a b (subst (λ n. IsNumber blocks n a) e one) other in absurd (omega arith)
+            | inr ne ↦ let more : a < b = starts_rise blocks d i j a b up one other (omega arith) in absurd (omega arith)
+          ]
+    ]
+
+pub numbers_rise : (blocks : List Block) (d : Block) (i j a b : ℕ) → AllPairs BlockBefore blocks → IsNumber blocks i a → IsNumber blocks j b → a ≤ b → i ≤ j
+numbers_rise blocks d i j a b up one other le =
+    elim (cases_lt j i) [
+      | inl lt ↦ let less : b < a = starts_rise blocks d j i b a up other one lt in absurd (omega arith)
+      | inr ge ↦ ge
+    ]
+
+pub later_start : (blocks : List Block) (i j : ℕ) (d e : Block) → AllPairs BlockBefore blocks → i < j → j < length blocks → (get_or blocks i d).start < (get_or blocks j e).start
+later_start blocks i j d e up lt within =
+    let same : (get_or blocks i d).start ≡ (get_or blocks i e).start = ap (λ (b : Block). b.start) (get_or_default blocks i d e (omega arith)) in
+    let rise : (get_or blocks i e).start < (get_or blocks j e).start = up i j e lt within in
     omega arith
-
--- the place of a block is looked for from the front
-
-module _ (blocks : List Block) (i a : ℕ) where
-  at_or_behind : (number : (j : ℕ) × IsNumber blocks j a) → ((k : ℕ) (d : Block) → k < i → (get_or blocks k d).start < a) → i ≤ number.0
-  at_or_behind number before =
-      elim (cases_lt number.0 i) [
-        | inl lt ↦
-            let less : (get_or blocks number.0 none).start < a = before number.0 none lt in
-            let is : (get_or blocks number.0 none).start ≡ a = number.1.starts none in
-            absurd (omega arith)
-        | inr le ↦ le
-      ]
-
-  pub in_reach : HasBlockAt blocks a → ((k : ℕ) (d : Block) → k < i → (get_or blocks k d).start < a) → i < length blocks
-  in_reach h before =
-      let number = number_of_block blocks a h in
-      let le : i ≤ number.0 = at_or_behind number before in
-      let lt : number.0 < length blocks = number.1.within in
-      omega arith
-
-  pub stopped : AllPairs BlockBefore blocks → HasBlockAt blocks a → ((k : ℕ) (d : Block) → k < i → (get_or blocks k d).start < a)
-      → (e : Block) → a ≤ (get_or blocks i e).start → IsNumber blocks i a
-  stopped up h before e most =
-      let number = number_of_block blocks a h in
-      let le : i ≤ number.0 = at_or_behind number before in
-      elim (cases_eq i number.0) [
-        | inl same ↦ subst (λ (n : ℕ). IsNumber blocks n a) (sym same) number.1
-        | inr ne ↦
-            let less : (get_or blocks i e).start < (get_or blocks number.0 e).start = up i number.0 e (omega arith) number.1.within in
-            let is : (get_or blocks number.0 e).start ≡ a = number.1.starts e in
-            absurd (omega arith)
-      ]
-
-  pub number_here : (e : Block) → i < length blocks → (get_or blocks i e).start ≡ a → IsNumber blocks i a
-  number_here e lt is = subst (IsNumber blocks i) is (number_at blocks i e lt)
 
 -- A place in a stretch of the blocks is one of the blocks.
 pub stretch_number : (blocks : List Block) (first count i a : ℕ) → IsNumber (take count (drop first blocks)) i a → IsNumber blocks (first + i) a

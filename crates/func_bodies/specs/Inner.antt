@@ -1,7 +1,7 @@
 -- Words of private functions, which no public contract cites.
 pub mod Entries
-pub mod Ways
-pub mod Sides
+pub mod Blocks
+pub mod Exits
 pub mod Found
 pub mod Bodies
 pub mod Marking

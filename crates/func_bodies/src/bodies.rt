@@ -1,44 +1,42 @@
 //! The body of a function: the blocks that its entry leads to without a call and without entering
 //! another function.
 
-ghost use Rattle.std.specs.Prelude.{◌≡◌, ◌↔◌, ℕ, ◌<◌, ◌≤◌, All, AllPairs};
-ghost use Rattle.std.specs.Prelude.{Contains, IfOk, OnOk, IsTrue, length};
+ghost use Rattle.std.specs.Prelude.{◌≡◌, ◌↔◌, ℕ, ◌<◌, ◌≤◌, All, Contains, IfOk, OnOk, length};
 ghost use Rattle.std.specs.List.{AllZip};
-ghost use Rattle.cfg_model.specs.Graph.Listing.{Extends};
-ghost use Rattle.cfg_model.specs.Graph.Graph.{BlockBefore};
-ghost use Rattle.func_bodies.specs.Inner.Ways.{IsNumber, Stays, StaysTo, StaysAmong, InBodyBy};
+ghost use Rattle.cfg_model.specs.Graph.Listing.{Extends, Lists};
+ghost use Rattle.func_bodies.specs.Inner.Blocks.{HasBlockAt, IsNumber};
+ghost use Rattle.func_bodies.specs.Inner.Exits.{AreExits, InBodyBy, JoinsBlocks};
+ghost use Rattle.func_bodies.specs.Inner.Exits.{LeadsWithin, LeadsOn};
 ghost use Rattle.func_bodies.specs.Inner.Found.{AreStamped};
-ghost use Rattle.func_bodies.specs.Inner.Bodies.{IsBodyBy};
 
+use crate::blocks::{number_near, number_of};
+use crate::exits::Exits;
 use crate::found::Found;
 use crate::memory::Memory;
-use crate::ways::{Way, Ways};
-use cfg_model::Block;
+use cfg_model::{Block, Edge, EdgeKind};
 use std::alloc::Global;
 
-/// The starts of the blocks of the function that starts at block `entry`, rising. Its stamp is
-/// above all that were used before. The time is linear in the ways from these blocks, but for
-/// sorting the blocks.
+/// The starts of the blocks of the function of this entry, rising. Its stamp is above all that were
+/// used before. The time is that of a search for the entry, and linear in the edges from these
+/// blocks, but for the search of their targets and for sorting the blocks.
 pub(crate) fn body_of(
     alloc: Global,
-    blocks: &[Block],
-    ways: &Ways,
-    entry: usize,
+    exits: &Exits,
+    entry: u64,
     stamp: u32,
     found: &mut Found,
 ) -> Result<Vec<u64>, Memory>
-    requires blocks { AllPairs BlockBefore blocks.now }
-    requires within { All (λ way. way.to < length blocks.now) ways.now }
-    requires entry { entry < length blocks.now }
-    requires as_many { length found.old.stamps.items ≡ length blocks.now }
+    requires exits { AreExits exits.now }
+    requires entry { HasBlockAt exits.now.blocks.now entry }
+    requires as_many { length found.old.stamps.items ≡ length exits.now.blocks.now }
     requires new { All (λ s. s < stamp) found.old.stamps.items }
-    ensures body { IfOk result (λ v. IsBodyBy blocks.now ways.now entry v.items) }
-    ensures as_many { OnOk result (length found.new.stamps.items ≡ length blocks.now) }
+    ensures body { IfOk result (λ v. Lists ◌<◌ (InBodyBy exits.now entry) v.items) }
+    ensures as_many { OnOk result (length found.new.stamps.items ≡ length exits.now.blocks.now) }
     ensures most { OnOk result (All (λ s. s ≤ stamp) found.new.stamps.items) }
 {
-    find(ways, entry, stamp, found)?;
+    find(exits, entry, stamp, found)?;
     found.order.sort_unstable();
-    starts_of(alloc, blocks, found.order.as_slice())
+    starts_of(alloc, exits.blocks, found.order.as_slice())
 }
 
 /// Where these blocks start, in the same order.
@@ -53,59 +51,75 @@ fn starts_of(alloc: Global, blocks: &[Block], numbers: &[usize]) -> Result<Vec<u
     Ok(starts)
 }
 
-/// Finds the blocks of the function that starts at block `entry`.
-fn find(ways: &Ways, entry: usize, stamp: u32, found: &mut Found) -> Result<(), Memory>
-    requires within { All (λ way. way.to < length found.old.stamps.items) ways.now }
-    requires entry { entry < length found.old.stamps.items }
+/// Finds the blocks of the function of this entry.
+fn find(exits: &Exits, entry: u64, stamp: u32, found: &mut Found) -> Result<(), Memory>
+    requires exits { AreExits exits.now }
+    requires entry { HasBlockAt exits.now.blocks.now entry }
+    requires as_many { length found.old.stamps.items ≡ length exits.now.blocks.now }
     requires new { All (λ s. s < stamp) found.old.stamps.items }
     ensures stamped { OnOk result (AreStamped stamp found.new.order.items found.new.stamps.items) }
-    ensures exact { OnOk result ((i : ℕ) → Contains found.new.order.items i
-        ↔ InBodyBy ways.now entry i) }
-    ensures as_many { OnOk result (length found.new.stamps.items ≡ length found.old.stamps.items) }
+    ensures exact { OnOk result ((i a : ℕ) → IsNumber exits.now.blocks.now i a
+        → Contains found.new.order.items i ↔ InBodyBy exits.now entry a) }
+    ensures as_many { OnOk result (length found.new.stamps.items ≡ length exits.now.blocks.now) }
 {
-    found.begin(stamp, entry)?;
+    found.begin(stamp, number_of(exits.blocks, entry))?;
     let mut i = 0;
     while i < found.order.len() {
-        let from_here = ways.from_block(found.order[i]);
-        add_targets(from_here, entry, stamp, found)?;
+        let from = found.order[i];
+        add_targets(exits, entry, from, stamp, found)?;
         i += 1;
     }
     Ok(())
 }
 
-/// Adds where these ways lead to, if they stay in the function.
-fn add_targets(ways: &[Way], entry: usize, stamp: u32, found: &mut Found) -> Result<(), Memory>
-    requires within { All (λ way. way.to < length found.old.stamps.items) ways.now }
+/// Adds where the edges from block `from` lead to that stay in the function of this entry.
+fn add_targets(
+    exits: &Exits,
+    entry: u64,
+    from: usize,
+    stamp: u32,
+    found: &mut Found,
+) -> Result<(), Memory>
+    requires exits { AreExits exits.now }
+    requires within { from < length exits.now.blocks.now }
+    requires as_many { length found.old.stamps.items ≡ length exits.now.blocks.now }
     requires stamped { AreStamped stamp found.old.order.items found.old.stamps.items }
     ensures stamped { OnOk result (AreStamped stamp found.new.order.items found.new.stamps.items) }
     ensures adds { OnOk result
-        (Extends found.old.order.items found.new.order.items (StaysAmong ways.now entry)) }
-    ensures as_many { OnOk result (length found.new.stamps.items ≡ length found.old.stamps.items) }
+        (Extends found.old.order.items found.new.order.items (LeadsOn exits.now entry from)) }
+    ensures as_many { OnOk result (length found.new.stamps.items ≡ length exits.now.blocks.now) }
 {
-    for way in ways {
-        add_target(*way, entry, stamp, found)?;
+    for edge in exits.from_block(from) {
+        add_target(exits, entry, from, *edge, stamp, found)?;
     }
     Ok(())
 }
 
-/// Adds where this way leads to, if it stays in the function.
-fn add_target(way: Way, entry: usize, stamp: u32, found: &mut Found) -> Result<(), Memory>
-    requires within { way.to < length found.old.stamps.items }
+/// Adds where this edge from block `from` leads to, if it stays in the function of this entry.
+fn add_target(
+    exits: &Exits,
+    entry: u64,
+    from: usize,
+    edge: Edge,
+    stamp: u32,
+    found: &mut Found,
+) -> Result<(), Memory>
+    requires exits { AreExits exits.now }
+    requires within { from < length exits.now.blocks.now }
+    requires joins { JoinsBlocks exits.now.blocks.now edge }
+    requires as_many { length found.old.stamps.items ≡ length exits.now.blocks.now }
     requires stamped { AreStamped stamp found.old.order.items found.old.stamps.items }
     ensures stamped { OnOk result (AreStamped stamp found.new.order.items found.new.stamps.items) }
     ensures adds { OnOk result
-        (Extends found.old.order.items found.new.order.items (StaysTo entry way)) }
-    ensures as_many { length found.new.stamps.items ≡ length found.old.stamps.items }
+        (Extends found.old.order.items found.new.order.items (LeadsWithin exits.now entry edge)) }
+    ensures as_many { length found.new.stamps.items ≡ length exits.now.blocks.now }
 {
-    if stays(way, entry) {
-        found.add(stamp, way.to as usize)?;
+    if edge.kind == EdgeKind::Call {
+        return Ok(());
+    }
+    let to = number_near(exits.blocks, from, edge.to);
+    if edge.to == entry || !exits.entered[to] {
+        found.add(stamp, to)?;
     }
     Ok(())
-}
-
-/// Whether this way stays in the function that starts at block `entry`.
-fn stays(way: Way, entry: usize) -> bool
-    ensures { IsTrue result ↔ Stays entry way }
-{
-    way.to as usize == entry || !way.enters
 }

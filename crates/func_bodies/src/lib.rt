@@ -4,23 +4,27 @@
 //! - [`listing`]: the functions, in the order of their entries.
 //! - [`sharing`]: the same, made by several threads.
 //! - [`tails`]: tail calls among the edges.
+//! - [`tail_sharing`]: the same, found by several threads.
 //! - [`memory`]: the one free answer, want of memory.
 #![tactic(auto)]
 
+mod blocks;
 mod bodies;
 mod entries;
+mod exits;
 mod found;
 pub mod listing;
 mod lists;
 pub mod memory;
 mod plan_sharing;
 pub mod sharing;
+pub mod tail_sharing;
 pub mod tails;
 #[cfg(test)]
 mod tests;
-mod ways;
 
 pub use listing::functions;
 pub use memory::Memory;
 pub use sharing::{MOST_WORKERS, functions_by};
+pub use tail_sharing::mark_tails_by;
 pub use tails::mark_tails;

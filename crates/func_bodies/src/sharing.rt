@@ -12,11 +12,11 @@ ghost use Rattle.func_bodies.specs.Listed.{AreOrdered, HaveEachEntry};
 ghost use Rattle.func_bodies.specs.Inner.Bodies.{IsFunctionBy};
 ghost use Rattle.func_bodies.specs.Inner.Plans.{Serves};
 
-use crate::listing::{functions, functions_at};
+use crate::exits::Exits;
+use crate::listing::{Plan, functions, functions_at};
 use crate::lists::joined;
 use crate::memory::Memory;
 use crate::plan_sharing::plan_by;
-use crate::ways::Ways;
 use cfg_model::{Block, Chains, Function, Functions};
 use core_state::State;
 use fan_out::map_indices;
@@ -28,15 +28,15 @@ use std::thread::Threads;
 pub const MOST_WORKERS: u32 = 64;
 
 /// The answer of [`functions`], made by so many workers, from 1 to 64. With one worker no thread is
-/// started. [`Memory`] where memory ran out. [`Memory`] too where one part has 2^32 - 1 functions or
-/// more, which alone take more than 160 GiB, or where there are 2^32 blocks or more, or as many
-/// edges but calls, which alone take 96 GiB.
+/// started. [`Memory`] where memory ran out. [`Memory`] too where one part has 2^32 - 1 functions
+/// or more, which alone take more than 160 GiB, or where there are 2^32 edges or more, which alone
+/// take 96 GiB.
 ///
-/// The edges are cut into one part for each worker, which lists the targets of calls in it, and
-/// then makes its ways between blocks. One thread puts together what they made, merges the entries,
-/// and goes over the blocks. The entries are cut into one part for each worker too, with about as
-/// many blocks between the first and the last one of each. A worker needs four bytes for each block
-/// of the program, besides its functions.
+/// The edges are cut into one part for each worker, which lists the targets of calls in it, while
+/// one more thread finds the first edge from each block. One thread merges the entries, and marks
+/// the blocks where they stand. The entries are cut into one part for each worker too, with about
+/// as many blocks between the first and the last one of each. A worker needs four bytes for each
+/// block of the program, besides its functions and five bytes for each block that all share.
 pub fn functions_by<R: Threads + Sync, C: Chains>(
     rt: &R,
     alloc: Global,
@@ -59,15 +59,15 @@ pub fn functions_by<R: Threads + Sync, C: Chains>(
     }
     let blocks = outline.blocks.as_slice();
     let workers = workers as usize;
-    let plan = plan_by(rt, alloc, code, seeds, state, outline, workers)?;
-    let parts = parts_of(alloc, &plan.entries, blocks, workers)?;
-    let lists = made_by_part(rt, alloc, code, state, blocks, &plan.ways, &parts)?;
-    let functions = joined(alloc, lists, plan.entries.len())?;
+    let Plan { entries, exits } = plan_by(rt, alloc, code, seeds, state, outline, workers)?;
+    let parts = parts_of(alloc, &entries, blocks, workers)?;
+    let lists = made_by_part(rt, alloc, code, state, &exits, &parts)?;
+    let functions = joined(alloc, lists, entries.len())?;
     Ok(Functions::from_vec(functions))
 }
 
-/// The entries in parts that lie side by side, one for each worker at most, but for a part of those
-/// that lie behind all blocks.
+/// The entries in parts that lie side by side, one for each worker at most, and one more where some
+/// lie behind all blocks.
 fn parts_of<'a>(
     alloc: Global,
     entries: &'a [u64],
@@ -84,7 +84,9 @@ fn parts_of<'a>(
         parts.push(&rest[..count])?;
         rest = &rest[count..];
     }
-    parts.push(rest)?;
+    if !rest.is_empty() {
+        parts.push(rest)?;
+    }
     Ok(parts)
 }
 
@@ -104,24 +106,23 @@ fn made_by_part<R: Threads + Sync, C: Chains>(
     alloc: Global,
     code: &C,
     state: &State,
-    blocks: &[Block],
-    ways: &Ways,
+    exits: &Exits,
     parts: &[&[u64]],
 ) -> Result<Vec<Result<Vec<Function>, Memory>>, Memory>
     requires { All
-        (λ part. Serves (C.map code.now) state.now.maps blocks.now ways.now part.now) parts.now }
+        (λ part. Serves (C.map code.now) state.now.maps exits.now part.now) parts.now }
     ensures as_many { IfOk result (λ v. vec_len v ≡ length parts.now) }
     ensures each { IfOk result (λ v. (i : ℕ) (d : _) (e : _) → i < length parts.now
         → IfOk (slice_index_or v.items i e) (λ w.
-        AllZip (IsFunctionBy (C.map code.now) blocks.now ways.now)
+        AllZip (IsFunctionBy (C.map code.now) exits.now)
         (slice_index_or parts.now i d).now w.items)) }
 {
     let make = |i: usize| -> Result<Vec<Function>, Memory>
         requires { IsSync C.row × i < length parts.now
-            × All (λ part. Serves (C.map code.now) state.now.maps blocks.now ways.now part.now) parts.now }
+            × All (λ part. Serves (C.map code.now) state.now.maps exits.now part.now) parts.now }
         ensures { IfOk result
-            (λ v. (d : _) → AllZip (IsFunctionBy (C.map code.entry.now) blocks.entry.now ways.entry.now)
+            (λ v. (d : _) → AllZip (IsFunctionBy (C.map code.entry.now) exits.entry.now)
             (slice_index_or parts.entry.now i d).now v.items) }
-    { functions_at(alloc, code, state, blocks, ways, parts[i]) };
+    { functions_at(alloc, code, state, exits, parts[i]) };
     Ok(map_indices(rt, alloc, parts.len(), &make)?)
 }

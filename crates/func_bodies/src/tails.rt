@@ -45,7 +45,7 @@ fn mark_tail(functions: &[Function], edges: &mut Edges, i: usize)
 }
 
 /// Whether this edge is a tail call.
-fn is_tail(functions: &[Function], edge: Edge) -> bool
+pub(crate) fn is_tail(functions: &[Function], edge: Edge) -> bool
     requires { AreOrdered functions.now }
     ensures { IsTrue result ↔ IsTailAmong functions.now edge }
 {

@@ -1,6 +1,6 @@
 //! Worked programs, from the closed states that one thread builds.
 
-use crate::{functions, functions_by, mark_tails};
+use crate::{functions, functions_by, mark_tails, mark_tails_by};
 use alone::build_alone;
 use cfg_model::{Edge, EdgeKind, Edges, Function, Functions};
 use finaliser::blocks_and_edges;
@@ -109,6 +109,30 @@ fn more_workers(rt: HostRuntime) -> Result<(), Fail> {
                 assert_eq!(rt; one.returns, other.returns);
                 assert_eq!(rt; one.body.as_slice(), other.body.as_slice());
             }
+        }
+    }
+    Ok(())
+}
+
+/// The same edges.
+fn copied(alloc: Global, edges: &Edges) -> Result<Edges, Fail> {
+    Ok(Edges::from_vec(Vec::from_slice(alloc, edges.as_slice())?))
+}
+
+/// Two, three, four and 64 workers mark the tail calls that one does.
+#[test]
+fn more_workers_for_tails(rt: HostRuntime) -> Result<(), Fail> {
+    let alloc = rt.alloc();
+    for code in [row_8(alloc), row_10(alloc), row_17(alloc)] {
+        let state = build_alone(alloc, &code, code.seeds())?;
+        let outline = blocks_and_edges(alloc, &code, &state)?;
+        let functions = functions(alloc, &code, code.seeds(), &state, &outline)?;
+        let mut alone = copied(alloc, &outline.edges)?;
+        mark_tails(&functions, &mut alone);
+        for workers in [1, 2, 3, 4, 64] {
+            let mut edges = copied(alloc, &outline.edges)?;
+            mark_tails_by(&rt, alloc, &functions, &mut edges, workers)?;
+            assert_eq!(rt; edges.as_slice(), alone.as_slice());
         }
     }
     Ok(())

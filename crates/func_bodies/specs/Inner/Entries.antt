@@ -5,7 +5,7 @@ use Rattle.std.specs.List.Sorted.{IsStrictlyIncreasing}
 use Rattle.cfg_model.specs.declared.graph.Block.{Block}
 use Rattle.cfg_model.specs.declared.graph.Edge.{Edge}
 use Rattle.cfg_model.specs.declared.graph.EdgeKind.TheVariants as kinds
-use Rattle.func_bodies.specs.Inner.Ways.{IsNumber}
+use Rattle.func_bodies.specs.Inner.Blocks.{IsNumber}
 
 -- The edge is a call of this address.
 pub record CallsTo (edge : Edge) (a : ℕ) : Type 0 where

@@ -2,13 +2,8 @@
 use Rattle.std.specs.Prelude.{ℕ, ◌*◌, ◌<◌, ◌≤◌, List, [], length, slice_index_or}
 use Rattle.std.specs.Prelude.{Vec, Result, Ok, Err, IsOk, IfOk}
 use Rattle.std.specs.Fork.{slice_chunk}
-use Rattle.std.specs.List.Sorted.{IsNonDecreasingBy}
 use Rattle.std.specs.declared.alloc.Global.{Global}
-use Rattle.cfg_model.specs.declared.graph.Block.{Block}
-use Rattle.cfg_model.specs.declared.graph.Edge.{Edge}
 use Rattle.func_bodies.specs.declared.memory.Memory.{Memory}
-use Rattle.func_bodies.specs.declared.ways.Way.{Way}
-use Rattle.func_bodies.specs.Inner.Ways.{AreWaysOf}
 
 -- What a worker answers of its part.
 abbrev pub Answered : Type 0 → Type 0
@@ -29,10 +24,3 @@ pub record AnswerChunks {X Y : Type 0} (P : List X → List Y → Type 0) (size 
   pub all : length xs ≤ length answers * size
   pub each : (n : ℕ) (d : Answered Y) → n < length answers
       → IfOk (slice_index_or answers n d) (λ v. P (slice_chunk xs size n) v.items)
-
--- These are the ways of these edges, in the order of the blocks that they leave.
-pub record AreRisingWaysOf
-    (blocks : List Block) (entries : List ℕ) (edges : List Edge) (ways : List Way)
-    : Type 0 where
-  pub exact : AreWaysOf blocks entries edges ways
-  pub rising : IsNonDecreasingBy (λ way. way.from) ways

@@ -2,7 +2,6 @@ use Rattle.std.proofs.Common.{◌≡◌, length, get_or, subst, arith}
 use Rattle.std.specs.List.{Contains}
 use Rattle.std.proofs.lemmas.List.Elements.{Contains-get_or}
 use Rattle.std.proofs.lemmas.List.Sorted.{Contains-permutation, IsNonDecreasingBy-from_sort, IsPermutation-sym}
-use Rattle.cfg_model.specs.declared.graph.EndKind.TheVariants as ends
 use Rattle.func_bodies.proofs.Sorting.{body_of_numbers, starts_weaker}
 use Rattle.func_bodies.proofs.bodies.body_of.Goals as goal
 
@@ -13,8 +12,7 @@ starts_of-requires c = λ k d lt.
     let here : Contains sorted (get_or c.as_slice.result.now k d) =
     subst (λ l. Contains l (get_or c.as_slice.result.now k d)) c.as_slice.ensures.value (Contains-get_or c.as_slice.result.now k d lt) in
     let low = c.in_ok-find.ensures.stamped.known _ (Contains-permutation sorted order _ (IsPermutation-sym order sorted c.sort_unstable.ensures.permutation) here) in
-    let same : length c.find.new.found.stamps.items ≡ length c.args.found.now.stamps.items = c.in_ok-find.ensures.as_many in
-    let all : length c.args.found.now.stamps.items ≡ length c.args.blocks.now = c.requires.as_many in
+    let same : length c.find.new.found.stamps.items ≡ length c.args.exits.now.blocks.now = c.in_ok-find.ensures.as_many in
     omega arith
 
 pub returns-clause-body : goal.returns-clause-body
@@ -22,7 +20,7 @@ returns-clause-body c =
     let order = c.find.new.found.order.items in
     let sorted = c.sort_unstable.new.self.items in
     starts_weaker c.starts_of.result
-    (λ v zip. body_of_numbers c.args.blocks.now (record { start = 0; end = 0; kind = ends.Fall }) c.args.ways.now c.args.entry order sorted v.items
-    c.requires.blocks c.in_ok-find.ensures.stamped.apart c.sort_unstable.ensures.permutation
+    (λ v zip. body_of_numbers c.args.exits.now c.requires.exits c.args.entry c.requires.entry order sorted v.items
+    c.in_ok-find.ensures.stamped.apart c.sort_unstable.ensures.permutation
     (IsNonDecreasingBy-from_sort (λ x. x) sorted c.sort_unstable.ensures.sorted) c.in_ok-find.ensures.exact zip)
     (rw c.as_slice.ensures.value at c.starts_of.ensures)

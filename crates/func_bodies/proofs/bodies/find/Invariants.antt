@@ -6,8 +6,8 @@ use Rattle.func_bodies.proofs.bodies.find.Given as goal
 abbrev pub invariant-loop-i : goal.invariant-loop-i
 invariant-loop-i l = record {
   stamped : AreStamped l.stamp l.found.order.items l.found.stamps.items;
-  so_far : IsBodySoFar l.ways l.entry l.found.order.items l.i;
-  as_many : length l.found.stamps.items ≡ length l.fn.found.stamps.items;
+  so_far : IsBodySoFar l.exits l.entry l.found.order.items l.i;
+  as_many : length l.found.stamps.items ≡ length l.exits.blocks.now;
 }
 
 abbrev pub decreases-loop-i : goal.decreases-loop-i

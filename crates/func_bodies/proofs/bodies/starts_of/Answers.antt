@@ -1,6 +1,6 @@
 use Rattle.std.proofs.Common.{get_or}
 use Rattle.std.proofs.lemmas.Option.{slice_get-get_or}
-use Rattle.func_bodies.specs.Inner.Ways.{IsNumber}
+use Rattle.func_bodies.specs.Inner.Blocks.{IsNumber}
 use Rattle.func_bodies.proofs.Numbers.{number_at}
 use Rattle.cfg_model.proofs.Graphs.Lists.{zip_more}
 use Rattle.func_bodies.proofs.bodies.starts_of.Goals as goal

@@ -1,6 +1,6 @@
 use Rattle.std.proofs.Common.{take}
 use Rattle.std.specs.List.{AllZip}
-use Rattle.func_bodies.specs.Inner.Ways.{IsNumber}
+use Rattle.func_bodies.specs.Inner.Blocks.{IsNumber}
 use Rattle.func_bodies.proofs.bodies.starts_of.Given as goal
 
 abbrev pub invariant-loop-i : goal.invariant-loop-i

@@ -8,8 +8,8 @@ use Rattle.func_bodies.proofs.listing.functions_at.Goals as goal
 
 pub loop-i-init : goal.loop-i-init
 loop-i-init g c = record {
-  as_many = ap length c.in_ok-found.ensures ∙ length-replicate (length c.args.blocks.now) 0;
-  most = none_stamped c.in_ok-found.found.stamps.items (length c.args.blocks.now) c.in_ok-found.ensures;
+  as_many = ap length c.in_ok-found.ensures ∙ length-replicate (length c.args.exits.now.blocks.now) 0;
+  most = none_stamped c.in_ok-found.found.stamps.items (length c.args.exits.now.blocks.now) c.in_ok-found.ensures;
   each = rw c.in_ok-functions.ensures.items tt;
 }
 
@@ -21,13 +21,11 @@ loop-i-preserved g c =
       as_many = c.in_ok-body.ensures.as_many;
       most = c.in_ok-body.ensures.most;
       each =
-          zip_more (IsFunctionBy (g.C.Chains.map c.args.code.now) c.args.blocks.now c.args.ways.now) entries i (get_or entries i 0) _ _ _
+          zip_more (IsFunctionBy (g.C.Chains.map c.args.code.now) c.args.exits.now) entries i (get_or entries i 0) _ _ _
           (slice_get-get_or entries i 0 c.loop-i-test.true) c.loop-i.invariant.each c.in_ok-push.ensures.items
           (record {
             starts = refl;
             status = c.may_return-returns.ensures.status;
-            number = c.number_of-number.result;
-            numbered = c.number_of-number.ensures;
             body = rw c.from_vec.ensures c.in_ok-body.ensures.body;
           });
     }

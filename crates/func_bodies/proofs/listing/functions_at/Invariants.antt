@@ -5,7 +5,7 @@ use Rattle.func_bodies.proofs.listing.functions_at.Given as goal
 
 abbrev pub invariant-loop-i : goal.invariant-loop-i
 invariant-loop-i g l = record {
-  as_many : length l.found.stamps.items ≡ length l.blocks;
+  as_many : length l.found.stamps.items ≡ length l.exits.blocks.now;
   most : All (λ s. s ≤ l.i) l.found.stamps.items;
-  each : AllZip (IsFunctionBy (g.C.Chains.map l.code) l.blocks l.ways) (take l.i l.entries) l.functions.items;
+  each : AllZip (IsFunctionBy (g.C.Chains.map l.code) l.exits) (take l.i l.entries) l.functions.items;
 }
