@@ -28,27 +28,46 @@ stays_at id part old new at stays = record {
 }
 
 -- A seat forgets nothing.
-pub still_minded : (map : InstructionMap) (seeds : List ℕ) (starts terminators : List ℕ) (old new : SeatState)
-    → AreMinded map seeds starts terminators old → Remembers (Knows map old) (Knows map new)
-    → AreMinded map seeds starts terminators new
-still_minded map seeds starts terminators old new minded remembers = record {
+pub still_minded : (map : InstructionMap) (seeds : List ℕ) (starts terminators returning : List ℕ) (old new : SeatState)
+    → AreMinded map seeds starts terminators returning old → Remembers (Knows map old) (Knows map new)
+    → AreMinded map seeds starts terminators returning new
+still_minded map seeds starts terminators returning old new minded remembers = record {
   started = λ a at. let known = minded.started a at in (remembers (Fact.Start a) known.0, known.1);
   entered = λ a at. let known = minded.entered a at in (remembers (Fact.Terminator a) known.0, known.1);
+  returned = λ a at. let known = minded.returned a at in (remembers (Fact.Returned a) known.0, known.1);
 }
 
--- One more start, or terminator, of which the seat knows it.
-pub start_minded : (map : InstructionMap) (seeds : List ℕ) (starts more terminators : List ℕ) (s : ℕ) (seat : SeatState)
-    → AreMinded map seeds starts terminators seat → ((b : ℕ) → Minds more b → Minds starts b ⊎ (b ≡ s))
-    → KnowsSoundly map seeds seat (Fact.Start s) → AreMinded map seeds more terminators seat
-start_minded map seeds starts more terminators s seat minded only known = record {
-  started = λ a at. ⊎_elim (minded.started a) (λ same. subst (λ (b : ℕ). KnowsSoundly map seeds seat (Fact.Start b)) (sym same) known) (only a at);
+-- One more address, of which the seat knows what it knows of those that are kept.
+one_more : (map : InstructionMap) (seeds : List ℕ) (fact : ℕ → Fact) (kept more : List ℕ) (k : ℕ) (seat : SeatState)
+    → ((a : ℕ) → Minds kept a → KnowsSoundly map seeds seat (fact a)) → ((b : ℕ) → Minds more b → Minds kept b ⊎ (b ≡ k))
+    → KnowsSoundly map seeds seat (fact k) → (a : ℕ) → Minds more a → KnowsSoundly map seeds seat (fact a)
+one_more map seeds fact kept more k seat minded only known a at =
+    ⊎_elim (minded a) (λ same. subst (λ (b : ℕ). KnowsSoundly map seeds seat (fact b)) (sym same) known) (only a at)
+
+-- One more start, terminator, or returning one.
+pub start_minded : (map : InstructionMap) (seeds : List ℕ) (starts more terminators returning : List ℕ) (s : ℕ) (seat : SeatState)
+    → AreMinded map seeds starts terminators returning seat → ((b : ℕ) → Minds more b → Minds starts b ⊎ (b ≡ s))
+    → KnowsSoundly map seeds seat (Fact.Start s) → AreMinded map seeds more terminators returning seat
+start_minded map seeds starts more terminators returning s seat minded only known = record {
+  started = one_more map seeds Fact.Start starts more s seat minded.started only known;
   entered = minded.entered;
+  returned = minded.returned;
 }
 
-pub terminator_minded : (map : InstructionMap) (seeds : List ℕ) (starts terminators more : List ℕ) (k : ℕ) (seat : SeatState)
-    → AreMinded map seeds starts terminators seat → ((b : ℕ) → Minds more b → Minds terminators b ⊎ (b ≡ k))
-    → KnowsSoundly map seeds seat (Fact.Terminator k) → AreMinded map seeds starts more seat
-terminator_minded map seeds starts terminators more k seat minded only known = record {
+pub terminator_minded : (map : InstructionMap) (seeds : List ℕ) (starts terminators more returning : List ℕ) (k : ℕ) (seat : SeatState)
+    → AreMinded map seeds starts terminators returning seat → ((b : ℕ) → Minds more b → Minds terminators b ⊎ (b ≡ k))
+    → KnowsSoundly map seeds seat (Fact.Terminator k) → AreMinded map seeds starts more returning seat
+terminator_minded map seeds starts terminators more returning k seat minded only known = record {
   started = minded.started;
-  entered = λ a at. ⊎_elim (minded.entered a) (λ same. subst (λ (b : ℕ). KnowsSoundly map seeds seat (Fact.Terminator b)) (sym same) known) (only a at);
+  entered = one_more map seeds Fact.Terminator terminators more k seat minded.entered only known;
+  returned = minded.returned;
+}
+
+pub returning_minded : (map : InstructionMap) (seeds : List ℕ) (starts terminators returning more : List ℕ) (k : ℕ) (seat : SeatState)
+    → AreMinded map seeds starts terminators returning seat → ((b : ℕ) → Minds more b → Minds returning b ⊎ (b ≡ k))
+    → KnowsSoundly map seeds seat (Fact.Returned k) → AreMinded map seeds starts terminators more seat
+returning_minded map seeds starts terminators returning more k seat minded only known = record {
+  started = minded.started;
+  entered = minded.entered;
+  returned = one_more map seeds Fact.Returned returning more k seat minded.returned only known;
 }

@@ -31,6 +31,7 @@ pub(crate) struct Desk<'a, J: Job, S: Station> {
     followed: Known,
     starts: Known,
     terminators: Known,
+    returned: Known,
     tally: Tally,
     station: PhantomData<S>,
 }
@@ -49,7 +50,7 @@ impl<'a, J: Job, S: Station> Model for Desk<'a, J, S> {
 
     ghost invariant = { λ d. (d.board.now ≡ S.board) × IsSeatAt S.board S.share d.seat
         × IsHandAt S.deques S.number d.hand
-        × AreMinded J.map J.seeds d.starts d.terminators d.seat };
+        × AreMinded J.map J.seeds d.starts d.terminators d.returned d.seat };
 }
 
 impl<'a, J: Job, S: Station> Desk<'a, J, S> {
@@ -68,6 +69,7 @@ impl<'a, J: Job, S: Station> Desk<'a, J, S> {
             followed: Known::new(alloc),
             starts: Known::new(alloc),
             terminators: Known::new(alloc),
+            returned: Known::new(alloc),
             tally: Tally::default(),
             station: PhantomData,
         }
@@ -200,8 +202,13 @@ impl<J: Job, S: Station> Place<J> for Desk<'_, J, S> {
     }
 
     fn returned(&mut self, k: u64) -> Result<bool, PlaceEnd> {
+        if self.returned.has(k) {
+            return Ok(false);
+        }
         add_one(&mut self.tally.tries);
-        self.seat.returned(self.board, k)
+        let new = self.seat.returned(self.board, k)?;
+        self.returned.note(k);
+        Ok(new)
     }
 
     fn told(&mut self, k: u64, w: Waiter) -> Result<(), PlaceEnd> {

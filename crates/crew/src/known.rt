@@ -14,8 +14,9 @@ const NONE: u64 = u64::MAX;
 
 /// Addresses of which a worker knows some one thing: the last one for each place that addresses are
 /// spread over. What is asked of a place that threads share costs a turn of a shard, and most of
-/// what a worker asks it knew a moment ago: that the start which it found is one, and that the
-/// terminator of many starts of one function is entered.
+/// what a worker asks it knew a moment ago: that the start which it found is one, that the
+/// terminator of many starts of one function is entered, and that one which waits at several others
+/// returns.
 #[derive(Drop)]
 pub(crate) struct Known {
     /// Empty where memory for it was missing: then none is kept in mind.

@@ -8,5 +8,6 @@ invariant_of-result g c = (
   record {
     started = λ a at. absurd (c.new-3.ensures a at);
     entered = λ a at. absurd (c.new-4.ensures a at);
+    returned = λ a at. absurd (c.new-5.ensures a at);
   },
 )

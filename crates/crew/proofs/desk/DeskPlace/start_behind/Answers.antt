@@ -11,8 +11,8 @@ invariant_of-self-in-Some g c =
       c.self.invariant.0,
       stays_at g.S.Station.board g.S.Station.share c.self.inside.seat c.start_behind.new.self c.self.invariant.1 c.start_behind.ensures.stays,
       c.self.invariant.2,
-      start_minded g.J.Job.map g.J.Job.seeds c.self.inside.starts c.note.new.self c.self.inside.terminators c.in-Some.t c.start_behind.new.self
-          (still_minded g.J.Job.map g.J.Job.seeds c.self.inside.starts c.self.inside.terminators c.self.inside.seat c.start_behind.new.self c.self.invariant.3 c.start_behind.ensures.remembers)
+      start_minded g.J.Job.map g.J.Job.seeds c.self.inside.starts c.note.new.self c.self.inside.terminators c.self.inside.returned c.in-Some.t c.start_behind.new.self
+          (still_minded g.J.Job.map g.J.Job.seeds c.self.inside.starts c.self.inside.terminators c.self.inside.returned c.self.inside.seat c.start_behind.new.self c.self.invariant.3 c.start_behind.ensures.remembers)
           c.note.ensures
           (known, c.start_behind.ensures.truth _ known),
     )

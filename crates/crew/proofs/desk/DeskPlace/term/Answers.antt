@@ -7,8 +7,8 @@ invariant_of-self-2 g c =
       c.self.invariant.0,
       stays_at g.S.Station.board g.S.Station.share c.self.inside.seat c.term.new.self c.self.invariant.1 c.term.ensures.stays,
       c.self.invariant.2,
-      terminator_minded g.J.Job.map g.J.Job.seeds c.self.inside.starts c.self.inside.terminators c.note.new.self c.args.k c.term.new.self
-          (still_minded g.J.Job.map g.J.Job.seeds c.self.inside.starts c.self.inside.terminators c.self.inside.seat c.term.new.self c.self.invariant.3 c.term.ensures.remembers)
+      terminator_minded g.J.Job.map g.J.Job.seeds c.self.inside.starts c.self.inside.terminators c.note.new.self c.self.inside.returned c.args.k c.term.new.self
+          (still_minded g.J.Job.map g.J.Job.seeds c.self.inside.starts c.self.inside.terminators c.self.inside.returned c.self.inside.seat c.term.new.self c.self.invariant.3 c.term.ensures.remembers)
           c.note.ensures
           (known, c.term.ensures.truth _ known),
     )

@@ -12,8 +12,8 @@ invariant_of-self-2 g c =
       c.self.invariant.0,
       stays_at g.S.Station.board g.S.Station.share c.self.inside.seat c.want.new.self c.self.invariant.1 c.want.ensures.stays,
       c.self.invariant.2,
-      start_minded g.J.Job.map g.J.Job.seeds c.self.inside.starts c.note.new.self c.self.inside.terminators c.args.s c.want.new.self
-          (still_minded g.J.Job.map g.J.Job.seeds c.self.inside.starts c.self.inside.terminators c.self.inside.seat c.want.new.self c.self.invariant.3 c.want.ensures.remembers)
+      start_minded g.J.Job.map g.J.Job.seeds c.self.inside.starts c.note.new.self c.self.inside.terminators c.self.inside.returned c.args.s c.want.new.self
+          (still_minded g.J.Job.map g.J.Job.seeds c.self.inside.starts c.self.inside.terminators c.self.inside.returned c.self.inside.seat c.want.new.self c.self.invariant.3 c.want.ensures.remembers)
           c.note.ensures
           (known, c.want.ensures.truth _ known),
     )
