@@ -9,14 +9,14 @@ ghost use Rattle.cfg.specs.Inner.{IsFaultOf};
 use crate::builder::Builder;
 use crate::graph::graph_of;
 use crate::refusal::Refusal;
+use crate::survey::Survey;
 use crate::text::{FileReport, Text};
 use big_case::big_file;
 use elf_image::Image;
-use elf_symbols::seeds;
 use graph_report::{ReportKind, summary};
 use std::alloc::Global;
 
-/// The report of the file with these bytes: parse, seeds, graph.
+/// The report of the file with these bytes: parse, survey, graph.
 pub fn report_of<B: Builder>(
     alloc: Global,
     by: &B,
@@ -29,8 +29,8 @@ pub fn report_of<B: Builder>(
     ensures refused { IfErr result (IsFaultOf bytes.items) }
 {
     let image = Image::parse(alloc, bytes)?;
-    let seeds = seeds(alloc, &image)?;
-    let graph = graph_of(alloc, by, &image, seeds.addresses())?;
+    let Survey { seeds, reaches } = by.survey(&image)?;
+    let graph = graph_of(alloc, by, &image, reaches, seeds.addresses())?;
     Ok(Text::Report(FileReport::new(image, seeds, graph, kind)))
 }
 
@@ -45,7 +45,7 @@ pub fn summary_of<B: Builder>(alloc: Global, by: &B, n: u32) -> Result<Text, Ref
 {
     let file = big_file(alloc, n)?;
     let image = Image::parse(alloc, file)?;
-    let seeds = seeds(alloc, &image)?;
-    let graph = graph_of(alloc, by, &image, seeds.addresses())?;
+    let Survey { seeds, reaches } = by.survey(&image)?;
+    let graph = graph_of(alloc, by, &image, reaches, seeds.addresses())?;
     Ok(Text::Summary(summary(alloc, n, &graph)?))
 }

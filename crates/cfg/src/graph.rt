@@ -14,23 +14,22 @@ ghost use Rattle.code_view.specs.Cuts.{cut_of};
 ghost use Rattle.code_view.specs.FileCode.{program_of};
 ghost use Rattle.code_view.specs.Program.{program_under};
 ghost use Rattle.cfg_model.specs.Program.Reach.{AreSeeds};
+ghost use Rattle.chain_index.specs.Found.{AreReachesOf};
 ghost use Rattle.cfg.specs.FileGraph.{IsGraphOf};
 
 use crate::builder::Builder;
 use crate::refusal::Refusal;
 use cfg_model::Graph;
-use chain_index::ChainIndex;
+use chain_index::{ChainIndex, ChainReaches};
 use code_view::{Code, Cuts};
 use core_state::State;
 use elf_image::Image;
-use finaliser::Outline;
-use func_bodies::mark_tails;
 use std::alloc::Global;
 use std::mem;
 use table_trim::{all_entered, cuts_of};
 
-/// The graph of a file from its seeds. `by` finds the jump tables, builds the closed states, finds
-/// the cuts, and makes the outline and the functions.
+/// The graph of a file from its seeds and the reaches of its chains. `by` finds the jump tables,
+/// builds the closed states, finds the cuts, and makes the graph that a state shows.
 ///
 /// The cuts of a file are those of the tables whose jumps are reached where none is cut. Most often
 /// all tables of the code are reached, even under the cuts that all of them give, so that is tried
@@ -41,9 +40,11 @@ pub fn graph_of<B: Builder>(
     alloc: Global,
     by: &B,
     image: &Image,
+    reaches: ChainReaches,
     seeds: &[u64],
 ) -> Result<Graph, Refusal>
     requires build { B.ready by.now }
+    requires reaches { AreReachesOf image.now reaches }
     requires all { seeds.now ≡ spec.seeds image.now }
     requires rising { IsStrictlyIncreasing seeds.now }
     requires some { 0 < length seeds.now }
@@ -52,7 +53,7 @@ pub fn graph_of<B: Builder>(
     ensures graph { IfOk result (IsGraphOf image.now) }
     ensures memory { IfErr result (λ refusal. refusal ≡ Refusal.Memory) }
 {
-    let index = ChainIndex::of(image, by.reaches(image)?);
+    let index = ChainIndex::of(image, reaches);
     let none = Cuts::none(alloc);
     let uncut = Code::new(image, &index, &none);
     let tables = by.tables(&uncut)?;
@@ -121,8 +122,8 @@ fn graph_by_reached<B: Builder>(
     graph_from(by, &code, seeds, state, entry)
 }
 
-/// The graph that a closed state shows: its outline, the functions, and the tail calls among the
-/// edges.
+/// The graph that a closed state shows, which is left as it is then: the program ends soon, and to
+/// free it takes time.
 fn graph_from<B: Builder>(
     by: &B,
     code: &Code,
@@ -135,15 +136,7 @@ fn graph_from<B: Builder>(
     ensures graph { IfOk result (IsGraph (program_of code.now) seeds.now entry) }
     ensures memory { IfErr result (λ refusal. refusal ≡ Refusal.Memory) }
 {
-    let outline = by.outline(code, &state)?;
-    let functions = by.functions(code, seeds, &state, &outline)?;
+    let graph = by.graph(code, seeds, &state, entry)?;
     mem::forget(state);
-    let Outline { blocks, mut edges } = outline;
-    mark_tails(&functions, &mut edges);
-    Ok(Graph {
-        entry,
-        functions,
-        blocks,
-        edges,
-    })
+    Ok(graph)
 }

@@ -2,8 +2,9 @@
 //!
 //! - `run`: a whole run over any input and any sinks, and what is proved of it.
 //! - `reading`: the bytes of the file. `answer`: from these to the report.
-//! - `graph`: the graph of a file, under the cuts of its jump tables. `builder`: who builds it.
-//!   `sharing`: what several threads do of it.
+//! - `survey`: what is told of a file first. `graph`: its graph, under the cuts of its jump tables,
+//!   and `shown`: that which a closed state shows. `builder`: who builds it. `sharing`: what several
+//!   threads do of it.
 //! - `text`: the text of an answer, written piece by piece.
 //! - `safe`: a run where neither the input nor standard output can fail.
 //! - `status`, `refusal`: how a run ends, and the line that tells it.
@@ -18,7 +19,9 @@ mod refusal;
 mod run;
 mod safe;
 mod sharing;
+mod shown;
 mod status;
+mod survey;
 #[cfg(test)]
 mod tests;
 mod text;

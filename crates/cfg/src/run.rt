@@ -7,9 +7,8 @@ ghost use Rattle.std.specs.FinMap as map;
 ghost use Rattle.cfg_io.specs.Fault.{Rose};
 ghost use Rattle.cfg_model.specs.Program.Reach.{AreSeeds};
 ghost use Rattle.cfg_model.specs.Builder.Kept.{IsClosed};
-ghost use Rattle.chain_index.specs.Found.{AreReachesOf};
 ghost use Rattle.code_view.specs.FileCode.{program_of};
-ghost use Rattle.finaliser.specs.Closed.{IsClosedFromSome, IsOutlineOf};
+ghost use Rattle.finaliser.specs.Closed.{IsClosedFromSome};
 ghost use Rattle.table_trim.specs.Tables.{AreAllTables};
 ghost use Rattle.cfg_io.specs.Opened.{Nothing};
 ghost use Rattle.cfg_io.specs.Told.{TakesCount, TakesAtMost};
@@ -19,7 +18,7 @@ ghost use Rattle.cfg.specs.Answer.{IsAnswer, text_answer};
 ghost use Rattle.cfg.specs.Refusal.{status_of};
 ghost use Rattle.cfg.specs.Lines.{refusal_line};
 ghost use Rattle.cfg.specs.Text.{bytes_of};
-ghost use Rattle.cfg.specs.Inner.{AnswersCuts, AnswersFunctions};
+ghost use Rattle.cfg.specs.Inner.{AnswersCuts, AnswersGraph, AnswersSurvey};
 ghost use Rattle.cfg.specs.Inner.{IsTrueOf, IsOfFile, IsFaultless};
 ghost use Rattle.cfg.specs.Run.{Grows, Tells, IsDecided, HasRead};
 ghost use Rattle.cfg.specs.Run.{Gives, GivesPart, IsLineOf, OpenedFor};
@@ -28,19 +27,17 @@ use crate::answer::{report_of, summary_of};
 use crate::builder::{Alone, Builder, Workers};
 use crate::reading::{FILE_LIMIT, read_file};
 use crate::refusal::Refusal;
-use crate::sharing::{cuts_with, outline_with, state_with};
+use crate::sharing::{cuts_with, graph_with, state_with, survey_with};
 use crate::status::Status;
+use crate::survey::Survey;
 use crate::text::{Text, Unwritten};
 use cfg_io::{Input, Sink};
-use cfg_model::Functions;
+use cfg_model::Graph;
 use cfg_words::{Request, request};
-use chain_index::ChainReaches;
 use code_view::{Code, Cuts};
 use core_state::State;
 use crew::Gate;
 use elf_image::Image;
-use finaliser::Outline;
-use func_bodies::functions_by;
 use graph_report::ReportKind;
 use std::alloc::Global;
 use std::marker::Sync;
@@ -116,10 +113,10 @@ pub fn run<R: Threads + Wait + Sync, I: Input, O: Sink, E: Sink, G: Gate>(
     };
     let count = workers_of(&request);
     if 2 <= count && count <= 64 {
-        let reaches = |image: &Image| -> Result<ChainReaches, chain_index::Memory>
+        let survey = |image: &Image| -> Result<Survey, Refusal>
             requires { IsSync R.row × (1 ≤ count) × (count ≤ 64) }
-            ensures { IfOk result (AreReachesOf image.now) }
-        { ChainReaches::new_by(rt, alloc, image, count) };
+            ensures { AnswersSurvey image.now result }
+        { survey_with(rt, alloc, image, count) };
         let tables = |code: &Code| -> Result<Vec<TableJump>, code_view::Memory>
             requires { IsSync R.row × (1 ≤ count) }
             ensures { IfOk result (λ jumps. AreAllTables code.now.bytes jumps.items) }
@@ -134,27 +131,20 @@ pub fn run<R: Threads + Wait + Sync, I: Input, O: Sink, E: Sink, G: Gate>(
                 × IsClosedFromSome (program_of code.now) state.now.maps }
             ensures { AnswersCuts code.now state.now.maps result }
         { cuts_with(rt, alloc, code, state, count) };
-        let outline = |code: &Code, state: &State| -> Result<Outline, finaliser::Memory>
-            requires { IsSync R.row × (1 ≤ count)
-                × IsClosedFromSome (program_of code.now) state.now.maps }
-            ensures { IfOk result (IsOutlineOf (program_of code.now) state.now.maps) }
-        { outline_with(rt, alloc, code, state, count) };
-        let functions = |code: &Code, seeds: &[u64], state: &State, outline: &Outline| -> Result<
-            Functions,
-            func_bodies::Memory,
+        let graph = |code: &Code, seeds: &[u64], state: &State, entry: u64| -> Result<
+            Graph,
+            Refusal,
         >
             requires { IsSync R.row × (1 ≤ count) × (count ≤ 64)
-                × IsClosed (program_of code.now) seeds.now state.now.maps
-                × IsOutlineOf (program_of code.now) state.now.maps outline.now }
-            ensures { AnswersFunctions (program_of code.now) seeds.now result }
-        { functions_by(rt, alloc, code, seeds, state, outline, count) };
+                × IsClosed (program_of code.now) seeds.now state.now.maps }
+            ensures { AnswersGraph (program_of code.now) seeds.now entry result }
+        { graph_with(rt, alloc, code, seeds, state, entry, count) };
         let by = Workers {
-            reaches,
+            survey,
             tables,
             state,
             cuts,
-            outline,
-            functions,
+            graph,
         };
         return run_by(alloc, &by, &request, input, out, err);
     }

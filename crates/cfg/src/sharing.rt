@@ -1,23 +1,62 @@
 //! The parts of a graph's making that threads share.
 
-ghost use Rattle.std.specs.Prelude.{◌≡◌, ◌≤◌, IfOk};
+ghost use Rattle.std.specs.Prelude.{◌≡◌, ◌≤◌, IfOk, IfErr};
 ghost use Rattle.std.specs.FinMap as map;
+ghost use Rattle.std.specs.Thread.{IsSync};
 ghost use Rattle.cfg_model.specs.Program.Reach.{AreSeeds};
 ghost use Rattle.cfg_model.specs.Builder.Kept.{IsClosed};
 ghost use Rattle.code_view.specs.FileCode.{program_of};
+ghost use Rattle.cfg_model.specs.Graph.Graph.{IsGraph};
+ghost use Rattle.chain_index.specs.Found.{AreReachesOf};
 ghost use Rattle.finaliser.specs.Closed.{IsClosedFromSome, IsOutlineOf};
-ghost use Rattle.cfg.specs.Inner.{AnswersCuts};
+ghost use Rattle.cfg.specs.Inner.{AnswersCuts, AnswersSeeds, IsFaultOf, IsSurveyOf};
 
+use crate::refusal::Refusal;
+use crate::survey::Survey;
 use alone::build_alone;
+use cfg_model::Graph;
+use chain_index::ChainReaches;
 use code_view::{Code, Cuts};
 use core_state::State;
 use crew::{Gate, build};
+use elf_image::{ElfError, Image};
+use elf_symbols::{Seeds, seeds};
 use finaliser::{Outline, blocks_and_edges_by};
+use func_bodies::{functions_by, mark_tails_by};
 use std::alloc::Global;
 use std::marker::Sync;
 use std::sync::Wait;
-use std::thread::Threads;
+use std::thread::{Threads, join};
 use table_trim::cuts_by;
+
+/// The survey of a file, made by so many workers, or the fault of its symbols. One thread more reads
+/// the seeds meanwhile.
+pub fn survey_with<R: Threads + Sync>(
+    rt: &R,
+    alloc: Global,
+    image: &Image,
+    workers: u32,
+) -> Result<Survey, Refusal>
+    requires some { 1 ≤ workers }
+    requires most { workers ≤ 64 }
+    ensures survey { IfOk result (IsSurveyOf image.now) }
+    ensures refused { IfErr result (IsFaultOf image.now) }
+{
+    let (seeds, reaches) = join(
+        rt,
+        || -> Result<Seeds, ElfError>
+            ensures { AnswersSeeds image.entry.now result }
+        { seeds(alloc, image) },
+        || -> Result<ChainReaches, chain_index::Memory>
+            requires { IsSync R.row × (1 ≤ workers) × (workers ≤ 64) }
+            ensures { IfOk result (AreReachesOf image.entry.now) }
+        { ChainReaches::new_by(rt, alloc, image, workers) },
+    );
+    Ok(Survey {
+        seeds: seeds?,
+        reaches: reaches?,
+    })
+}
 
 /// The closed state of a program from its seeds, built by as many workers as there are seeds, and
 /// by so many at most. From one seed it is built on the caller's thread: there nearly each function
@@ -60,8 +99,36 @@ pub fn cuts_with<R: Threads + Sync>(
     }
 }
 
+/// The graph of a program with this entry, from its closed state, made by so many workers.
+pub fn graph_with<R: Threads + Sync>(
+    rt: &R,
+    alloc: Global,
+    code: &Code,
+    seeds: &[u64],
+    state: &State,
+    entry: u64,
+    workers: u32,
+) -> Result<Graph, Refusal>
+    requires some { 1 ≤ workers }
+    requires most { workers ≤ 64 }
+    requires closed { IsClosed (program_of code.now) seeds.now state.now.maps }
+    ensures graph { IfOk result (IsGraph (program_of code.now) seeds.now entry) }
+    ensures memory { IfErr result (λ refusal. refusal ≡ Refusal.Memory) }
+{
+    let outline = outline_with(rt, alloc, code, state, workers)?;
+    let functions = functions_by(rt, alloc, code, seeds, state, &outline, workers)?;
+    let Outline { blocks, mut edges } = outline;
+    mark_tails_by(rt, alloc, &functions, &mut edges, workers)?;
+    Ok(Graph {
+        entry,
+        functions,
+        blocks,
+        edges,
+    })
+}
+
 /// The blocks and edges of a program, made by so many workers.
-pub fn outline_with<R: Threads + Sync>(
+fn outline_with<R: Threads + Sync>(
     rt: &R,
     alloc: Global,
     code: &Code,

@@ -10,7 +10,7 @@ use crate::graph::graph_of;
 use alone::build_alone;
 use cfg_model::Graph;
 use cfg_vectors::row_file;
-use chain_index::ChainIndex;
+use chain_index::{ChainIndex, ChainReaches};
 use code_view::{Code, Cuts};
 use elf_image::Image;
 use elf_symbols::seeds;
@@ -87,7 +87,8 @@ fn agrees(rt: &(impl Abort + AllocGlobal), file: Vec<u8>) -> Result<(), Fail> {
     let alloc = rt.alloc();
     let image = Image::parse(alloc, file)?;
     let seeds = seeds(alloc, &image)?;
-    let graph = graph_of(alloc, &Alone { alloc }, &image, seeds.addresses())?;
+    let reaches = ChainReaches::new(alloc, &image)?;
+    let graph = graph_of(alloc, &Alone { alloc }, &image, reaches, seeds.addresses())?;
     let plain = plain_graph_of(alloc, &image, seeds.addresses())?;
     let text = report(alloc, &image, &seeds, &graph, ReportKind::Graph)?;
     let other = report(alloc, &image, &seeds, &plain, ReportKind::Graph)?;

@@ -17,5 +17,5 @@ returns-clause-done g c = λ path workers.
     subst (λ (text : List ℕ). IsAnswer bytes asked (text_answer text)) (sym c.new.ensures)
     (subst (λ (b : List ℕ). IsAnswer bytes asked (text_answer (report_text kind (seed_name b) graph))) (sym same)
     (IsAnswer.done {graph = graph}
-    (subst (λ (b : List ℕ). first_fault b ≡ None) same c.in_ok-seeds.ensures.accepted)
+    (subst (λ (b : List ℕ). first_fault b ≡ None) same c.in_ok-seeds.ensures.survey.seeds.accepted)
     (subst (λ (b : List ℕ). IsGraphOf b graph) same c.in_ok-graph.ensures.graph)))
