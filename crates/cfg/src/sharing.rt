@@ -29,6 +29,10 @@ use std::sync::Wait;
 use std::thread::{Threads, join};
 use table_trim::cuts_by;
 
+/// The gaps between the bounds of an outline that there are for each worker. With one each, all
+/// would wait for the one that is slowest or begins last; of four each, fast workers draw more.
+const GAPS_PER_WORKER: u32 = 4;
+
 /// The survey of a file, made by so many workers, or the fault of its symbols. One thread more reads
 /// the seeds meanwhile.
 pub fn survey_with<R: Threads + Sync>(
@@ -139,8 +143,8 @@ fn outline_with<R: Threads + Sync>(
     requires closed { IsClosedFromSome (program_of code.now) state.now.maps }
     ensures { IfOk result (IsOutlineOf (program_of code.now) state.now.maps) }
 {
-    match code.bounds(alloc, workers) {
-        Ok(bounds) => blocks_and_edges_by(rt, alloc, code, state, &bounds),
+    match code.bounds(alloc, workers.saturating_mul(GAPS_PER_WORKER)) {
+        Ok(bounds) => blocks_and_edges_by(rt, alloc, code, state, &bounds, workers),
         Err(_) => Err(finaliser::Memory),
     }
 }

@@ -20,41 +20,45 @@ use crate::outline::{Outline, blocks_and_edges};
 use crate::part::{Part, read_ends};
 use cfg_model::{Block, Blocks, Chains, Edge, Edges};
 use core_state::State;
-use fan_out::map_indices;
+use drawn_calls::map_drawn;
 use std::alloc::Global;
 use std::thread::{Threads, join};
 use stretches::Stretch;
 
-/// The answer of [`blocks_and_edges`], made by one thread more than there are bounds: each makes
-/// the blocks that end in one gap between them, and their edges. So the bounds, which may be any
-/// addresses that do not fall, only say how the work is shared. With none no thread is started.
-/// [`Memory`] where memory ran out.
+/// The answer of [`blocks_and_edges`], made by so many workers. They draw the gaps between the
+/// bounds, one gap more than there are bounds, one after another, and make the blocks that end in
+/// each, and their edges. So the bounds, which may be any addresses that do not fall, only say how
+/// the work is shared. With one worker or no bound no thread is started. [`Memory`] where memory
+/// ran out.
 pub fn blocks_and_edges_by<R: Threads + Sync, C: Chains>(
     rt: &R,
     alloc: Global,
     code: &C,
     state: &State,
     bounds: &[u64],
+    workers: u32,
 ) -> Result<Outline, Memory>
     requires closed { IsClosedFromSome (C.map code.now) state.now.maps }
     requires rising { IsNonDecreasing bounds.now }
+    requires some { 1 ≤ workers }
     ensures outline { IfOk result (IsOutlineOf (C.map code.now) state.now.maps) }
 {
-    if bounds.is_empty() {
+    if workers == 1 || bounds.is_empty() {
         return blocks_and_edges(alloc, code, state);
     }
-    let parts = made_by_gap(rt, alloc, code, state, bounds)?;
+    let parts = made_by_gap(rt, alloc, code, state, bounds, workers as usize)?;
     let (blocks, edges) = taken_apart(alloc, parts)?;
     put_together(rt, alloc, blocks, edges)
 }
 
-/// The blocks and edges of each gap, made on a thread of its own, in the order of the gaps.
+/// The blocks and edges of each gap, made by so many threads, in the order of the gaps.
 fn made_by_gap<R: Threads + Sync, C: Chains>(
     rt: &R,
     alloc: Global,
     code: &C,
     state: &State,
     bounds: &[u64],
+    workers: usize,
 ) -> Result<Vec<Result<Part, Memory>>, Memory>
     requires closed { IsClosedFromSome (C.map code.now) state.now.maps }
     ensures as_many { IfOk result (λ v. vec_len v ≡ length bounds.now + 1) }
@@ -67,7 +71,7 @@ fn made_by_gap<R: Threads + Sync, C: Chains>(
         ensures { IfOk result (λ part. ArePartOf (C.map code.entry.now) state.entry.now.maps
             (gap bounds.entry.now i) part.blocks.items part.edges.items) }
     { part_of(alloc, code, state, Stretch::gap(bounds, i)) };
-    Ok(map_indices(rt, alloc, bounds.len() + 1, &make)?)
+    Ok(map_drawn(rt, alloc, workers, bounds.len() + 1, &make)?)
 }
 
 /// The blocks that end in a stretch, and the edges from there, in the order of a graph.

@@ -114,7 +114,7 @@ fn bounds(alloc: Global, count: u64) -> Result<Vec<u64>, Memory>
     Ok(bounds)
 }
 
-/// One, two, four and 64 threads give what one does.
+/// One, two, four and 64 workers give what one does, with a gap and with four gaps for each.
 #[test]
 fn more_threads(rt: HostRuntime) -> Result<(), Fail> {
     let alloc = rt.alloc();
@@ -127,10 +127,12 @@ fn more_threads(rt: HostRuntime) -> Result<(), Fail> {
     ] {
         let state = build_alone(alloc, &code, code.seeds())?;
         let alone = blocks_and_edges(alloc, &code, &state)?;
-        for threads in [1, 2, 4, 64] {
-            let bounds = bounds(alloc, threads - 1)?;
-            let made = blocks_and_edges_by(&rt, alloc, &code, &state, &bounds)?;
-            expect(&rt, &made, alone.blocks.as_slice(), alone.edges.as_slice());
+        for workers in [1u32, 2, 4, 64] {
+            for gaps in [workers, 4 * workers] {
+                let bounds = bounds(alloc, u64::from(gaps) - 1)?;
+                let made = blocks_and_edges_by(&rt, alloc, &code, &state, &bounds, workers)?;
+                expect(&rt, &made, alone.blocks.as_slice(), alone.edges.as_slice());
+            }
         }
     }
     Ok(())
