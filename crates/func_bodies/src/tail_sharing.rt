@@ -9,15 +9,20 @@ use crate::lists::appended;
 use crate::memory::Memory;
 use crate::tails::{is_tail, mark_tails};
 use cfg_model::{Edge, EdgeKind, Edges, Function, Functions};
-use fan_out::map_indices;
+use drawn_calls::map_drawn;
 use std::alloc::Global;
 use std::thread::Threads;
+
+/// The parts of the edges that there are for each worker. With one each, all would wait for the one
+/// that is slowest or begins last; of four each, fast workers draw more.
+const PARTS_PER_WORKER: usize = 4;
 
 /// The answer of [`mark_tails`], made by so many workers, from 1 to 64. With one worker no thread
 /// is started. [`Memory`] where memory ran out: the edges are then as they were.
 ///
-/// The edges are cut into one part for each worker, which lists the places of the tail calls in it.
-/// The caller's thread sets the kinds of these, one after another.
+/// The edges are cut into four parts for each worker. The workers draw one part after another, and
+/// list the places of the tail calls in it. The caller's thread sets the kinds of these, one after
+/// another.
 pub fn mark_tails_by<R: Threads + Sync>(
     rt: &R,
     alloc: Global,
@@ -35,7 +40,6 @@ pub fn mark_tails_by<R: Threads + Sync>(
         mark_tails(functions, edges);
         return Ok(());
     }
-    let workers = workers as usize;
     let places = tails_by(rt, alloc, functions.as_slice(), edges.as_slice(), workers)?;
     set_tails(edges, &places);
     Ok(())
@@ -47,25 +51,26 @@ fn tails_by<R: Threads + Sync>(
     alloc: Global,
     functions: &[Function],
     edges: &[Edge],
-    workers: usize,
+    workers: u32,
 ) -> Result<Vec<usize>, Memory>
     requires ordered { AreOrdered functions.now }
-    requires some { 0 < workers }
+    requires some { 1 ≤ workers }
     ensures { IfOk result (λ v. ListsTails functions.now edges.now 0 (length edges.now) v.items) }
 {
-    let size = edges.len() / workers + 1;
-    let lists = tails_by_part(rt, alloc, functions, edges, size)?;
+    let workers = workers as usize;
+    let size = edges.len() / (PARTS_PER_WORKER * workers) + 1;
+    let lists = tails_by_part(rt, alloc, functions, edges, size, workers)?;
     appended(Vec::new(alloc), lists)
 }
 
-/// The places of the tail calls in each part of so many edges. Each part is searched on a thread of
-/// its own.
+/// The places of the tail calls in each part of so many edges, found by so many workers.
 fn tails_by_part<R: Threads + Sync>(
     rt: &R,
     alloc: Global,
     functions: &[Function],
     edges: &[Edge],
     size: usize,
+    workers: usize,
 ) -> Result<Vec<Result<Vec<usize>, Memory>>, Memory>
     requires ordered { AreOrdered functions.now }
     requires some { 0 < size }
@@ -77,7 +82,8 @@ fn tails_by_part<R: Threads + Sync>(
             (λ v. ListsTails functions.entry.now edges.entry.now (n * size) (n * size + size)
             v.items) }
     { tails_in(alloc, functions, edges, n * size, size) };
-    Ok(map_indices(rt, alloc, edges.len().div_ceil(size), &find)?)
+    let parts = edges.len().div_ceil(size);
+    Ok(map_drawn(rt, alloc, workers, parts, &find)?)
 }
 
 /// The places of the tail calls among so many edges from place `start` on, as far as there are any.
