@@ -55,7 +55,7 @@ module _ (code : InstructionMap) (seeds : List ℕ) (old new : SeatState) where
       subst (λ (part : BuilderState). Holds code part fact) (sym (turn_found code seeds shard old new had.first had.second had.turn ∙ had.part))
       (facts_read_back code had.whole shard fact at (had.known fact h))
 
-  denied : (b : Bool) (P : Type 0) → (IsTrue b → ¬ P) → P → IsFalse b
+  pub denied : (b : Bool) (P : Type 0) → (IsTrue b → ¬ P) → P → IsFalse b
   denied false P never p = refl
   denied true P never p = absurd (never refl p)
 

@@ -1,31 +1,34 @@
--- What a read of a seat told.
+-- What a read of a seat told, and what a change that answers more.
 use Rattle.std.proofs.Common.{◌≡◌, ℕ, ◌<◌, List, [], ◌∷◌, Bool, Option, Some, None, refl, sym, ap, ◌∙◌, subst}
-use Rattle.std.specs.Prelude.{◌↔◌, Result, Ok, Err, OnOk, IfOk, IsSome, IsTrue, IfSome, OnSome}
+use Rattle.std.specs.Prelude.{◌↔◌, Result, Ok, Err, OnOk, IfOk, IsSome, IsTrue, IsFalse, IfSome, OnSome}
 use Rattle.std.specs.Option.{option_map}
 use mathlib.Core.Logic.{inl, inr}
 use Rattle.std.specs.FinMap as maps
 use Rattle.atomic_table.specs.Table.{Me}
 use Rattle.atomic_table.specs.declared.shared.Seat.{Seat}
 use Rattle.cfg_model.specs.Program.Instructions.{InstructionMap}
+use Rattle.cfg_model.specs.declared.state.Waiter.{Waiter}
+use Rattle.cfg_model.specs.Builder.Event.{Event, entry_with_waiter}
 use Rattle.cfg_model.specs.Builder.Fact.{Fact, Holds}
-use Rattle.cfg_model.specs.Builder.Shard.{Shard, shard_of, only}
-use Rattle.cfg_model.specs.Builder.State.{BuilderState, EndEntry, IsMoved, near_at, StandsAt}
+use Rattle.cfg_model.specs.Builder.Shard.{Shard, shard_of, shard_of_event, only}
+use Rattle.cfg_model.specs.Builder.State.{BuilderState, EndEntry, IsMoved, near_at, StandsAt, IsStart, WaitsAt, IsReturned}
+use Rattle.cfg_model.proofs.Builder.StateGrowth.{changed_grows, waiter_grows}
 use Rattle.core_state.specs.Least.{IsLeast}
 use Rattle.core_state.specs.Line.{IsNextInLine}
 use Rattle.core_state.specs.declared.answer.PlaceEnd.{PlaceEnd}
 use Rattle.board.specs.declared.view.View.{View}
 use Rattle.board.specs.declared.piece.Piece.{Piece}
 use Rattle.board.specs.Slots.{shard_in}
-use Rattle.board.specs.Seat.{SeatState, HasSlot, Knows, found}
-use Rattle.board.specs.Calls.{LookedAt}
+use Rattle.board.specs.Seat.{SeatState, HasSlot, Knows, found, left}
+use Rattle.board.specs.Calls.{LookedAt, MadeEvent}
 use Rattle.board.specs.Inner.Pieces.{part_in, piece_in}
 use Rattle.board.specs.Inner.Plays.{values_at, giving, Takes}
 use Rattle.board.specs.Inner.Inside.{state_of, IsSettled}
 use Rattle.board.proofs.Parts.{part_piece}
 use Rattle.board.proofs.Rounds.{turn_begins}
 use Rattle.board.proofs.Calls.{Round, round}
-use Rattle.board.proofs.Told.{part_is_true, part_standing, knows_second, turn_found}
-use Rattle.board.proofs.Due.{read_known}
+use Rattle.board.proofs.Told.{part_is_true, part_standing, knows_second, turn_found, turn_left}
+use Rattle.board.proofs.Due.{read_known, denied}
 
 -- A turn in which the shard was looked at, and stayed.
 module _ (code : InstructionMap) (seeds : List ℕ) (slot : ℕ) (below : slot < 192) (shard : Shard) (at : shard_in slot ≡ shard) (a : Seat (Option Piece) View) (settled : IsSettled code seeds a)
@@ -96,3 +99,48 @@ module _ (code : InstructionMap) (seeds : List ℕ) (old new : SeatState) where
   next_known a (Err e) looked is = (tt, tt)
   next_known a (Ok None) looked is = (tt, tt)
   next_known a (Ok (Some t)) looked is = (is.0.1, sees (Shard.Starts (shard_of a)) looked (Fact.Start t) is.0.0)
+
+  -- whether an address is a start, and the next one in its line
+  pub from_known : (a : ℕ) (r : Result (Bool × Option ℕ) PlaceEnd) → OnOk r (LookedAt code seeds (Shard.Starts (shard_of a)) old new)
+      → IfOk r (λ seen. (IsTrue seen.0 ↔ Holds code (found new) (Fact.Start a)) × IsNextInLine (found new).starts a seen.1)
+      → IfOk r (λ seen. IsTrue seen.0 → Knows code new (Fact.Start a)) × IfOk r (λ seen. IfSome seen.1 (λ t. a < t)) × IfOk r (λ seen. IfSome seen.1 (λ t. Knows code new (Fact.Start t)))
+  from_known a (Err e) looked is = (tt, tt, tt)
+  from_known a (Ok (has, None)) looked is = (λ yes. sees (Shard.Starts (shard_of a)) looked (Fact.Start a) (is.0.0 yes), tt, tt)
+  from_known a (Ok (has, Some t)) looked is = (λ yes. sees (Shard.Starts (shard_of a)) looked (Fact.Start a) (is.0.0 yes), is.1.0.1, sees (Shard.Starts (shard_of a)) looked (Fact.Start t) is.1.0.0)
+
+  pub from_back : (a : ℕ) (r : Result (Bool × Option ℕ) PlaceEnd) → OnOk r (LookedAt code seeds (Shard.Starts (shard_of a)) old new)
+      → IfOk r (λ seen. (IsTrue seen.0 ↔ Holds code (found new) (Fact.Start a)) × IsNextInLine (found new).starts a seen.1)
+      → IfOk r (λ seen. Knows code old (Fact.Start a) → IsTrue seen.0)
+  from_back a (Err e) looked is = tt
+  from_back a (Ok seen) looked is = λ h. is.0.1 (read_known code seeds old new (Shard.Starts (shard_of a)) looked.had (Fact.Start a) refl h)
+
+-- What a change makes known by what it left.
+module _ (code : InstructionMap) (seeds : List ℕ) (old new : SeatState) where
+  leaves : (event : Event) → MadeEvent code seeds event old new → (fact : Fact) → Holds code (left new) fact → Knows code new fact
+  leaves event made fact h =
+      knows_second code seeds (shard_of_event event) old new made.had.first made.had.second made.had.turn fact
+      (subst (λ (part : BuilderState). Holds code part fact) (turn_left code seeds (shard_of_event event) old new made.had.first made.had.second made.had.turn) h)
+
+  pub line_known : (s : ℕ) (r : Result (Bool × Option ℕ) PlaceEnd) → OnOk r (MadeEvent code seeds (Event.Want s) old new)
+      → IfOk r (λ a. (IsTrue a.0 ↔ ¬ IsStart (found new).starts s) × IsNextInLine (left new).starts s a.1)
+      → IfOk r (λ a. IfSome a.1 (λ t. s < t)) × IfOk r (λ a. IfSome a.1 (λ t. Knows code new (Fact.Start t)))
+  line_known s (Err e) made is = (tt, tt)
+  line_known s (Ok (is_new, None)) made is = (tt, tt)
+  line_known s (Ok (is_new, Some t)) made is = (is.1.0.1, leaves (Event.Want s) made (Fact.Start t) is.1.0.0)
+
+  pub line_not_new : (s : ℕ) (r : Result (Bool × Option ℕ) PlaceEnd) → OnOk r (MadeEvent code seeds (Event.Want s) old new)
+      → IfOk r (λ a. (IsTrue a.0 ↔ ¬ IsStart (found new).starts s) × IsNextInLine (left new).starts s a.1)
+      → IfOk r (λ a. Knows code old (Fact.Start s) → IsFalse a.0)
+  line_not_new s (Err e) made is = tt
+  line_not_new s (Ok a) made is = λ h. denied code seeds old new a.0 (IsStart (found new).starts s) is.0.0 (read_known code seeds old new (Shard.Starts (shard_of s)) made.had (Fact.Start s) refl h)
+
+  -- a waiter that is to be told now waits at a terminator that returns
+  pub due_returned : (k : ℕ) (w : Waiter) (r : Result Bool PlaceEnd) → OnOk r (MadeEvent code seeds (Event.Wait k w) old new)
+      → IfOk r (λ due. IsTrue due ↔ (¬ WaitsAt (found new).terminators k w) × IsReturned (found new).terminators k)
+      → IfOk r (λ due. IsTrue due → Knows code new (Fact.Returned k))
+  due_returned k w (Err e) made is = tt
+  due_returned k w (Ok due) made is = λ yes.
+      knows_second code seeds (Shard.Terminators (shard_of k)) old new made.had.first made.had.second made.had.turn (Fact.Returned k)
+      (subst (λ (part : BuilderState). IsReturned part.terminators k) (sym made.step)
+      ((changed_grows made.had.first.terminators k (entry_with_waiter w) (waiter_grows w)).returned k
+      (subst (λ (part : BuilderState). IsReturned part.terminators k) (turn_found code seeds (Shard.Terminators (shard_of k)) old new made.had.first made.had.second made.had.turn) (is.0 yes).1)))

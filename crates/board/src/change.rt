@@ -1,4 +1,4 @@
-//! The nine changes, each as what it does to one shard, and how a seat makes one of them. Two of
+//! The nine changes, each as what it does to one shard, and how a seat makes one of them. Three of
 //! them stand here twice, with more that they answer.
 ghost use Rattle.std.specs.Prelude.{◌≡◌, ◌↔◌, ◌<◌, ◌∷◌, [], Some, OnOk, OnErr, IfOk, IfErr};
 ghost use Rattle.shares.specs.Share.{IsWhole};
@@ -164,6 +164,36 @@ impl<J: Job> Change<J, bool> for Want {
     fn make(&self, piece: &mut Piece) -> Result<bool, Memory> {
         match piece {
             Piece::Starts(starts) => starts.want(self.s),
+            _ => unreachable!(),
+        }
+    }
+}
+
+/// `s` becomes a wanted start, which answers the next start in its line too.
+#[derive(Drop)]
+pub(crate) struct WantInLine {
+    pub(crate) s: u64,
+}
+
+impl<J: Job> Change<J, (bool, Option<u64>)> for WantInLine {
+    ghost use Rattle.std.specs.Prelude.{◌↔◌, IsTrue};
+    ghost use Rattle.cfg_model.specs.Builder.Event.{Event};
+    ghost use Rattle.cfg_model.specs.Builder.State.{IsStart};
+    ghost use Rattle.core_state.specs.Line.{IsNextInLine};
+
+    ghost event = { λ c. Event.Want c.s };
+
+    ghost gives = { λ c first second a. (IsTrue a.0 ↔ ¬ IsStart first.starts c.s)
+        × IsNextInLine second.starts c.s a.1 };
+
+    ghost spends = { Unit {0} };
+
+    fn make(&self, piece: &mut Piece) -> Result<(bool, Option<u64>), Memory> {
+        match piece {
+            Piece::Starts(starts) => {
+                let new = starts.want(self.s)?;
+                Ok((new, starts.start_behind(self.s)))
+            }
             _ => unreachable!(),
         }
     }

@@ -1,12 +1,13 @@
-//! The nine changes of a builder's state, as a seat makes them on the board, and two of them in
+//! The nine changes of a builder's state, as a seat makes them on the board, and three of them in
 //! another call that answers more.
-ghost use Rattle.std.specs.Prelude.{◌≡◌, ◌↔◌, ◌<◌, IsTrue, IsFalse, OnOk, IfOk, IfErr};
+ghost use Rattle.std.specs.Prelude.{◌≡◌, ◌↔◌, ◌<◌, IsTrue, IsFalse, OnOk, IfOk, IfErr, IfSome};
 ghost use Rattle.shares.specs.Share.{IsWhole};
 ghost use Rattle.cfg_model.specs.Builder.Event.{Event};
 ghost use Rattle.cfg_model.specs.Builder.Fact.{Fact};
 ghost use Rattle.cfg_model.specs.Builder.Reason.{Reason};
 ghost use Rattle.cfg_model.specs.Builder.Shard.{Shard, shard_of};
 ghost use Rattle.cfg_model.specs.Builder.State.{IsStart, IsEntered, WaitsAt, IsReturned};
+ghost use Rattle.core_state.specs.Line.{IsNextInLine};
 ghost use Rattle.core_state.specs.Place.{Brings, Remembers, near_after};
 ghost use Rattle.core_state.specs.Reads.{HasNextToTell};
 ghost use Rattle.core_state.specs.declared.answer.ShardKind.TheVariants as ShardKind;
@@ -16,7 +17,7 @@ ghost use Rattle.board.specs.Calls.{WhereMemory, Stays, KnowsTruth, IsArrivalAt}
 
 use crate::change::{
     Arrive, EdgesDone, MarkTold, Parsed, PlaceWaiter, Returned, Settle, Term, Told, Wait, Want,
-    make,
+    WantInLine, make,
 };
 use crate::seat::Seat;
 use crate::table::Board;
@@ -54,6 +55,39 @@ impl<J: Job> Seat<J> {
         ensures only_seat { IsWhole self.old.share → ¬ AnswersBusy result }
     {
         make(self, board, ShardKind::Starts, s, &Want { s })
+    }
+
+    /// Makes `s` a wanted start as [`Seat::want`] does. Answers besides, from the same turn, the
+    /// least start above `s` in the line of 64 bytes that `s` lies in; `None` where there is none.
+    pub fn want_in_line(
+        &mut self,
+        board: &Board<J>,
+        s: u64,
+    ) -> Result<(bool, Option<u64>), PlaceEnd>
+        requires own { self.old.board ≡ board.now }
+        requires free { ¬ HoldsShard self.old (Shard.Starts (shard_of s)) }
+        requires reason { Reason J.map J.seeds (Knows J.map self.old) (Event.Want s) }
+        ensures event { OnOk result (MadeEvent J.map J.seeds (Event.Want s) self.old self.new) }
+        ensures answer { IfOk result (λ a. (IsTrue a.0 ↔ ¬ IsStart (found self.new).starts s)
+            × IsNextInLine (left self.new).starts s a.1) }
+        ensures brings { OnOk result (Brings (Event.Want s) (Knows J.map self.new)) }
+        ensures behind { IfOk result (λ a. IfSome a.1 (λ t. s < t)) }
+        ensures start { IfOk result
+            (λ a. IfSome a.1 (λ t. Knows J.map self.new (Fact.Start t))) }
+        ensures read_back { IfOk result
+            (λ a. Knows J.map self.old (Fact.Start s) → IsFalse a.0) }
+        ensures remembers { Remembers (Knows J.map self.old) (Knows J.map self.new) }
+        ensures truth { KnowsTruth J.map J.seeds self.new }
+        ensures busy { IfErr result (WhereBusy ShardKind.Starts s self.old self.new) }
+        ensures memory { IfErr result
+            (WhereMemory J.map J.seeds (Shard.Starts (shard_of s)) self.old self.new) }
+        ensures lost { AnswersBusy result
+            ↔ (lost_of self.old (Shard.Starts (shard_of s)) < lost_of self.new
+            (Shard.Starts (shard_of s))) }
+        ensures stays { Stays self.old self.new }
+        ensures only_seat { IsWhole self.old.share → ¬ AnswersBusy result }
+    {
+        make(self, board, ShardKind::Starts, s, &WantInLine { s })
     }
 
     /// Makes the start `s` a parsed one.
@@ -224,6 +258,8 @@ impl<J: Job> Seat<J> {
             ↔ (¬ WaitsAt (found self.new).terminators k w)
             × IsReturned (found self.new).terminators k) }
         ensures brings { OnOk result (Brings (Event.Wait k w) (Knows J.map self.new)) }
+        ensures returned { IfOk result
+            (λ due. IsTrue due → Knows J.map self.new (Fact.Returned k)) }
         ensures read_back { IfOk result (λ due. Knows J.map self.old (Fact.Waits k w)
             → IsFalse due) }
         ensures remembers { Remembers (Knows J.map self.old) (Knows J.map self.new) }

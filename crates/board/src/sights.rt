@@ -212,6 +212,33 @@ impl Sight<Option<u64>> for StartBehind {
     }
 }
 
+/// Whether an address is a start, and the next start in its line.
+#[derive(Drop)]
+struct StartsFrom {
+    a: u64,
+}
+
+impl Sight<(bool, Option<u64>)> for StartsFrom {
+    ghost use Rattle.std.specs.Prelude.{◌↔◌, IsTrue};
+    ghost use Rattle.cfg_model.specs.Builder.Shard.{Shard, shard_of};
+    ghost use Rattle.cfg_model.specs.Builder.State.{IsStart};
+    ghost use Rattle.core_state.specs.Line.{IsNextInLine};
+
+    ghost place = { λ c. Shard.Starts (shard_of c.a) };
+
+    ghost gives = { λ c part seen. (IsTrue seen.0 ↔ IsStart part.starts c.a)
+        × IsNextInLine part.starts c.a seen.1 };
+
+    fn look(&self, piece: &Piece) -> (bool, Option<u64>) {
+        match piece {
+            Piece::Starts(starts) => {
+                (starts.start(self.a).is_some(), starts.start_behind(self.a))
+            }
+            _ => unreachable!(),
+        }
+    }
+}
+
 // Each read has the same clauses as a change, but that it makes no event: `looked`, the seat looked
 // at the shard of the key in one turn of it. `brings` and what goes with it say what the seat knows
 // by the answer, and `read_back` what the answer is by what the seat knew. No read wants memory.
@@ -327,6 +354,34 @@ impl<J: Job> Seat<J> {
         ensures only_seat { IsWhole self.old.share → ¬ AnswersBusy result }
     {
         look(self, board, ShardKind::Starts, a, &StartBehind { a })
+    }
+
+    /// Whether `a` is a start, and the least start above it in the line of 64 bytes that it lies
+    /// in, `None` where there is none: both in one turn.
+    pub fn starts_from(&mut self, board: &Board<J>, a: u64) -> Result<(bool, Option<u64>), PlaceEnd>
+        requires own { self.old.board ≡ board.now }
+        requires free { ¬ HoldsShard self.old (Shard.Starts (shard_of a)) }
+        ensures looked { OnOk result
+            (LookedAt J.map J.seeds (Shard.Starts (shard_of a)) self.old self.new) }
+        ensures answer { IfOk result (λ seen. (IsTrue seen.0 ↔ IsStart (found self.new).starts a)
+            × IsNextInLine (found self.new).starts a seen.1) }
+        ensures brings { IfOk result
+            (λ seen. IsTrue seen.0 → Knows J.map self.new (Fact.Start a)) }
+        ensures behind { IfOk result (λ seen. IfSome seen.1 (λ t. a < t)) }
+        ensures start { IfOk result
+            (λ seen. IfSome seen.1 (λ t. Knows J.map self.new (Fact.Start t))) }
+        ensures read_back { IfOk result
+            (λ seen. Knows J.map self.old (Fact.Start a) → IsTrue seen.0) }
+        ensures remembers { Remembers (Knows J.map self.old) (Knows J.map self.new) }
+        ensures truth { KnowsTruth J.map J.seeds self.new }
+        ensures busy { IfErr result (IsBusyAt ShardKind.Starts a self.old self.new) }
+        ensures lost { AnswersBusy result
+            ↔ (lost_of self.old (Shard.Starts (shard_of a)) < lost_of self.new
+            (Shard.Starts (shard_of a))) }
+        ensures stays { Stays self.old self.new }
+        ensures only_seat { IsWhole self.old.share → ¬ AnswersBusy result }
+    {
+        look(self, board, ShardKind::Starts, a, &StartsFrom { a })
     }
 
     /// Whether `s` is a start.

@@ -2,7 +2,11 @@ use Rattle.std.proofs.Common.{refl}
 use Rattle.cfg_model.specs.Builder.Event.{Event}
 use Rattle.cfg_model.specs.Builder.Fact.{Fact}
 use Rattle.board.proofs.Due.{not_due}
+use Rattle.board.proofs.Looks.{due_returned}
 use Rattle.board.proofs.seat.Seat.place_waiter.Goals as goal
+
+pub returns-clause-returned : goal.returns-clause-returned
+returns-clause-returned g c = due_returned g.J.Job.map g.J.Job.seeds c.args.self.now c.make.new.seat c.args.k c.args.w c.make.result c.make.ensures.event c.make.ensures.answer
 
 pub returns-clause-read_back : goal.returns-clause-read_back
 returns-clause-read_back g c =
