@@ -1,11 +1,12 @@
 //! What a worker works on: its seat on the board, and its hand in the pool.
 
-ghost use Rattle.std.specs.Prelude.{◌≡◌, ◌≤◌, IfOk, IfErr, IsTrue};
+ghost use Rattle.std.specs.Prelude.{◌≡◌, ◌<◌, ◌≤◌, IfOk, IfErr, IfSome, IsTrue};
 ghost use Rattle.cfg_model.specs.Builder.Fact.{Fact};
 ghost use Rattle.core_state.specs.Place.{Remembers, IsBusyAt};
 ghost use Rattle.crew.specs.inner.Desk.{IsSeatAt, IsHandAt, KnowsSoundly, all_lost};
 
 use crate::known::Known;
+use crate::mind::Mind;
 use crate::names::Names;
 use crate::station::Station;
 use crate::tally::{Tally, add_one};
@@ -29,11 +30,18 @@ pub(crate) struct Desk<'a, J: Job, S: Station> {
     hand: Hand,
     names: Names,
     followed: Known,
-    starts: Known,
-    terminators: Known,
-    returned: Known,
+    mind: Mind,
+    line: Option<Line>,
     tally: Tally,
     station: PhantomData<S>,
+}
+
+/// What was seen when the board was last asked for starts: the least start above `a` in the line of
+/// 64 bytes that `a` lies in.
+#[derive(Clone, Copy)]
+struct Line {
+    a: u64,
+    next: Option<u64>,
 }
 
 impl<'a, J: Job, S: Station> Model for Desk<'a, J, S> {
@@ -50,7 +58,7 @@ impl<'a, J: Job, S: Station> Model for Desk<'a, J, S> {
 
     ghost invariant = { λ d. (d.board.now ≡ S.board) × IsSeatAt S.board S.share d.seat
         × IsHandAt S.deques S.number d.hand
-        × AreMinded J.map J.seeds d.starts d.terminators d.returned d.seat };
+        × AreMinded J.map J.seeds d.mind d.seat };
 }
 
 impl<'a, J: Job, S: Station> Desk<'a, J, S> {
@@ -67,9 +75,8 @@ impl<'a, J: Job, S: Station> Desk<'a, J, S> {
             hand,
             names: Names::new(alloc),
             followed: Known::new(alloc),
-            starts: Known::new(alloc),
-            terminators: Known::new(alloc),
-            returned: Known::new(alloc),
+            mind: Mind::new(alloc),
+            line: None,
             tally: Tally::default(),
             station: PhantomData,
         }
@@ -136,6 +143,23 @@ impl<'a, J: Job, S: Station> Desk<'a, J, S> {
         add_one(&mut self.tally.made);
     }
 
+    /// The next start in the line of `a`, where it was the line of `a` that was seen last.
+    fn seen_behind(&self, a: u64) -> Option<Option<u64>>
+        ensures behind { IfSome result (λ next. IfSome next (λ t. a < t)) }
+        ensures start { IfSome result
+            (λ next. IfSome next (λ t. KnowsSoundly J.map J.seeds self.now (Fact.Start t))) }
+    {
+        let line = self.line?;
+        if line.a != a {
+            return None;
+        }
+        match line.next {
+            Some(t) if a < t && self.mind.starts.has(t) => Some(Some(t)),
+            Some(_) => None,
+            None => Some(None),
+        }
+    }
+
     /// What it has counted.
     pub(crate) fn tally(&self) -> Tally {
         let mut tally = self.tally;
@@ -157,12 +181,14 @@ impl<J: Job, S: Station> Place<J> for Desk<'_, J, S> {
     ghost maps = { λ _. None };
 
     fn want(&mut self, s: u64) -> Result<bool, PlaceEnd> {
-        if self.starts.has(s) {
+        if self.mind.starts.has(s) {
             return Ok(false);
         }
         add_one(&mut self.tally.tries);
-        let new = self.seat.want(self.board, s)?;
-        self.starts.note(s);
+        let (new, next) = self.seat.want_in_line(self.board, s)?;
+        self.line = Some(Line { a: s, next });
+        self.mind.starts.note(s);
+        self.mind.starts.note_some(next);
         Ok(new)
     }
 
@@ -182,12 +208,12 @@ impl<J: Job, S: Station> Place<J> for Desk<'_, J, S> {
     }
 
     fn term(&mut self, k: u64) -> Result<bool, PlaceEnd> {
-        if self.terminators.has(k) {
+        if self.mind.terminators.has(k) {
             return Ok(false);
         }
         add_one(&mut self.tally.tries);
         let new = self.seat.term(self.board, k)?;
-        self.terminators.note(k);
+        self.mind.terminators.note(k);
         Ok(new)
     }
 
@@ -198,16 +224,21 @@ impl<J: Job, S: Station> Place<J> for Desk<'_, J, S> {
 
     fn place_waiter(&mut self, k: u64, w: Waiter) -> Result<bool, PlaceEnd> {
         add_one(&mut self.tally.tries);
-        self.seat.place_waiter(self.board, k, w)
+        let due = self.seat.place_waiter(self.board, k, w)?;
+        self.mind.waiting.note(k, w);
+        if due {
+            self.mind.returned.note(k);
+        }
+        Ok(due)
     }
 
     fn returned(&mut self, k: u64) -> Result<bool, PlaceEnd> {
-        if self.returned.has(k) {
+        if self.mind.returned.has(k) {
             return Ok(false);
         }
         add_one(&mut self.tally.tries);
         let new = self.seat.returned(self.board, k)?;
-        self.returned.note(k);
+        self.mind.returned.note(k);
         Ok(new)
     }
 
@@ -227,23 +258,26 @@ impl<J: Job, S: Station> Place<J> for Desk<'_, J, S> {
     }
 
     fn has_start(&mut self, s: u64) -> Result<bool, PlaceEnd> {
-        if self.starts.has(s) {
+        if self.mind.starts.has(s) {
             return Ok(true);
         }
         add_one(&mut self.tally.tries);
-        let is_start = self.seat.has_start(self.board, s)?;
+        let (is_start, next) = self.seat.starts_from(self.board, s)?;
+        self.line = Some(Line { a: s, next });
+        self.mind.starts.note_some(next);
         if is_start {
-            self.starts.note(s);
+            self.mind.starts.note(s);
         }
         Ok(is_start)
     }
 
     fn start_behind(&mut self, a: u64) -> Result<Option<u64>, PlaceEnd> {
+        if let Some(next) = self.seen_behind(a) {
+            return Ok(next);
+        }
         add_one(&mut self.tally.tries);
         let next = self.seat.start_behind(self.board, a)?;
-        if let Some(t) = next {
-            self.starts.note(t);
-        }
+        self.mind.starts.note_some(next);
         Ok(next)
     }
 
@@ -258,6 +292,10 @@ impl<J: Job, S: Station> Place<J> for Desk<'_, J, S> {
     }
 
     fn untold(&mut self, k: u64) -> Result<Option<Waiter>, PlaceEnd> {
+        if let Some(w) = self.mind.waiter_of(k) {
+            self.mind.waiting.forget(k);
+            return Ok(Some(w));
+        }
         add_one(&mut self.tally.tries);
         self.seat.untold(self.board, k)
     }

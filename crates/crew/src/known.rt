@@ -1,6 +1,6 @@
 //! Addresses that a worker keeps in mind.
 
-ghost use Rattle.std.specs.Prelude.{◌≡◌, ◌⊎◌, ℕ, IsTrue};
+ghost use Rattle.std.specs.Prelude.{◌≡◌, ◌⊎◌, ℕ, Some, IsTrue};
 ghost use Rattle.crew.specs.inner.Known.{Minds};
 
 use std::alloc::Global;
@@ -52,6 +52,15 @@ impl Known {
     {
         if let Some(place) = self.places.get_mut(place_of(a)) {
             *place = a;
+        }
+    }
+
+    /// Keeps the address in mind, where there is one.
+    pub(crate) fn note_some(&mut self, a: Option<u64>)
+        ensures { (b : ℕ) → Minds self.new b → Minds self.old b ⊎ (a ≡ Some b) }
+    {
+        if let Some(a) = a {
+            self.note(a);
         }
     }
 

@@ -17,12 +17,14 @@ mod hall;
 mod hands;
 mod known;
 mod learn;
+mod mind;
 mod names;
 mod station;
 mod tally;
 mod team;
 #[cfg(test)]
 mod tests;
+mod waiting;
 mod worker;
 
 pub use closed::{build, work};

@@ -1,20 +1,29 @@
 -- What a worker keeps in mind.
-use Rattle.std.specs.Prelude.{ℕ, ◌<◌, ◌-◌, ◌^◌, List}
+use Rattle.std.specs.Prelude.{ℕ, ◌<◌, ◌-◌, ◌^◌, List, Option, Some}
 use Rattle.std.specs.List.{Contains}
+use Rattle.cfg_model.specs.declared.state.Waiter.{Waiter}
 use Rattle.cfg_model.specs.Program.Instructions.{InstructionMap}
 use Rattle.cfg_model.specs.Builder.Fact.{Fact}
 use Rattle.board.specs.Seat.{SeatState}
+use Rattle.crew.specs.declared.mind.Mind.{Mind}
+use Rattle.crew.specs.declared.waiting.Placed.{Placed}
 use Rattle.crew.specs.inner.Desk.{KnowsSoundly}
 
 -- The address stands at one of the places. The greatest one stands at those that keep none.
 abbrev pub Minds : List ℕ → ℕ → Type 0
 Minds places a = Contains places a × (a < 2 ^ 64 - 1)
 
--- Of each address that is kept as a start the seat knows, and truly, that it is one; of each that is
--- kept as a terminator, that it is entered; of each that is kept as returning, that it returns.
-pub record AreMinded (map : InstructionMap) (seeds : List ℕ)
-    (starts terminators returning : List ℕ) (seat : SeatState) : Type 0 where
-  pub started : (a : ℕ) → Minds starts a → KnowsSoundly map seeds seat (Fact.Start a)
-  pub entered : (a : ℕ) → Minds terminators a
+-- The waiter stands at one of the places, as one that waits at k.
+abbrev pub IsPlaced : List (Option Placed) → ℕ → Waiter → Type 0
+IsPlaced places k w = Contains places (Some record { at = k; waiter = w })
+
+-- All that is kept in mind the seat knows, and truly: that starts are starts, that terminators are
+-- entered, that those return which are kept as returning, and that waiters wait.
+pub record AreMinded (map : InstructionMap) (seeds : List ℕ) (mind : Mind)
+    (seat : SeatState) : Type 0 where
+  pub started : (a : ℕ) → Minds mind.starts a → KnowsSoundly map seeds seat (Fact.Start a)
+  pub entered : (a : ℕ) → Minds mind.terminators a
       → KnowsSoundly map seeds seat (Fact.Terminator a)
-  pub returned : (a : ℕ) → Minds returning a → KnowsSoundly map seeds seat (Fact.Returned a)
+  pub returned : (a : ℕ) → Minds mind.returned a → KnowsSoundly map seeds seat (Fact.Returned a)
+  pub waits : (k : ℕ) (w : Waiter) → IsPlaced mind.waiting k w
+      → KnowsSoundly map seeds seat (Fact.Waits k w)

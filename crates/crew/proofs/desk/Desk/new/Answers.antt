@@ -6,8 +6,9 @@ invariant_of-result g c = (
   c.requires.seat,
   c.requires.hand,
   record {
-    started = λ a at. absurd (c.new-3.ensures a at);
-    entered = λ a at. absurd (c.new-4.ensures a at);
-    returned = λ a at. absurd (c.new-5.ensures a at);
+    started = λ a at. absurd (c.new-3.ensures.starts a at);
+    entered = λ a at. absurd (c.new-3.ensures.terminators a at);
+    returned = λ a at. absurd (c.new-3.ensures.returned a at);
+    waits = λ k w at. absurd (c.new-3.ensures.waiting k w at);
   },
 )

@@ -7,7 +7,16 @@ use Rattle.std.specs.Prelude.{IfErr}
 use Rattle.core_state.specs.Place.{IsBusyAt}
 use Rattle.board.specs.Seat.{SeatState}
 use Rattle.crew.specs.inner.Desk.{all_lost}
+use Rattle.crew.proofs.Minding.{stays_at, still_minded}
 use Rattle.crew.proofs.desk.DeskPlace.arrive.Goals as goal
+
+pub invariant_of-self : goal.invariant_of-self
+invariant_of-self g c = (
+  c.self.invariant.0,
+  stays_at g.S.Station.board g.S.Station.share c.self.inside.seat c.arrive_along.new.self c.self.invariant.1 c.arrive_along.ensures.stays,
+  c.self.invariant.2,
+  still_minded g.J.Job.map g.J.Job.seeds c.self.inside.mind c.self.inside.seat c.arrive_along.new.self c.self.invariant.3 c.arrive_along.ensures.remembers,
+)
 
 pub arrive_along-requires-clause-reason : goal.arrive_along-requires-clause-reason
 arrive_along-requires-clause-reason g c = seat_reason g.J.Job.map g.J.Job.seeds c.self.inside.seat c.args.self.now c.self.view_is (Event.Arrive c.args.k c.args.s) c.requires.reason

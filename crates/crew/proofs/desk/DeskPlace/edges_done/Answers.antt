@@ -1,15 +1,15 @@
 use Rattle.cfg_model.specs.Builder.Event.{Event}
-use Rattle.crew.proofs.Minding.{stays_at, still_minded}
 use Rattle.crew.proofs.Reasons.{seat_reason}
+use Rattle.crew.proofs.Minding.{stays_at, still_minded}
 use Rattle.crew.proofs.desk.DeskPlace.edges_done.Goals as goal
-
-pub edges_done-requires-clause-reason : goal.edges_done-requires-clause-reason
-edges_done-requires-clause-reason g c = seat_reason g.J.Job.map g.J.Job.seeds c.self.inside.seat c.args.self.now c.self.view_is (Event.EdgesDone c.args.k) c.requires.reason
 
 pub invariant_of-self : goal.invariant_of-self
 invariant_of-self g c = (
   c.self.invariant.0,
   stays_at g.S.Station.board g.S.Station.share c.self.inside.seat c.edges_done.new.self c.self.invariant.1 c.edges_done.ensures.stays,
   c.self.invariant.2,
-  still_minded g.J.Job.map g.J.Job.seeds c.self.inside.starts c.self.inside.terminators c.self.inside.returned c.self.inside.seat c.edges_done.new.self c.self.invariant.3 c.edges_done.ensures.remembers,
+  still_minded g.J.Job.map g.J.Job.seeds c.self.inside.mind c.self.inside.seat c.edges_done.new.self c.self.invariant.3 c.edges_done.ensures.remembers,
 )
+
+pub edges_done-requires-clause-reason : goal.edges_done-requires-clause-reason
+edges_done-requires-clause-reason g c = seat_reason g.J.Job.map g.J.Job.seeds c.self.inside.seat c.args.self.now c.self.view_is (Event.EdgesDone c.args.k) c.requires.reason

@@ -6,14 +6,22 @@ use Rattle.crew.proofs.desk.DeskPlace.returned.Goals as goal
 pub returned-requires-clause-reason : goal.returned-requires-clause-reason
 returned-requires-clause-reason g c = seat_reason g.J.Job.map g.J.Job.seeds c.self.inside.seat c.args.self.now c.self.view_is (Event.Returned c.args.k) c.requires.reason
 
+pub invariant_of-self : goal.invariant_of-self
+invariant_of-self g c = (
+  c.self.invariant.0,
+  stays_at g.S.Station.board g.S.Station.share c.self.inside.seat c.returned.new.self c.self.invariant.1 c.returned.ensures.stays,
+  c.self.invariant.2,
+  still_minded g.J.Job.map g.J.Job.seeds c.self.inside.mind c.self.inside.seat c.returned.new.self c.self.invariant.3 c.returned.ensures.remembers,
+)
+
 pub invariant_of-self-2 : goal.invariant_of-self-2
 invariant_of-self-2 g c =
     let known = c.in_ok-new.ensures.brings.0 in (
       c.self.invariant.0,
       stays_at g.S.Station.board g.S.Station.share c.self.inside.seat c.returned.new.self c.self.invariant.1 c.returned.ensures.stays,
       c.self.invariant.2,
-      returning_minded g.J.Job.map g.J.Job.seeds c.self.inside.starts c.self.inside.terminators c.self.inside.returned c.note.new.self c.args.k c.returned.new.self
-          (still_minded g.J.Job.map g.J.Job.seeds c.self.inside.starts c.self.inside.terminators c.self.inside.returned c.self.inside.seat c.returned.new.self c.self.invariant.3 c.returned.ensures.remembers)
+      returning_minded g.J.Job.map g.J.Job.seeds c.self.inside.mind c.note.new.self c.args.k c.returned.new.self
+          (still_minded g.J.Job.map g.J.Job.seeds c.self.inside.mind c.self.inside.seat c.returned.new.self c.self.invariant.3 c.returned.ensures.remembers)
           c.note.ensures
           (known, c.returned.ensures.truth _ known),
     )

@@ -6,5 +6,5 @@ invariant_of-self g c = (
   c.self.invariant.0,
   stays_at g.S.Station.board g.S.Station.share c.self.inside.seat c.settle.new.self c.self.invariant.1 c.settle.ensures.stays,
   c.self.invariant.2,
-  still_minded g.J.Job.map g.J.Job.seeds c.self.inside.starts c.self.inside.terminators c.self.inside.returned c.self.inside.seat c.settle.new.self c.self.invariant.3 c.settle.ensures.remembers,
+  still_minded g.J.Job.map g.J.Job.seeds c.self.inside.mind c.self.inside.seat c.settle.new.self c.self.invariant.3 c.settle.ensures.remembers,
 )

@@ -1,14 +1,22 @@
 use Rattle.crew.proofs.Minding.{stays_at, still_minded, terminator_minded}
 use Rattle.crew.proofs.desk.DeskPlace.term.Goals as goal
 
+pub invariant_of-self : goal.invariant_of-self
+invariant_of-self g c = (
+  c.self.invariant.0,
+  stays_at g.S.Station.board g.S.Station.share c.self.inside.seat c.term.new.self c.self.invariant.1 c.term.ensures.stays,
+  c.self.invariant.2,
+  still_minded g.J.Job.map g.J.Job.seeds c.self.inside.mind c.self.inside.seat c.term.new.self c.self.invariant.3 c.term.ensures.remembers,
+)
+
 pub invariant_of-self-2 : goal.invariant_of-self-2
 invariant_of-self-2 g c =
     let known = c.in_ok-new.ensures.brings.0 in (
       c.self.invariant.0,
       stays_at g.S.Station.board g.S.Station.share c.self.inside.seat c.term.new.self c.self.invariant.1 c.term.ensures.stays,
       c.self.invariant.2,
-      terminator_minded g.J.Job.map g.J.Job.seeds c.self.inside.starts c.self.inside.terminators c.note.new.self c.self.inside.returned c.args.k c.term.new.self
-          (still_minded g.J.Job.map g.J.Job.seeds c.self.inside.starts c.self.inside.terminators c.self.inside.returned c.self.inside.seat c.term.new.self c.self.invariant.3 c.term.ensures.remembers)
+      terminator_minded g.J.Job.map g.J.Job.seeds c.self.inside.mind c.note.new.self c.args.k c.term.new.self
+          (still_minded g.J.Job.map g.J.Job.seeds c.self.inside.mind c.self.inside.seat c.term.new.self c.self.invariant.3 c.term.ensures.remembers)
           c.note.ensures
           (known, c.term.ensures.truth _ known),
     )

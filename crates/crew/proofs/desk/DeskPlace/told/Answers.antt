@@ -5,7 +5,16 @@ use Rattle.board.specs.Seat.{SeatState}
 use Rattle.crew.specs.inner.Desk.{all_lost}
 use Rattle.crew.proofs.Reasons.{seat_reason}
 use Rattle.crew.proofs.Losing.{never_fewer}
+use Rattle.crew.proofs.Minding.{stays_at, still_minded}
 use Rattle.crew.proofs.desk.DeskPlace.told.Goals as goal
+
+pub invariant_of-self : goal.invariant_of-self
+invariant_of-self g c = (
+  c.self.invariant.0,
+  stays_at g.S.Station.board g.S.Station.share c.self.inside.seat c.told.new.self c.self.invariant.1 c.told.ensures.stays,
+  c.self.invariant.2,
+  still_minded g.J.Job.map g.J.Job.seeds c.self.inside.mind c.self.inside.seat c.told.new.self c.self.invariant.3 c.told.ensures.remembers,
+)
 
 pub told-requires-clause-reason : goal.told-requires-clause-reason
 told-requires-clause-reason g c = seat_reason g.J.Job.map g.J.Job.seeds c.self.inside.seat c.args.self.now c.self.view_is (Event.Told c.args.k c.args.w) c.requires.reason

@@ -1,19 +1,30 @@
 use Rattle.cfg_model.specs.Builder.Event.{Event}
-use Rattle.crew.proofs.Minding.{stays_at, still_minded, start_minded}
+use Rattle.crew.proofs.Minding.{stays_at, still_minded, start_minded, next_minded, next_is_true}
 use Rattle.crew.proofs.Reasons.{seat_reason}
 use Rattle.crew.proofs.desk.DeskPlace.want.Goals as goal
 
-pub want-requires-clause-reason : goal.want-requires-clause-reason
-want-requires-clause-reason g c = seat_reason g.J.Job.map g.J.Job.seeds c.self.inside.seat c.args.self.now c.self.view_is (Event.Want c.args.s) c.requires.reason
+pub want_in_line-requires-clause-reason : goal.want_in_line-requires-clause-reason
+want_in_line-requires-clause-reason g c = seat_reason g.J.Job.map g.J.Job.seeds c.self.inside.seat c.args.self.now c.self.view_is (Event.Want c.args.s) c.requires.reason
+
+pub invariant_of-self : goal.invariant_of-self
+invariant_of-self g c = (
+  c.self.invariant.0,
+  stays_at g.S.Station.board g.S.Station.share c.self.inside.seat c.want_in_line.new.self c.self.invariant.1 c.want_in_line.ensures.stays,
+  c.self.invariant.2,
+  still_minded g.J.Job.map g.J.Job.seeds c.self.inside.mind c.self.inside.seat c.want_in_line.new.self c.self.invariant.3 c.want_in_line.ensures.remembers,
+)
 
 pub invariant_of-self-2 : goal.invariant_of-self-2
 invariant_of-self-2 g c =
     let known = c.in_ok-new.ensures.brings.0 in (
       c.self.invariant.0,
-      stays_at g.S.Station.board g.S.Station.share c.self.inside.seat c.want.new.self c.self.invariant.1 c.want.ensures.stays,
+      stays_at g.S.Station.board g.S.Station.share c.self.inside.seat c.want_in_line.new.self c.self.invariant.1 c.want_in_line.ensures.stays,
       c.self.invariant.2,
-      start_minded g.J.Job.map g.J.Job.seeds c.self.inside.starts c.note.new.self c.self.inside.terminators c.self.inside.returned c.args.s c.want.new.self
-          (still_minded g.J.Job.map g.J.Job.seeds c.self.inside.starts c.self.inside.terminators c.self.inside.returned c.self.inside.seat c.want.new.self c.self.invariant.3 c.want.ensures.remembers)
+      next_minded g.J.Job.map g.J.Job.seeds (record c.self.inside.mind { starts = c.note.new.self }) c.note_some.new.self c.in_ok-new.next c.want_in_line.new.self
+          (start_minded g.J.Job.map g.J.Job.seeds c.self.inside.mind c.note.new.self c.args.s c.want_in_line.new.self
+          (still_minded g.J.Job.map g.J.Job.seeds c.self.inside.mind c.self.inside.seat c.want_in_line.new.self c.self.invariant.3 c.want_in_line.ensures.remembers)
           c.note.ensures
-          (known, c.want.ensures.truth _ known),
+          (known, c.want_in_line.ensures.truth _ known))
+          c.note_some.ensures
+          (next_is_true g.J.Job.map g.J.Job.seeds c.in_ok-new.next c.want_in_line.new.self c.in_ok-new.ensures.start c.want_in_line.ensures.truth),
     )
