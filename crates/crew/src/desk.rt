@@ -124,15 +124,19 @@ impl<'a, J: Job, S: Station> Desk<'a, J, S> {
         self.followed.has(k)
     }
 
-    /// Puts a name, at whose work a try was lost, aside for another one, where it keeps any.
-    pub(crate) fn swap(&mut self, name: Name) -> Name {
+    /// Counts a try that was lost.
+    pub(crate) fn count_lost(&mut self) {
         add_one(&mut self.tally.lost);
-        self.names.swap(name)
+    }
+
+    /// Puts a name off, at whose work tries were lost: into the hand's deque.
+    pub(crate) fn put_off(&mut self, name: Name) {
+        self.names.put_off(&mut self.hand, &mut self.tally, name);
     }
 
     /// Keeps a name, at whose work a try was lost, for later.
     pub(crate) fn put_aside(&mut self, name: Name) {
-        add_one(&mut self.tally.lost);
+        self.count_lost();
         self.names.keep(&mut self.hand, &mut self.tally, name);
     }
 

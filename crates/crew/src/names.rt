@@ -6,7 +6,6 @@ use crate::tally::{Tally, add_one};
 use core_state::Name;
 use std::alloc::Global;
 use std::collections::VecDeque;
-use std::mem;
 use steal_pool::Hand;
 
 /// How many names a worker keeps for itself. What it found before lies in its deque, where others
@@ -70,12 +69,14 @@ impl Names {
         true
     }
 
-    /// Puts a name aside for the newest one, which takes its place. Where there is no other, it
-    /// comes back.
-    pub(crate) fn swap(&mut self, name: Name) -> Name {
-        match self.names.back_mut() {
-            Some(newest) => mem::replace(newest, name),
-            None => name,
+    /// Puts a name off: into the deque, behind all that lie there. Where that gives it back it is
+    /// kept.
+    pub(crate) fn put_off(&mut self, hand: &mut Hand, tally: &mut Tally, name: Name)
+        ensures { IsSameHand hand.old hand.new }
+    {
+        match hand.put(name) {
+            Ok(()) => add_one(&mut tally.put),
+            Err(_) => self.keep(hand, tally, name),
         }
     }
 }

@@ -6,11 +6,11 @@
 pub struct Tally {
     /// Tries to take the turn of a shard.
     pub tries: u64,
-    /// Those of them that found the shard in other hands. The operation was put aside then.
+    /// Those of them that found the shard in other hands. The operation was made again later.
     pub lost: u64,
     /// Names of work that it found and kept for itself.
     pub kept: u64,
-    /// Names that it kept first and put into its deque then.
+    /// Names that it put into its deque: of those that it kept, and those that it put off.
     pub put: u64,
     /// Names that it took from those that it kept.
     pub from_kept: u64,

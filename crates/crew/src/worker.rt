@@ -23,6 +23,10 @@ use work_ops::edges_op;
 /// How often in a row a worker finds no name before it ends.
 const LAST_LOOKS: u32 = 64;
 
+/// How often in a row a worker tries the work of a name at shards that are in other hands before it
+/// puts it off.
+const TRIES: u32 = 3;
+
 /// Lets a worker work, and gives its seat and its hand back.
 pub(crate) fn employ<J: Job, R: Wait, C: Chains, G: Gate>(
     alloc: Global,
@@ -76,11 +80,12 @@ fn work_off<J: Job, S: Station, R: Wait, C: Chains, G: Gate>(
     for _ in hall.rt.forever() {
         match desk.take(hall.rt, hall.pool) {
             Some(name) => {
-                if do_in_turn(hall, desk, number, name).is_err() {
-                    return;
-                }
                 looks = 0;
-                pause.reset();
+                match do_or_put_off(hall, desk, number, name) {
+                    Ok(true) => pause.reset(),
+                    Ok(false) => pause.snooze(),
+                    Err(Memory) => return,
+                }
             }
             None => {
                 looks += 1;
@@ -93,37 +98,39 @@ fn work_off<J: Job, S: Station, R: Wait, C: Chains, G: Gate>(
     }
 }
 
-/// Does the work of a name. Where a shard is in other hands, the work is put aside for the newest
-/// that the worker found, and is done again later.
-fn do_in_turn<J: Job, S: Station, R: Wait, C: Chains, G: Gate>(
+/// Does the work of a name. Whether it was done: where a shard was in other hands at each of a few
+/// tries, the work is put off. Whoever holds the shard may itself be held up by the system, for
+/// milliseconds: the others do what does not need that shard meanwhile.
+fn do_or_put_off<J: Job, S: Station, R: Wait, C: Chains, G: Gate>(
     hall: &Hall<J, R, C, G>,
     desk: &mut Desk<J, S>,
     number: u32,
     name: Name,
-) -> Result<(), Memory>
+) -> Result<bool, Memory>
     requires job { IsJob J.map J.seeds (C.map hall.now.code.now) hall.now.seeds.now }
 {
     let pause = Backoff::new();
-    let mut name = name;
-    for _ in hall.rt.forever() {
+    for _ in 0..TRIES {
         hall.gate.before(number, name.kind, name.key);
         match do_named(desk, hall.code, hall.seeds, name) {
             Ok(Some(k)) => {
                 desk.count_made();
-                return go_on(hall, desk, number, k);
+                go_on(hall, desk, number, k)?;
+                return Ok(true);
             }
             Ok(None) => {
                 desk.count_made();
-                return Ok(());
+                return Ok(true);
             }
             Err(PlaceEnd::Memory) => return Err(Memory),
             Err(PlaceEnd::Busy { .. }) => {
-                name = desk.swap(name);
-                pause.snooze();
+                desk.count_lost();
+                pause.spin();
             }
         }
     }
-    unreachable!()
+    desk.put_off(name);
+    Ok(false)
 }
 
 /// Follows the edges of the terminator `k`, which the worker has just entered: so it need not look
