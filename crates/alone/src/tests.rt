@@ -1,10 +1,10 @@
-//! Worked programs: `sample_program` has them.
+//! Worked programs: `test_programs` has them.
 
 use crate::build_alone;
 use core_state::State;
-use sample_program::{row_6, row_8, row_9, row_10, table_jump};
 use std::process::Abort;
 use std::test::Fail;
+use test_programs::{row_6, row_8, row_9, row_10, table_jump};
 use work_ops::finish;
 
 /// The starts of a state.

@@ -6,15 +6,15 @@ use crate::{Gate, OpenGate, Tally, build, work};
 use alone::build_alone;
 use cfg_model::{Chains, Flow};
 use core_state::{State, WorkKind};
-use sample_program::{
-    Sample, Slot, cut_table, row_6, row_8, row_9, row_10, row_12, row_17, table_jump,
-};
 use std::alloc::Global;
 use std::process::Abort;
 use std::sync::Wait;
 use std::sync::atomic::{AtomicU64, Ordering};
 use std::test::Fail;
 use std::thread::Threads;
+use test_programs::{
+    Sample, Slot, cut_table, row_6, row_8, row_9, row_10, row_12, row_17, table_jump,
+};
 
 /// The numbers of workers that are tried.
 const CREWS: [u32; 5] = [2, 3, 4, 8, 64];

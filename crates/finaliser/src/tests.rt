@@ -6,10 +6,10 @@ ghost use Rattle.std.specs.List.Sorted.{IsNonDecreasing};
 use crate::{Memory, Outline, blocks_and_edges, blocks_and_edges_by};
 use alone::build_alone;
 use cfg_model::{Block, Edge, EdgeKind, EndKind};
-use sample_program::{Sample, row_6, row_8, row_9, row_10, table_jump};
 use std::alloc::Global;
 use std::process::Abort;
 use std::test::Fail;
+use test_programs::{Sample, row_6, row_8, row_9, row_10, table_jump};
 
 fn block(start: u64, end: u64, kind: EndKind) -> Block {
     Block { start, end, kind }

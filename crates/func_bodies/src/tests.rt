@@ -4,10 +4,10 @@ use crate::{functions, functions_by, mark_tails, mark_tails_by};
 use alone::build_alone;
 use cfg_model::{Edge, EdgeKind, Edges, Function, Functions};
 use finaliser::blocks_and_edges;
-use sample_program::{Sample, row_8, row_9, row_10, row_12, row_17};
 use std::alloc::Global;
 use std::process::Abort;
 use std::test::Fail;
+use test_programs::{Sample, row_8, row_9, row_10, row_12, row_17};
 
 /// A function as it is wanted: its entry, whether it may return, and the starts of its blocks.
 type Wanted<'a> = (u64, bool, &'a [u64]);

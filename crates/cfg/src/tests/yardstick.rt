@@ -15,11 +15,11 @@ use code_view::{Code, Cuts};
 use elf_image::Image;
 use elf_symbols::seeds;
 use graph_report::{ReportKind, report};
-use plain_graph::plain_graph;
 use std::alloc::Global;
 use std::process::Abort;
 use std::test::Fail;
 use table_trim::cuts;
+use test_yardstick::plain_graph;
 
 // How many programs are made from numbers.
 const PROGRAMS: u64 = 100;

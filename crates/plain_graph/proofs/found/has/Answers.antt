@@ -1,5 +1,0 @@
-use Rattle.plain_graph.proofs.Members.{contains_iff}
-use Rattle.plain_graph.proofs.found.has.Goals as goal
-
-pub returns : goal.returns
-returns c = rw c.contains.ensures (contains_iff c.args.set.now c.args.a)

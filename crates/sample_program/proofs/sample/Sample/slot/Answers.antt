@@ -1,8 +1,0 @@
-use Rattle.sample_program.proofs.Listed.{list_lawful}
-use Rattle.sample_program.proofs.sample.Sample.slot.Goals as goal
-
-pub returns-in-Some-clause-lawful : goal.returns-in-Some-clause-lawful
-returns-in-Some-clause-lawful c = list_lawful c.args.self.now.slots.now c.args.self.now.targets.now c.args.self.now.lawful
-
-pub returns-in-None-clause-lawful : goal.returns-in-None-clause-lawful
-returns-in-None-clause-lawful c = list_lawful c.args.self.now.slots.now c.args.self.now.targets.now c.args.self.now.lawful

@@ -1,0 +1,55 @@
+//! Tail calls: jumps to the entry of a function from outside of its body.
+
+ghost use Rattle.std.specs.Prelude.{◌≡◌, ◌≢◌, ◌↔◌, ◌<◌, length, Contains, IsTrue, IfSome, IfNone};
+ghost use Rattle.cfg_model.specs.declared.graph.Function.{Function};
+ghost use Rattle.test_yardstick.specs.Inner.Tails.{AreSearchable, IsTailWithin, MarksAt, AreMarksOf};
+
+use crate::blocks::is_listed;
+use cfg_model::{Edge, EdgeKind, Edges, Function};
+
+/// Sets the kind of each jump among the edges that is a tail call.
+pub(crate) fn mark_tails(functions: &[Function], edges: &mut Edges)
+    requires { AreSearchable functions.now }
+    ensures { AreMarksOf functions.now edges.old edges.new }
+{
+    for i in 0..edges.as_slice().len() {
+        mark_tail(functions, edges, i);
+    }
+}
+
+/// Sets the kind of edge number `i` where it is a tail call.
+fn mark_tail(functions: &[Function], edges: &mut Edges, i: usize)
+    requires searchable { AreSearchable functions.now }
+    requires within { i < length edges.old }
+    ensures { MarksAt functions.now i edges.old edges.new }
+{
+    if is_tail(functions, edges.as_slice()[i]) {
+        edges.set_kind(i, EdgeKind::Tail);
+    }
+}
+
+/// Whether this edge is a tail call.
+fn is_tail(functions: &[Function], edge: Edge) -> bool
+    requires { AreSearchable functions.now }
+    ensures { IsTrue result ↔ IsTailWithin functions.now edge }
+{
+    if edge.kind != EdgeKind::Jump {
+        return false;
+    }
+    match find_function(functions, edge.to) {
+        Some(function) => !is_listed(function.body.as_slice(), edge.from),
+        None => false,
+    }
+}
+
+/// The function of this entry, if it is one.
+fn find_function(functions: &[Function], entry: u64) -> Option<&Function>
+    requires { AreSearchable functions.now }
+    ensures some { IfSome result (λ f. Contains functions.now f.now × (f.now.entry ≡ entry)) }
+    ensures none { IfNone result ((f : Function) → Contains functions.now f → f.entry ≢ entry) }
+{
+    match functions.binary_search_by_key(&entry, |f| f.entry) {
+        Ok(i) => Some(&functions[i]),
+        Err(_) => None,
+    }
+}
