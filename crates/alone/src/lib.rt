@@ -4,7 +4,5 @@
 #![tactic(auto)]
 
 mod build;
-#[cfg(test)]
-mod tests;
 
 pub use build::build_alone;

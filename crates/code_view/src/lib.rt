@@ -15,6 +15,3 @@ mod register_jump;
 pub use code::Code;
 pub use cuts::Cuts;
 pub use memory::Memory;
-
-#[cfg(test)]
-mod tests;

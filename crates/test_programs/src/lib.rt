@@ -6,8 +6,6 @@
 
 pub mod rows;
 pub mod sample;
-#[cfg(test)]
-mod tests;
 
 pub use rows::{cut_table, row_6, row_8, row_9, row_10, row_12, row_17, table_jump};
 pub use sample::{Sample, Slot};

@@ -13,8 +13,6 @@ mod functions;
 mod leaders;
 mod outline;
 mod spread;
-#[cfg(test)]
-mod tests;
 
 use crate::closure::closure_of;
 use crate::functions::functions_of;

@@ -1,6 +1,6 @@
 //! Worked programs: `test_programs` has them.
 
-use crate::build_alone;
+use alone::build_alone;
 use core_state::State;
 use std::process::Abort;
 use std::test::Fail;

@@ -1,7 +1,7 @@
 //! The gaps of a few bounds.
 
-use super::*;
 use std::test::Fail;
+use stretches::Stretch;
 
 /// A stretch by its ends.
 fn stretch(after: Option<u64>, last: Option<u64>) -> Stretch {

@@ -3,10 +3,10 @@
 
 ghost use Rattle.std.specs.Prelude.{◌≤◌};
 
-use super::*;
 use cfg_model::{Chains, Flow, term};
 use cfg_vectors::row_file;
 use chain_index::ChainIndex;
+use code_view::{Code, Cuts};
 use elf_image::Image;
 use rv_flow::{RawFlow, flow_of, insn_at};
 use std::process::Abort;

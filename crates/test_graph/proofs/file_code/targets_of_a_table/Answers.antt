@@ -1,5 +1,5 @@
 use Rattle.code_view.proofs.Views.{none-fits}
-use Rattle.code_view.proofs.tests.targets_of_a_table.Goals as goal
+use Rattle.test_graph.proofs.file_code.targets_of_a_table.Goals as goal
 
 pub new-code-requires-clause-cuts : goal.new-code-requires-clause-cuts
 new-code-requires-clause-cuts g c = none-fits _ _ c.none-none.ensures

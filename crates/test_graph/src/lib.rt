@@ -1,0 +1,24 @@
+//! Tests of the crates that build graphs, in a crate of their own: so none of those is proved a
+//! second time for its tests.
+//!
+//! A contract says what an answer is where there is one. It cannot say that memory is left for one,
+//! nor that the definitions which it cites mean what the standard does. So each public call is made
+//! here at least once, and what it answers is compared with worked examples.
+//!
+//! - `listed_programs`: the worked programs of `test_programs`, asked as the programs that they are.
+//! - `yardstick`: their graphs, as `test_yardstick` builds them.
+//! - `file_code`: the code of a file as a program, against walks that decode each instruction.
+//! - `gaps`: the stretches that bounds leave between them.
+//! - `closed_states`: the closed states of the worked programs.
+#![tactic(auto)]
+
+#[cfg(test)]
+mod closed_states;
+#[cfg(test)]
+mod file_code;
+#[cfg(test)]
+mod gaps;
+#[cfg(test)]
+mod listed_programs;
+#[cfg(test)]
+mod yardstick;
