@@ -1,7 +1,9 @@
 //! Rows 6 to 17: what is looked up, against walks that decode each instruction; and of row 13 the
 //! targets of its table.
 
-ghost use Rattle.std.specs.Prelude.{◌≤◌};
+ghost use Rattle.std.specs.Prelude.{◌≡◌, ◌≤◌, IsTrue, IsSome};
+ghost use Rattle.elf_image.specs.Code.{is_code};
+ghost use Rattle.code_view.specs.FileCode.{program_of};
 
 use cfg_model::{Chains, Flow, term};
 use cfg_vectors::row_file;
@@ -9,6 +11,7 @@ use chain_index::ChainIndex;
 use code_view::{Code, Cuts};
 use elf_image::Image;
 use rv_flow::{RawFlow, flow_of, insn_at};
+use std::alloc::Global;
 use std::process::Abort;
 use std::test::Fail;
 
@@ -45,37 +48,54 @@ fn walked(image: &Image, a: u64) -> u64 {
     k
 }
 
-// Compares them for each code address of a row's file.
-fn agree(rt: &(impl Abort + AllocGlobal), row: u32) -> Result<(), Fail>
+// Whether what is looked up for the instruction at `a` is what its walk and its decoding find.
+fn agree_at(image: &Image, index: &ChainIndex, code: &Code, a: u64) -> bool
+    requires same { index.now ≡ image.now }
+    requires code { IsTrue (is_code image.now a) }
+    requires stands { IsSome (program_of code.now a) }
+{
+    let end = walked(image, a);
+    index.term(a) == end
+        && term(code, a) == end
+        && matches!(code.flow(a), Flow::Straight { .. }) == (end != a)
+        && code.length(a) == insn_at(image, a).length
+}
+
+// Whether they agree at each code address of a row's file.
+fn agree(alloc: Global, row: u32) -> Result<bool, Fail>
     requires from { 6 ≤ row }
     requires to { row ≤ 17 }
 {
-    let image = Image::parse(rt.alloc(), row_file(rt.alloc(), row, 0)?)?;
-    let index = ChainIndex::new(rt.alloc(), &image)?;
-    let none = Cuts::none(rt.alloc());
+    let image = Image::parse(alloc, row_file(alloc, row, 0)?)?;
+    let index = ChainIndex::new(alloc, &image)?;
+    let none = Cuts::none(alloc);
     let code = Code::new(&image, &index, &none);
-    assert!(rt; code.has(CODE));
+    let mut all = code.has(CODE);
     for i in 0..1_000 {
         let a = CODE + 2 * i;
         if image.is_code(a) && code.has(a) {
-            let end = walked(&image, a);
-            assert_eq!(rt;
-                index.term(a),
-                end,
-                "the end of the chain of {a} in row {row}"
-            );
-            assert_eq!(rt; term(&code, a), end);
-            assert_eq!(rt; matches!(code.flow(a), Flow::Straight { .. }), end != a);
-            assert_eq!(rt; code.length(a), insn_at(&image, a).length);
+            all = all && agree_at(&image, &index, &code, a);
         }
     }
-    Ok(())
+    Ok(all)
 }
 
 #[test]
 fn chains_end_where_walks_do(rt: HostRuntime) -> Result<(), Fail> {
     for row in 6..18 {
-        agree(&rt, row)?;
+        assert!(rt; agree(rt.alloc(), row)?, "row {row}");
+    }
+    Ok(())
+}
+
+// The targets of the table of row 13; its first instruction has none.
+fn expect_targets(rt: &impl Abort, code: &Code) -> Result<(), Fail> {
+    assert!(rt; code.has(CODE) && code.has(JUMP));
+    assert!(rt; code.targets(CODE)?.is_empty());
+    let targets = code.targets(JUMP)?;
+    assert!(rt; targets.as_slice() == TARGETS.as_slice());
+    for i in 0..8 {
+        assert!(rt; code.target(JUMP, i) == targets[i as usize]);
     }
     Ok(())
 }
@@ -86,14 +106,23 @@ fn targets_of_a_table(rt: HostRuntime) -> Result<(), Fail> {
     let index = ChainIndex::new(rt.alloc(), &image)?;
     let none = Cuts::none(rt.alloc());
     let code = Code::new(&image, &index, &none);
-    assert!(rt; code.has(CODE) && code.has(JUMP));
-    assert!(rt; code.targets(CODE)?.is_empty());
-    let targets = code.targets(JUMP)?;
-    assert_eq!(rt; targets.as_slice(), TARGETS.as_slice());
-    for i in 0..8 {
-        assert_eq!(rt; code.target(JUMP, i), targets[i as usize]);
+    expect_targets(&rt, &code)
+}
+
+// The register jumps of a code, found between one of its bounds and the next.
+fn found_in_parts(alloc: Global, code: &Code, workers: u32) -> Result<Vec<u64>, Fail>
+    requires { 1 ≤ workers }
+{
+    let mut found = Vec::new(alloc);
+    let mut after = None;
+    for bound in code.bounds(alloc, workers)? {
+        let mut part = code.register_jumps_between(alloc, after, Some(bound))?;
+        found.append(&mut part)?;
+        after = Some(bound);
     }
-    Ok(())
+    let mut part = code.register_jumps_between(alloc, after, None)?;
+    found.append(&mut part)?;
+    Ok(found)
 }
 
 #[test]
@@ -103,18 +132,10 @@ fn register_jumps_part_by_part(rt: HostRuntime) -> Result<(), Fail> {
     let none = Cuts::none(rt.alloc());
     let code = Code::new(&image, &index, &none);
     let jumps = code.register_jumps(rt.alloc())?;
-    assert_eq!(rt; jumps.as_slice(), JUMPS.as_slice());
+    assert!(rt; jumps.as_slice() == JUMPS.as_slice());
     for workers in [1, 2, 4, 64] {
-        let mut found = Vec::new(rt.alloc());
-        let mut after = None;
-        for bound in code.bounds(rt.alloc(), workers)? {
-            let mut part = code.register_jumps_between(rt.alloc(), after, Some(bound))?;
-            found.append(&mut part)?;
-            after = Some(bound);
-        }
-        let mut part = code.register_jumps_between(rt.alloc(), after, None)?;
-        found.append(&mut part)?;
-        assert_eq!(rt; found.as_slice(), JUMPS.as_slice());
+        let found = found_in_parts(rt.alloc(), &code, workers)?;
+        assert!(rt; found.as_slice() == JUMPS.as_slice(), "{workers} workers");
     }
     Ok(())
 }

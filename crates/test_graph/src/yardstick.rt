@@ -28,12 +28,15 @@ fn expect(
 
 /// Compares functions.
 fn expect_functions(rt: &impl Abort, functions: &[Function], wanted: &[Wanted]) {
-    assert_eq!(rt; functions.len(), wanted.len());
+    assert!(rt; functions.len() == wanted.len());
     for (function, want) in functions.iter().zip(wanted) {
-        assert_eq!(rt; function.entry, want.0);
-        assert_eq!(rt; function.returns, want.1);
-        assert_eq!(rt; function.body.as_slice(), want.2);
+        assert!(rt; is_wanted(function, want));
     }
+}
+
+/// Whether a function is the one that is wanted.
+fn is_wanted(function: &Function, want: &Wanted) -> bool {
+    function.entry == want.0 && function.returns == want.1 && function.body.as_slice() == want.2
 }
 
 fn block(start: u64, end: u64, kind: EndKind) -> Block {
