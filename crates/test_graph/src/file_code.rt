@@ -125,17 +125,22 @@ fn found_in_parts(alloc: Global, code: &Code, workers: u32) -> Result<Vec<u64>, 
     Ok(found)
 }
 
+// The register jumps of row 15, found in one go and in parts.
+fn expect_register_jumps(rt: &(impl Abort + AllocGlobal), code: &Code) -> Result<(), Fail> {
+    let jumps = code.register_jumps(rt.alloc())?;
+    assert!(rt; jumps.as_slice() == JUMPS.as_slice());
+    for workers in [1, 2, 4, 64] {
+        let found = found_in_parts(rt.alloc(), code, workers)?;
+        assert!(rt; found.as_slice() == JUMPS.as_slice(), "{workers} workers");
+    }
+    Ok(())
+}
+
 #[test]
 fn register_jumps_part_by_part(rt: HostRuntime) -> Result<(), Fail> {
     let image = Image::parse(rt.alloc(), row_file(rt.alloc(), 15, 0)?)?;
     let index = ChainIndex::new(rt.alloc(), &image)?;
     let none = Cuts::none(rt.alloc());
     let code = Code::new(&image, &index, &none);
-    let jumps = code.register_jumps(rt.alloc())?;
-    assert!(rt; jumps.as_slice() == JUMPS.as_slice());
-    for workers in [1, 2, 4, 64] {
-        let found = found_in_parts(rt.alloc(), &code, workers)?;
-        assert!(rt; found.as_slice() == JUMPS.as_slice(), "{workers} workers");
-    }
-    Ok(())
+    expect_register_jumps(&rt, &code)
 }

@@ -2,4 +2,4 @@ use Rattle.code_view.proofs.Views.{none-fits}
 use Rattle.test_graph.proofs.file_code.agree.Goals as goal
 
 pub new-code-requires-clause-cuts : goal.new-code-requires-clause-cuts
-new-code-requires-clause-cuts g c = none-fits _ _ c.none-none.ensures
+new-code-requires-clause-cuts c = none-fits _ _ c.none-none.ensures
