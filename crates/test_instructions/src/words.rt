@@ -1,7 +1,7 @@
 //! The decoder at words from outside: what binutils' assembler makes of at least one instruction
 //! of each row of the table, worked words, and words that no row holds of.
 
-use crate::decode;
+use rv_decode::decode;
 use std::test::Fail;
 
 /// `as -march=rv64ima_zicsr_zifencei`, with operands that set each bit of the immediates.

@@ -1,7 +1,7 @@
 //! The calls on small files.
 
-use super::*;
 use elf_image::{ElfError, Image};
+use jump_table::{Table, entry_target, find_table, target_of};
 use std::alloc::{AllocError, Global};
 use std::test::Fail;
 
