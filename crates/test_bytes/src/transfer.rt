@@ -115,7 +115,7 @@ fn an_input_that_never_fails(rt: HostRuntime) -> Result<(), Fail> {
 }
 
 // No read fails, whatever the bytes are.
-#[tactic(auto, using(cfg_io::proofs::Faults::none_rose))]
+#[tactic(auto, using(crate::proofs::Faults::none_rose))]
 fn read_safely(alloc: Global, input: &mut SafeInput, limit: usize) -> Result<Vec<u8>, ReadEnd>
     requires is_opened { input.old.is_open ≡ true }
     requires small { limit ≤ MAX_LIMIT }
@@ -134,7 +134,7 @@ fn a_sink_that_counts(rt: HostRuntime) -> Result<(), Fail> {
 }
 
 // All is written, whatever it is.
-#[tactic(auto, using(cfg_io::proofs::Faults::none_rose))]
+#[tactic(auto, using(crate::proofs::Faults::none_rose))]
 fn write_safely(sink: &mut CountSink, bytes: &[u8]) -> Result<(), Failed>
     ensures no_fault { OnErr result ⊥ }
 {

@@ -1,8 +1,11 @@
 //! Sections that join, of even and odd sizes, and a word that two sections share.
 
+ghost use Rattle.std.specs.Prelude.{◌≡◌};
+
 use chain_index::{ChainIndex, ChainReaches, one_chain_end};
 use elf_image::{ElfError, Image};
 use std::alloc::Global;
+use std::process::Abort;
 use std::test::Fail;
 
 /// Six code sections, not in the order of their addresses. At 10000 (hexadecimal): `addi x0, x0, 0`
@@ -48,11 +51,26 @@ const CASES: [(u64, u64, Option<u64>); 13] = [
 /// The image of the file with so many bytes of code at 10020 (hexadecimal), up to 10: behind its
 /// `c.nop` they are zeros, which are no instruction.
 fn image(alloc: Global, last_size: u8) -> Result<Image, ElfError> {
-    let mut bytes = Vec::from_slice(alloc, &FILE).map_err(|_| ElfError::Memory)?;
+    let mut bytes = Vec::from_slice(alloc, &FILE)?;
     if let Some(place) = bytes.get_mut(256) {
         *place = last_size;
     }
     Image::parse(alloc, bytes)
+}
+
+fn expect_ends(
+    rt: &impl Abort,
+    image: &Image,
+    index: &ChainIndex,
+    cases: &[(u64, u64, Option<u64>)],
+)
+    requires { index.now ≡ image.now }
+{
+    for &(a, end, next) in cases {
+        assert!(rt; image.is_code(a));
+        assert_eq!(rt; index.term(a), end, "the end of the chain of {a}");
+        assert_eq!(rt; index.next(a), next, "the address behind {a}");
+    }
 }
 
 /// The index may be shared between threads.
@@ -63,11 +81,7 @@ fn chains_end_across_sections(rt: HostRuntime) -> Result<(), Fail> {
     let image = image(rt.alloc(), 2)?;
     let index = ChainIndex::new(rt.alloc(), &image)?;
     shared(&index);
-    for (a, end, next) in CASES {
-        assert!(rt; image.is_code(a));
-        assert_eq!(rt; index.term(a), end, "the end of the chain of {a}");
-        assert_eq!(rt; index.next(a), next, "the address behind {a}");
-    }
+    expect_ends(&rt, &image, &index, CASES.as_slice());
     Ok(())
 }
 
@@ -81,11 +95,8 @@ fn widest_section_elsewhere(rt: HostRuntime) -> Result<(), Fail> {
         (0x10022, 0x10022, None),
         (0x10028, 0x10028, None),
     ];
-    for (a, end, next) in CASES[..12].iter().chain(&last).copied() {
-        assert!(rt; image.is_code(a));
-        assert_eq!(rt; index.term(a), end, "the end of the chain of {a}");
-        assert_eq!(rt; index.next(a), next, "the address behind {a}");
-    }
+    expect_ends(&rt, &image, &index, &CASES[..12]);
+    expect_ends(&rt, &image, &index, last.as_slice());
     Ok(())
 }
 
@@ -113,11 +124,7 @@ fn more_workers(rt: HostRuntime) -> Result<(), Fail> {
     for workers in [1, 2, 64] {
         let reaches = ChainReaches::new_by(&rt, rt.alloc(), &image, workers)?;
         let index = ChainIndex::of(&image, reaches);
-        for (a, end, next) in CASES {
-            assert!(rt; image.is_code(a));
-            assert_eq!(rt; index.term(a), end, "the end of the chain of {a}");
-            assert_eq!(rt; index.next(a), next, "the address behind {a}");
-        }
+        expect_ends(&rt, &image, &index, CASES.as_slice());
     }
     Ok(())
 }
@@ -147,12 +154,10 @@ fn long_run(alloc: Global) -> Result<Image, ElfError> {
         &FILE[392..],
     ];
     for part in parts {
-        bytes.extend_from_slice(part).map_err(|_| ElfError::Memory)?;
+        bytes.extend_from_slice(part)?;
     }
     for _ in 0..25_006 {
-        bytes
-            .extend_from_slice(&[0x13, 0, 0, 0, 1, 0])
-            .map_err(|_| ElfError::Memory)?;
+        bytes.extend_from_slice(&[0x13, 0, 0, 0, 1, 0])?;
     }
     Image::parse(alloc, bytes)
 }
