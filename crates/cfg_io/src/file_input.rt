@@ -52,9 +52,11 @@ impl<R: Files> Input for FileInput<R> {
 
         // A failure counts as one fault, and nothing else does.
         ensures ok_faults { OnOk result
-            (⟦<FileInput<R> as Input>⟧.faults self.new ≡ ⟦<FileInput<R> as Input>⟧.faults self.old) }
+            (⟦<FileInput<R> as Input>⟧.faults self.new
+            ≡ ⟦<FileInput<R> as Input>⟧.faults self.old) }
         ensures err_faults { OnErr result
-            (⟦<FileInput<R> as Input>⟧.faults self.new ≡ one_more (⟦<FileInput<R> as Input>⟧.faults self.old)) }
+            (⟦<FileInput<R> as Input>⟧.faults self.new
+            ≡ one_more (⟦<FileInput<R> as Input>⟧.faults self.old)) }
     {
         match fs::open(&self.rt, path) {
             Ok(file) => {
@@ -72,13 +74,16 @@ impl<R: Files> Input for FileInput<R> {
         requires is_opened { IsOpened (⟦<FileInput<R> as Input>⟧.opened self.old) }
         requires has_room { 0 < length buf.old }
         ensures in_bounds { IfOk result (λ n. n ≤ length buf.new) }
-        ensures stays_opened { ⟦<FileInput<R> as Input>⟧.opened self.new ≡ ⟦<FileInput<R> as Input>⟧.opened self.old }
+        ensures stays_opened { ⟦<FileInput<R> as Input>⟧.opened self.new
+            ≡ ⟦<FileInput<R> as Input>⟧.opened self.old }
 
         // A failure counts as one fault, and nothing else does.
         ensures ok_faults { OnOk result
-            (⟦<FileInput<R> as Input>⟧.faults self.new ≡ ⟦<FileInput<R> as Input>⟧.faults self.old) }
+            (⟦<FileInput<R> as Input>⟧.faults self.new
+            ≡ ⟦<FileInput<R> as Input>⟧.faults self.old) }
         ensures err_faults { OnErr result
-            (⟦<FileInput<R> as Input>⟧.faults self.new ≡ one_more (⟦<FileInput<R> as Input>⟧.faults self.old)) }
+            (⟦<FileInput<R> as Input>⟧.faults self.new
+            ≡ one_more (⟦<FileInput<R> as Input>⟧.faults self.old)) }
     {
         let Some(file) = &mut self.file else {
             unreachable!()
