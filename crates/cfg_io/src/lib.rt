@@ -37,6 +37,3 @@ pub use safe_input::SafeInput;
 pub use sink::Sink;
 pub use std_sink::StdSink;
 pub use writing::write_whole;
-
-#[cfg(test)]
-mod tests;

@@ -1,7 +1,8 @@
 //! A sink over a writer of std.
-ghost use Rattle.std.specs.Prelude.{◌≡◌, ◌≤◌, ◌<◌, length, None, IfSome};
+ghost use Rattle.std.specs.Prelude.{◌≡◌, ◌≤◌, ◌<◌, length, None, IfSome, IfOk};
+ghost use Rattle.std.specs.Prelude.{OnOk, OnErr};
 ghost use Rattle.std.proofs.Math.Nat.{min-le_right};
-ghost use Rattle.cfg_io.specs.Fault.{fault_count, most_faults};
+ghost use Rattle.cfg_io.specs.Fault.{fault_count, most_faults, one_more};
 
 use crate::{Failed, Sink};
 use std::io::Write;
@@ -40,7 +41,18 @@ impl<W: Write> Sink for StdSink<W> {
 
     ghost written = { λ _. None };
 
-    fn write(&mut self, piece: &[u8]) -> Result<usize, Failed> {
+    fn write(&mut self, piece: &[u8]) -> Result<usize, Failed>
+        requires { 0 < length piece.now }
+        ensures some { IfOk result (λ n. 0 < n) }
+        ensures in_bounds { IfOk result (λ n. n ≤ length piece.now) }
+
+        // A failure counts as one fault, and nothing else does.
+        ensures ok_faults { OnOk result
+            (⟦<StdSink<W> as Sink>⟧.faults self.new ≡ ⟦<StdSink<W> as Sink>⟧.faults self.old) }
+        ensures err_faults { OnErr result
+            (⟦<StdSink<W> as Sink>⟧.faults self.new
+            ≡ one_more (⟦<StdSink<W> as Sink>⟧.faults self.old)) }
+    {
         match write_and_flush(&mut self.writer, piece) {
             Some(n) => Ok(n),
             None => {
@@ -51,28 +63,4 @@ impl<W: Write> Sink for StdSink<W> {
     }
 
     ghost faults_fit = { λ x. min-le_right x.faults most_faults };
-}
-
-#[cfg(test)]
-mod tests {
-    use super::*;
-    use std::test::Fail;
-
-    #[test]
-    fn writes_until_there_is_no_room(rt: HostRuntime) -> Result<(), Fail> {
-        let mut list = Vec::new(rt.alloc());
-        let mut sink = StdSink::new(&mut list);
-        assert_eq!(rt; sink.write(b"four")?, 4);
-        assert_eq!(rt; sink.faults, 0);
-        assert_eq!(rt; list.as_slice(), b"four".as_slice());
-
-        // A slice takes no more bytes once it is full.
-        let mut room = [0; 3];
-        let mut sink = StdSink::new(room.as_mut_slice());
-        assert_eq!(rt; sink.write(b"four")?, 3);
-        assert!(rt; sink.write(b"r") == Err(Failed));
-        assert_eq!(rt; sink.faults, 1);
-        assert_eq!(rt; room, *b"fou");
-        Ok(())
-    }
 }

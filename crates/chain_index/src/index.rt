@@ -11,7 +11,7 @@ use crate::lookup::{SectionReaches, count_above, widest};
 use crate::memory::Memory;
 use crate::over_sections::over_sections;
 use crate::reach::section_reaches;
-use crate::sharing::{LEAST_SHARED, MOST_WORKERS, reaches_by, workers_for};
+use crate::sharing::{MOST_WORKERS, reaches_by, workers_for};
 use elf_image::Image;
 use std::alloc::Global;
 use std::marker::Model;
@@ -87,16 +87,15 @@ impl ChainReaches {
         if workers == 1 {
             return ChainReaches::new(alloc, image);
         }
-        ChainReaches::shared(rt, alloc, image, workers, LEAST_SHARED)
+        ChainReaches::shared(rt, alloc, image, workers)
     }
 
-    /// The same, with threads for sections of `least` halfwords or more.
-    pub(crate) fn shared<R: Threads + Sync>(
+    /// The same, with threads for longer sections.
+    fn shared<R: Threads + Sync>(
         rt: &R,
         alloc: Global,
         image: &Image,
         workers: u32,
-        least: u64,
     ) -> Result<ChainReaches, Memory>
         requires { 1 ≤ workers }
         ensures { IfOk result (AreReachesOf image.now) }
@@ -110,7 +109,7 @@ impl ChainReaches {
                 requires behind { Reaches image.now (s.address + 2 * (s.size / 2)) behind }
                 requires workers { 0 < workers }
             {
-                let count = workers_for(s.size / 2, workers, least);
+                let count = workers_for(s.size / 2, workers);
                 reaches_by(rt, alloc, image, forms, s, behind, count)
             },
         )?;

@@ -28,6 +28,3 @@ pub use index::{ChainIndex, ChainReaches};
 pub use laws::one_chain_end;
 pub use memory::Memory;
 pub use sharing::MOST_WORKERS;
-
-#[cfg(test)]
-mod tests;

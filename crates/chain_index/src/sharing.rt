@@ -17,15 +17,14 @@ use std::thread::Threads;
 pub const MOST_WORKERS: u32 = 64;
 
 /// How many halfwords a section has at least for which threads are started.
-pub(crate) const LEAST_SHARED: u64 = 1 << 16;
+const LEAST_SHARED: u64 = 1 << 16;
 
-/// How many of the workers a section of so many halfwords takes: one, where it has fewer than
-/// `least`.
-pub(crate) fn workers_for(halfwords: u64, workers: usize, least: u64) -> usize
+/// How many of the workers a section of so many halfwords takes: one, if it is short.
+pub(crate) fn workers_for(halfwords: u64, workers: usize) -> usize
     requires { 0 < workers }
     ensures { 0 < result }
 {
-    if halfwords < least { 1 } else { workers }
+    if halfwords < LEAST_SHARED { 1 } else { workers }
 }
 
 /// The answer of [`section_reaches`]. Each worker makes the reaches of a stretch; where there are

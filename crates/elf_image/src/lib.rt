@@ -23,6 +23,3 @@ pub use fault::{ElfError, Fault};
 pub use image::Image;
 pub use number::{u16_at, u32_at, u64_at};
 pub use section::{Section, Span};
-
-#[cfg(test)]
-mod tests;

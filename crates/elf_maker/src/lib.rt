@@ -12,6 +12,3 @@ mod symbol;
 pub use make::make_elf;
 pub use memory::Memory;
 pub use parts::{Bytes, MadeSymbol, MadeSymbols, Parts};
-
-#[cfg(test)]
-mod tests;

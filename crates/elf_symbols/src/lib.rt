@@ -10,6 +10,3 @@ mod table;
 
 pub use read::seeds;
 pub use seed::{Seed, Seeds};
-
-#[cfg(test)]
-mod tests;

@@ -19,6 +19,3 @@ mod width;
 pub use entries::entry_target;
 pub use find::{find_table, target_of};
 pub use table::Table;
-
-#[cfg(test)]
-mod tests;

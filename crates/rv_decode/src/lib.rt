@@ -6,8 +6,6 @@ pub mod fields;
 mod instructions;
 mod laws;
 mod opcodes;
-#[cfg(test)]
-mod tests;
 
 pub use decoder::decode;
 pub use instructions::{

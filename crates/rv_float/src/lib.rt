@@ -9,8 +9,6 @@
 mod decoder;
 mod forms;
 pub mod laws;
-#[cfg(test)]
-mod tests;
 
 pub use decoder::decode_float;
 pub use forms::expand_float;

@@ -12,6 +12,3 @@ pub use laws::{each_word_is_its_instruction, every_expansion_decodes};
 pub use placed::{Placed, insn_at};
 pub use raw::{RawFlow, flow_of, raw_flow};
 pub use straight::StraightForms;
-
-#[cfg(test)]
-mod tests;

@@ -14,7 +14,5 @@ pub mod halfword;
 mod instructions;
 pub mod laws;
 mod rows;
-#[cfg(test)]
-mod tests;
 
 pub use rows::expand;

@@ -1,7 +1,7 @@
 //! The calls on small files.
 
-use super::*;
 use elf_image::{ElfError, Image};
+use jump_table::{Table, entry_target, find_table, target_of};
 use std::alloc::{AllocError, Global};
 use std::test::Fail;
 
@@ -165,8 +165,7 @@ fn file(alloc: Global, case: &Case) -> Result<Vec<u8>, AllocError> {
 }
 
 fn image(alloc: Global, case: &Case) -> Result<Image, ElfError> {
-    let bytes = file(alloc, case).map_err(|_| ElfError::Memory)?;
-    Image::parse(alloc, bytes)
+    Image::parse(alloc, file(alloc, case)?)
 }
 
 /// The table of the jump at `jump`, with the targets of the first and the last entry by the table.

@@ -1,8 +1,8 @@
 //! The float table and the four compressed forms at words from outside: what binutils' assembler
 //! makes of at least one instruction of each row, worked words, and words that no row holds of.
 
-use crate::{decode_float, expand_float};
 use rv_decode::Insn;
+use rv_float::{decode_float, expand_float};
 use std::process::Abort;
 use std::test::Fail;
 

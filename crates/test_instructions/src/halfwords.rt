@@ -1,6 +1,6 @@
 //! `expand` on pairs from outside, and over all halfwords against counts made by hand.
 
-use crate::rows::expand;
+use rvc_expand::expand;
 
 /// Halfwords with the instruction that each stands for, and halfwords that stand for none.
 #[test]

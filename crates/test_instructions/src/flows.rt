@@ -1,7 +1,10 @@
 //! The calls on a small file, whose instructions were encoded by an assembler.
 
-use super::*;
 use elf_image::{ElfError, Image};
+use rv_flow::{
+    RawFlow, StraightForms, each_word_is_its_instruction, every_expansion_decodes, flow_of,
+    insn_at, raw_flow,
+};
 use std::alloc::Global;
 use std::test::Fail;
 
@@ -38,8 +41,7 @@ const CASES: [(u64, u8, RawFlow); 8] = [
 ];
 
 fn image(alloc: Global) -> Result<Image, ElfError> {
-    let bytes = Vec::from_slice(alloc, &FILE).map_err(|_| ElfError::Memory)?;
-    Image::parse(alloc, bytes)
+    Image::parse(alloc, Vec::from_slice(alloc, &FILE)?)
 }
 
 #[test]

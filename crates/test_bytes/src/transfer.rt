@@ -1,12 +1,15 @@
 //! Whole readings and writings over objects in memory that fail at a given call, or never.
 ghost use Rattle.std.specs.Prelude.{◌≡◌, ◌≤◌, true, IsErrOf, OnErr};
+ghost use Rattle.cfg_io.specs.Opened.{IsOpened};
 
-use crate::{
-    CountSink, Failed, Input, MAX_LIMIT, MemInput, MemSink, ReadEnd, SafeInput, Sink, read_whole,
-    write_whole,
+use cfg_io::{
+    CountSink, Failed, FileInput, Input, MAX_LIMIT, MemInput, MemSink, ReadEnd, SafeInput, Sink,
+    StdSink, read_whole, write_whole,
 };
 use std::alloc::Global;
+use std::process::Abort;
 use std::test::Fail;
+use std::{env, fs, process};
 
 // `count` bytes, no two neighbours alike.
 fn sample(rt: &HostRuntime, count: usize) -> Result<Vec<u8>, Fail> {
@@ -100,22 +103,14 @@ fn a_sink_fails_at_its_calls(rt: HostRuntime) -> Result<(), Fail> {
 
 #[test]
 fn an_input_that_never_fails(rt: HostRuntime) -> Result<(), Fail> {
-    let alloc = rt.alloc();
-    let mut input = SafeInput::new(sample(&rt, 10)?);
-    input.open("any path")?;
-    let mut buf = [0; 4];
-    assert_eq!(rt; input.read(&mut buf)?, 4);
-    assert_eq!(rt; buf, [0, 1, 2, 3]);
-    assert_eq!(rt; input.read(&mut buf)?, 4);
-    assert_eq!(rt; buf, [4, 5, 6, 7]);
-    assert_eq!(rt; input.read(&mut buf)?, 2);
-    assert_eq!(rt; buf, [8, 9, 6, 7]);
-    assert_eq!(rt; input.read(&mut buf)?, 0);
-
     let bytes = sample(&rt, 70_000)?;
     let mut input = SafeInput::new(bytes.clone()?);
     input.open("any path")?;
-    assert!(rt; read_safely(alloc, &mut input, 70_000)? == bytes);
+    let mut buf = [9; 4];
+    assert_eq!(rt; input.read(&mut buf)?, 4);
+    assert_eq!(rt; buf, [0, 1, 2, 3]);
+    let rest = read_safely(rt.alloc(), &mut input, 70_000)?;
+    assert!(rt; rest.as_slice() == bytes.get(4..).ok_or("short")?);
     Ok(())
 }
 
@@ -133,10 +128,8 @@ fn read_safely(alloc: Global, input: &mut SafeInput, limit: usize) -> Result<Vec
 fn a_sink_that_counts(rt: HostRuntime) -> Result<(), Fail> {
     let mut sink = CountSink::new();
     assert_eq!(rt; sink.write(b"four")?, 4);
-    assert_eq!(rt; sink.write(b"and five more")?, 13);
-    assert_eq!(rt; sink.count(), 17);
     write_safely(&mut sink, &sample(&rt, 70_000)?)?;
-    assert_eq!(rt; sink.count(), 70_017);
+    assert_eq!(rt; sink.count(), 70_004);
     Ok(())
 }
 
@@ -146,4 +139,51 @@ fn write_safely(sink: &mut CountSink, bytes: &[u8]) -> Result<(), Failed>
     ensures no_fault { OnErr result ⊥ }
 {
     write_whole(sink, bytes)
+}
+
+#[test]
+fn writes_until_there_is_no_room(rt: HostRuntime) -> Result<(), Fail> {
+    let mut list = Vec::new(rt.alloc());
+    let mut sink = StdSink::new(&mut list);
+    assert_eq!(rt; sink.write(b"four")?, 4);
+    assert_eq!(rt; list.as_slice(), b"four".as_slice());
+
+    // A slice takes no more bytes once it is full.
+    let mut room = [0; 3];
+    let mut sink = StdSink::new(room.as_mut_slice());
+    assert_eq!(rt; sink.write(b"four")?, 3);
+    assert!(rt; sink.write(b"r") == Err(Failed));
+    assert_eq!(rt; room, *b"fou");
+    Ok(())
+}
+
+#[test]
+fn a_missing_file_is_not_opened(rt: HostRuntime) {
+    let mut missing = FileInput::new(&rt);
+    assert!(rt; missing.open("/no/such/file") == Err(Failed));
+    assert!(rt; missing.open("") == Err(Failed));
+}
+
+#[test]
+fn reads_a_file(rt: HostRuntime) -> Result<(), Fail> {
+    let folder = env::temp_dir(&rt)?;
+    let id = process::id(rt.process());
+    let path = format!(in rt.alloc(); "{}/test_bytes_{id}", folder.display())?;
+    fs::write(&rt, path.as_str(), "four")?;
+    let mut input = FileInput::new(&rt);
+    let opened = input.open(path.as_str());
+    fs::remove_file(&rt, path.as_str())?;
+    opened?;
+    expect_four(&rt, &mut input)
+}
+
+// The bytes of the file, and its end.
+fn expect_four<I: Input>(rt: &impl Abort, input: &mut I) -> Result<(), Fail>
+    requires { IsOpened (I.opened input.old) }
+{
+    let mut buf = [0; 8];
+    assert_eq!(rt; input.read(&mut buf)?, 4);
+    assert_eq!(rt; buf, *b"four\0\0\0\0");
+    assert_eq!(rt; input.read(&mut buf)?, 0);
+    Ok(())
 }

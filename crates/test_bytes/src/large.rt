@@ -1,6 +1,6 @@
 //! Made files against those of another program, which was written from the layout alone.
 
-use super::*;
+use big_case::big_file;
 use std::test::Fail;
 
 /// The words that the slots of the program of four functions begin with.

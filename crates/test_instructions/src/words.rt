@@ -1,11 +1,13 @@
 //! The decoder at words from outside: what binutils' assembler makes of at least one instruction
 //! of each row of the table, worked words, and words that no row holds of.
 
-use crate::decode;
+use rv_decode::decode;
+use std::alloc::Global;
+use std::process::Abort;
 use std::test::Fail;
 
 /// `as -march=rv64ima_zicsr_zifencei`, with operands that set each bit of the immediates.
-const ASSEMBLED: [(u32, &str); 98] = [
+static ASSEMBLED: [(u32, &str); 98] = [
     (0xfffff2b7, "Lui { rd: 5, imm: -4096 }"),
     (0x7ffff337, "Lui { rd: 6, imm: 2147479552 }"),
     (0x80000397, "Auipc { rd: 7, imm: -2147483648 }"),
@@ -211,7 +213,7 @@ const ASSEMBLED: [(u32, &str); 98] = [
     ),
 ];
 
-const WORKED: [(u32, &str); 19] = [
+static WORKED: [(u32, &str); 19] = [
     (0x00000013, "Imm { kind: Addi, rd: 0, rs1: 0, imm: 0 }"),
     (0x00700793, "Imm { kind: Addi, rd: 15, rs1: 0, imm: 7 }"),
     (0x00251513, "Imm { kind: Slli, rd: 10, rs1: 10, imm: 2 }"),
@@ -248,7 +250,7 @@ const WORKED: [(u32, &str); 19] = [
     ),
 ];
 
-const REFUSED: [(u32, &str); 41] = [
+static REFUSED: [(u32, &str); 41] = [
     (0x00000000, "no opcode"),
     (0xffffffff, "no opcode"),
     (0x00000010, "the low bits of a 16-bit form"),
@@ -292,16 +294,19 @@ const REFUSED: [(u32, &str); 41] = [
     (0x0000000b, "custom-0"),
 ];
 
-#[test]
-fn decodes(rt: HostRuntime) -> Result<(), Fail> {
-    for table in [ASSEMBLED.as_slice(), WORKED.as_slice()] {
-        for (word, want) in table {
-            let found = decode(*word).ok_or("a word of the table is refused")?;
-            let text = format!(in rt.alloc(); "{found:?}")?;
-            assert_eq!(rt; text.as_str(), *want, "at {word:08x}");
-        }
+fn expect_insns(rt: &impl Abort, alloc: Global, table: &[(u32, &str)]) -> Result<(), Fail> {
+    for (word, want) in table {
+        let found = decode(*word).ok_or("a word of the table is refused")?;
+        let text = format!(in alloc; "{found:?}")?;
+        assert_eq!(rt; text.as_str(), *want, "at {word:08x}");
     }
     Ok(())
+}
+
+#[test]
+fn decodes(rt: HostRuntime) -> Result<(), Fail> {
+    expect_insns(&rt, rt.alloc(), ASSEMBLED.as_slice())?;
+    expect_insns(&rt, rt.alloc(), WORKED.as_slice())
 }
 
 #[test]

@@ -1,8 +1,11 @@
 //! Sections that join, of even and odd sizes, and a word that two sections share.
 
-use super::*;
+ghost use Rattle.std.specs.Prelude.{◌≡◌};
+
+use chain_index::{ChainIndex, ChainReaches, one_chain_end};
 use elf_image::{ElfError, Image};
 use std::alloc::Global;
+use std::process::Abort;
 use std::test::Fail;
 
 /// Six code sections, not in the order of their addresses. At 10000 (hexadecimal): `addi x0, x0, 0`
@@ -48,11 +51,26 @@ const CASES: [(u64, u64, Option<u64>); 13] = [
 /// The image of the file with so many bytes of code at 10020 (hexadecimal), up to 10: behind its
 /// `c.nop` they are zeros, which are no instruction.
 fn image(alloc: Global, last_size: u8) -> Result<Image, ElfError> {
-    let mut bytes = Vec::from_slice(alloc, &FILE).map_err(|_| ElfError::Memory)?;
+    let mut bytes = Vec::from_slice(alloc, &FILE)?;
     if let Some(place) = bytes.get_mut(256) {
         *place = last_size;
     }
     Image::parse(alloc, bytes)
+}
+
+fn expect_ends(
+    rt: &impl Abort,
+    image: &Image,
+    index: &ChainIndex,
+    cases: &[(u64, u64, Option<u64>)],
+)
+    requires { index.now ≡ image.now }
+{
+    for &(a, end, next) in cases {
+        assert!(rt; image.is_code(a));
+        assert_eq!(rt; index.term(a), end, "the end of the chain of {a}");
+        assert_eq!(rt; index.next(a), next, "the address behind {a}");
+    }
 }
 
 /// The index may be shared between threads.
@@ -63,11 +81,7 @@ fn chains_end_across_sections(rt: HostRuntime) -> Result<(), Fail> {
     let image = image(rt.alloc(), 2)?;
     let index = ChainIndex::new(rt.alloc(), &image)?;
     shared(&index);
-    for (a, end, next) in CASES {
-        assert!(rt; image.is_code(a));
-        assert_eq!(rt; index.term(a), end, "the end of the chain of {a}");
-        assert_eq!(rt; index.next(a), next, "the address behind {a}");
-    }
+    expect_ends(&rt, &image, &index, CASES.as_slice());
     Ok(())
 }
 
@@ -81,11 +95,8 @@ fn widest_section_elsewhere(rt: HostRuntime) -> Result<(), Fail> {
         (0x10022, 0x10022, None),
         (0x10028, 0x10028, None),
     ];
-    for (a, end, next) in CASES[..12].iter().chain(&last).copied() {
-        assert!(rt; image.is_code(a));
-        assert_eq!(rt; index.term(a), end, "the end of the chain of {a}");
-        assert_eq!(rt; index.next(a), next, "the address behind {a}");
-    }
+    expect_ends(&rt, &image, &index, &CASES[..12]);
+    expect_ends(&rt, &image, &index, last.as_slice());
     Ok(())
 }
 
@@ -106,40 +117,33 @@ fn bounds_cut_evenly(rt: HostRuntime) -> Result<(), Fail> {
     Ok(())
 }
 
-/// So many workers, with threads for sections of each size, give what one thread does.
+/// So many workers give what one does; for sections as short as these no thread is started.
 #[test]
 fn more_workers(rt: HostRuntime) -> Result<(), Fail> {
     let image = image(rt.alloc(), 2)?;
-    assert!(rt; image.is_code(0x10000));
-    let reaches = ChainReaches::new_by(&rt, rt.alloc(), &image, 64)?;
-    let short = ChainIndex::of(&image, reaches);
-    assert_eq!(rt; short.term(0x10000), 0x10010);
-    for workers in [1, 2, 4, 64] {
-        let reaches = ChainReaches::shared(&rt, rt.alloc(), &image, workers, 0)?;
+    for workers in [1, 2, 64] {
+        let reaches = ChainReaches::new_by(&rt, rt.alloc(), &image, workers)?;
         let index = ChainIndex::of(&image, reaches);
-        for (a, end, next) in CASES {
-            assert!(rt; image.is_code(a));
-            assert_eq!(rt; index.term(a), end, "the end of the chain of {a}");
-            assert_eq!(rt; index.next(a), next, "the address behind {a}");
-        }
+        expect_ends(&rt, &image, &index, CASES.as_slice());
     }
     Ok(())
 }
 
-/// The address, the offset and the size of a section of 60 bytes at 20000 (hexadecimal), at the end
-/// of the file above.
+/// The address, the offset and the size of a section of 150,000 bytes at 20000 (hexadecimal), at
+/// the end of the file above: 75,000 halfwords, for which threads are started.
 const LONG_RUN: [u8; 24] = [
-    0, 0, 2, 0, 0, 0, 0, 0, 0xE0, 1, 0, 0, 0, 0, 0, 0, 60, 0, 0, 0, 0, 0, 0, 0,
+    0, 0, 2, 0, 0, 0, 0, 0, 0xE0, 1, 0, 0, 0, 0, 0, 0, 0xF0, 0x49, 2, 0, 0, 0, 0, 0,
 ];
 
 /// Those of a section of 33 bytes that joins it.
 const ITS_REST: [u8; 24] = [
-    0x3C, 0, 2, 0, 0, 0, 0, 0, 0x1C, 2, 0, 0, 0, 0, 0, 0, 33, 0, 0, 0, 0, 0, 0, 0,
+    0xF0, 0x49, 4, 0, 0, 0, 0, 0, 0xD0, 0x4B, 2, 0, 0, 0, 0, 0, 33, 0, 0, 0, 0, 0, 0, 0,
 ];
 
 /// An image with one long run at 20000 (hexadecimal), over two sections that join: `addi x0, x0, 0`
-/// and `c.nop` by turns, 46 halfwords, of which the second section has the last 16, and behind them
-/// a single byte. The last halfword is the lower half of an instruction that is not there whole.
+/// and `c.nop` by turns, 75,016 halfwords, of which the second section has the last 16, and behind
+/// them a single byte. The last halfword is the lower half of an instruction that is not there
+/// whole.
 fn long_run(alloc: Global) -> Result<Image, ElfError> {
     let mut bytes = Vec::new(alloc);
     let parts = [
@@ -150,27 +154,25 @@ fn long_run(alloc: Global) -> Result<Image, ElfError> {
         &FILE[392..],
     ];
     for part in parts {
-        bytes.extend_from_slice(part).map_err(|_| ElfError::Memory)?;
+        bytes.extend_from_slice(part)?;
     }
-    for _ in 0..16 {
-        bytes
-            .extend_from_slice(&[0x13, 0, 0, 0, 1, 0])
-            .map_err(|_| ElfError::Memory)?;
+    for _ in 0..25_006 {
+        bytes.extend_from_slice(&[0x13, 0, 0, 0, 1, 0])?;
     }
     Image::parse(alloc, bytes)
 }
 
-/// The run goes over several stretches, which begin at either instruction and, of two workers, in
-/// the middle of the one of four bytes.
+/// The run goes over several stretches, which begin at either instruction and in the middle of the
+/// one of four bytes.
 #[test]
 fn long_run_in_stretches(rt: HostRuntime) -> Result<(), Fail> {
     let image = long_run(rt.alloc())?;
     for workers in [1, 2, 3, 4, 7, 64] {
-        let reaches = ChainReaches::shared(&rt, rt.alloc(), &image, workers, 0)?;
+        let reaches = ChainReaches::new_by(&rt, rt.alloc(), &image, workers)?;
         let index = ChainIndex::of(&image, reaches);
-        for i in 0..46u64 {
+        for i in 0..75_016u64 {
             let a = 0x20000 + 2 * i;
-            let end = if i % 3 == 1 { a } else { 0x2005A };
+            let end = if i % 3 == 1 { a } else { 0x44A0E };
             assert!(rt; image.is_code(a));
             assert_eq!(rt;
                 index.term(a),

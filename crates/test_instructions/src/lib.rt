@@ -1,0 +1,26 @@
+//! Tests of the crates that read instructions.
+//!
+//! Each test tells something that no contract can say: that the definitions fit what an assembler
+//! makes of each instruction, that a call answers while there is memory, and that several threads
+//! make an index.
+//!
+//! - `words`: 32-bit instructions (`rv_decode`).
+//! - `halfwords`: 16-bit instructions (`rvc_expand`).
+//! - `floats`: instructions of floating point (`rv_float`).
+//! - `flows`: where an instruction sends control (`rv_flow`).
+//! - `chains`: where straight runs end (`chain_index`).
+//! - `tables`: the table of a jump through a register (`jump_table`).
+#![tactic(auto)]
+
+#[cfg(test)]
+mod chains;
+#[cfg(test)]
+mod floats;
+#[cfg(test)]
+mod flows;
+#[cfg(test)]
+mod halfwords;
+#[cfg(test)]
+mod tables;
+#[cfg(test)]
+mod words;
