@@ -3,10 +3,10 @@ ghost use Rattle.std.specs.Prelude.{◌≡◌, ◌≢◌, ◌<◌, ℕ};
 ghost use Rattle.shares.specs.Share.{IsSame};
 ghost use Rattle.turn_slots.specs.Seat.{HoldsNothing, Holds};
 
-use crate::{Fits, Hold, Taken, TurnSeat, Turns};
 use std::test::Fail;
 use std::thread::Threads;
 use std::{mem, thread};
+use turn_slots::{Fits, Hold, Taken, TurnSeat, Turns};
 
 // Each value fits each slot.
 #[derive(Drop)]

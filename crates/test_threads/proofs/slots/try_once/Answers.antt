@@ -1,6 +1,6 @@
 use Rattle.std.proofs.Common.{refl}
 use Rattle.turn_slots.proofs.TurnProofs.{gives_back}
-use Rattle.turn_slots.proofs.tests.try_once.Goals as goal
+use Rattle.test_threads.proofs.slots.try_once.Goals as goal
 
 pub returns-in-Ok-clause-holds : goal.returns-in-Ok-clause-holds
 returns-in-Ok-clause-holds c =

@@ -1,5 +1,5 @@
 use Rattle.steal_pool.specs.Pool.{IsSameHand}
-use Rattle.steal_pool.proofs.tests.work.Given as goal
+use Rattle.test_threads.proofs.stealing.work.Given as goal
 
 -- it is still the same hand
 abbrev pub invariant-loop-k : goal.invariant-loop-k

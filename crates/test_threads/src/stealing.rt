@@ -4,18 +4,14 @@
 ghost use Rattle.std.specs.Prelude.{◌≡◌, ◌<◌, IfOk, IfSome};
 ghost use Rattle.steal_pool.specs.Pool.{workers_of, IsHandOf, IsSameHand};
 
-use crate::deques::{Deques, Round, Tried, first_of};
-use crate::hand::Hand;
-use crate::memory::Memory;
-use crate::names::Names;
-use crate::noted::{Find, Noted};
-use crate::pool::Pool;
 use core_state::{Name, WorkKind};
 use std::alloc::Global;
 use std::process::Abort;
 use std::sync::Wait;
 use std::test::Fail;
 use std::thread::{Threads, join};
+use steal_pool::memory::Memory;
+use steal_pool::{Deques, Hand, Names, Pool, Round, Tried, first_of};
 
 /// How many names each thread puts.
 const PUTS: u64 = 300;
@@ -114,16 +110,18 @@ fn both<R: Threads + Wait + Sync>(
     )
 }
 
-/// Three deques with answers that are fixed beforehand.
+/// Three deques with answers that are fixed beforehand. A try that would get a second name is
+/// beaten.
 #[derive(Drop)]
 struct Script {
     answers: [Tried; 3],
     misses: u64,
-    noted: Noted,
+    got: Option<Name>,
 }
 
 impl Deques for Script {
     ghost use Rattle.std.specs.Prelude.{⊤};
+    ghost use Rattle.std.specs.Option.{option_to_list};
 
     ghost size = { λ _. 3 };
 
@@ -131,23 +129,23 @@ impl Deques for Script {
 
     ghost beaten = { λ s _. s.misses };
 
-    ghost got = { λ s. s.noted.names };
+    ghost got = { λ s. option_to_list s.got };
 
     ghost try_made = { λ _ _ _ _. ⊤ };
 
     fn try_end(&mut self, i: u32) -> Tried {
-        match self.answers[i as usize] {
-            Tried::Got { name } => {
-                self.noted = Noted::with(&self.noted, &Find { name });
+        match (self.answers[i as usize], self.got) {
+            (Tried::Got { name }, None) => {
+                self.got = Some(name);
                 Tried::Got { name }
             }
-            Tried::Beaten => {
-                self.misses = self.misses.saturating_add(1);
-                Tried::Beaten
-            }
-            Tried::Empty => {
+            (Tried::Empty, _) => {
                 self.misses = self.misses.saturating_add(1);
                 Tried::Empty
+            }
+            _ => {
+                self.misses = self.misses.saturating_add(1);
+                Tried::Beaten
             }
         }
     }
@@ -160,7 +158,7 @@ fn round_over(answers: [Tried; 3], own: u32) -> Round
     let mut script = Script {
         answers,
         misses: 0,
-        noted: Noted::new(),
+        got: None,
     };
     first_of(&mut script, own, 3)
 }

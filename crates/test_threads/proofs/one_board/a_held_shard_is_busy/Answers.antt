@@ -4,7 +4,7 @@ use Rattle.board.specs.Slots.{slot_of}
 use Rattle.board.specs.Seat.{SeatState, HoldsNothing, first_seat}
 use Rattle.board.proofs.Ends.{nothing_held}
 use Rattle.board.proofs.LawProofs.{still_nothing, let_go_holds}
-use Rattle.board.proofs.tests.a_held_shard_is_busy.Goals as goal
+use Rattle.test_threads.proofs.one_board.a_held_shard_is_busy.Goals as goal
 
 pub split-first-requires-clause-nothing : goal.split-first-requires-clause-nothing
 split-first-requires-clause-nothing g c =

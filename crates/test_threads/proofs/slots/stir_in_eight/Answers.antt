@@ -1,7 +1,7 @@
 use Rattle.std.proofs.Common.{subst, sym, ap}
 use Rattle.shares.specs.Share.{Share, IsSame}
 use Rattle.turn_slots.proofs.TurnProofs.{rejoined}
-use Rattle.turn_slots.proofs.tests.stir_in_four.Goals as goal
+use Rattle.test_threads.proofs.slots.stir_in_eight.Goals as goal
 
 pub returns-clause-share : goal.returns-clause-share
 returns-clause-share g c =

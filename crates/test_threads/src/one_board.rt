@@ -2,9 +2,9 @@
 ghost use Rattle.std.specs.Prelude.{◌≡◌};
 ghost use Rattle.std.specs.Option.{option_map};
 ghost use Rattle.cfg_model.specs.Program.Instructions.{IsLawful};
-ghost use Rattle.board.specs.Sample.{return_and_table};
+ghost use Rattle.test_threads.specs.Sample.{return_and_table};
 
-use crate::{Board, Seat};
+use board::{Board, Seat};
 use cfg_model::{Chains, Flow, Memory};
 use core_state::{Job, PlaceEnd, ShardKind};
 use std::alloc::Global;
@@ -37,7 +37,7 @@ fn instruction(a: u64) -> Option<(u8, Flow)>
 }
 
 impl Chains for Program {
-    ghost use Rattle.board.specs.Sample.{return_and_table};
+    ghost use Rattle.test_threads.specs.Sample.{return_and_table};
 
     ghost map = { λ _. return_and_table };
 
@@ -75,7 +75,7 @@ impl Chains for Program {
 struct Task;
 
 impl Job for Task {
-    ghost use Rattle.board.specs.Sample.{return_and_table, two_seeds};
+    ghost use Rattle.test_threads.specs.Sample.{return_and_table, two_seeds};
 
     ghost map = { return_and_table };
 

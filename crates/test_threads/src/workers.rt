@@ -2,10 +2,10 @@
 
 ghost use Rattle.std.specs.Prelude.{◌≤◌};
 
-use crate::{Gate, OpenGate, Tally, build, work};
 use alone::build_alone;
 use cfg_model::{Chains, Flow};
 use core_state::{State, WorkKind};
+use crew::{Gate, OpenGate, Tally, build, work};
 use sample_program::{
     Sample, Slot, cut_table, row_6, row_8, row_9, row_10, row_12, row_17, table_jump,
 };
