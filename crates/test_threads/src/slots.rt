@@ -3,6 +3,7 @@ ghost use Rattle.std.specs.Prelude.{◌≡◌, ◌≢◌, ◌<◌, ℕ};
 ghost use Rattle.shares.specs.Share.{IsSame};
 ghost use Rattle.turn_slots.specs.Seat.{HoldsNothing, Holds};
 
+use std::process::Abort;
 use std::test::Fail;
 use std::thread::Threads;
 use std::{mem, thread};
@@ -48,20 +49,37 @@ fn try_once(turns: &Slots, seat: &mut Seat, i: u32) -> Option<Taken>
     }
 }
 
+// While the first seat holds slot 3, the second one finds it taken, and takes another slot.
+fn taken_while_held<R: Abort>(rt: &R, turns: &Slots, first: &mut Seat, second: &mut Seat)
+    requires own { first.old.turns ≡ turns.now }
+    requires second_own { second.old.turns ≡ turns.now }
+    requires eight { turns.now.slots ≡ 8 }
+    requires nothing { HoldsNothing first.old }
+    requires second_nothing { HoldsNothing second.old }
+    ensures turns { first.new.turns ≡ first.old.turns }
+    ensures share { first.new.share ≡ first.old.share }
+    ensures holds { first.new.holds ≡ first.old.holds }
+    ensures second_turns { second.new.turns ≡ second.old.turns }
+    ensures second_share { second.new.share ≡ second.old.share }
+    ensures second_holds { second.new.holds ≡ second.old.holds }
+{
+    let Ok(three) = first.take(turns, 3) else {
+        panic!(rt; "no seat holds 3")
+    };
+    assert_eq!(rt; three.value, 13);
+    assert_eq!(rt; try_once(turns, second, 3), Some(Taken { slot: 3 }));
+    assert_eq!(rt; try_once(turns, second, 5), None);
+    first.give(turns, three);
+    assert_eq!(rt; try_once(turns, second, 3), None);
+}
+
 // Row 24, its part on turns.
 #[test]
 fn two_seats_take_turns(rt: HostRuntime) -> Result<(), Fail> {
     let values = [10, 11, 12, 13, 14, 15, 16, 17].to_vec(rt.alloc())?;
     let (turns, seat) = Slots::new(rt.alloc(), values)?;
     let (mut first, mut second) = seat.split(&turns);
-    let Ok(three) = first.take(&turns, 3) else {
-        panic!(rt; "no seat holds 3")
-    };
-    assert_eq!(rt; three.value, 13);
-    assert_eq!(rt; try_once(&turns, &mut second, 3), Some(Taken { slot: 3 }));
-    assert_eq!(rt; try_once(&turns, &mut second, 5), None);
-    first.give(&turns, three);
-    assert_eq!(rt; try_once(&turns, &mut second, 3), None);
+    taken_while_held(&rt, &turns, &mut first, &mut second);
     let seat = first.join(&turns, second);
     let values = turns.close(rt.alloc(), seat)?;
     assert_eq!(rt;
