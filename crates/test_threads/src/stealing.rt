@@ -185,19 +185,42 @@ fn rounds(rt: HostRuntime) -> Result<(), Fail> {
     Ok(())
 }
 
+/// Puts names with these keys.
+fn put_all<R: Abort>(rt: &R, hand: &mut Hand, keys: &[u64])
+    ensures { IsSameHand hand.old hand.new }
+{
+    for key in keys {
+        assert_eq!(rt; hand.put(parse(*key)), Ok(()));
+    }
+}
+
+/// Hand 0 puts three names. Hand 1 takes the first of them, in a thread of its own, and then hand 0
+/// the second.
+fn taken_in_turn<R: Threads + Wait + Abort + Sync>(
+    rt: &R,
+    pool: &Pool,
+    zero: Hand,
+    one: Hand,
+) -> (Hand, Hand)
+    requires { IsHandOf pool.now zero × IsHandOf pool.now one }
+    ensures { IsSameHand zero result.0 × IsSameHand one result.1 }
+{
+    let mut zero = zero;
+    assert_eq!(rt; zero.take(rt, pool), None);
+    put_all(rt, &mut zero, &[1, 2, 3]);
+    let (one, taken) = first_there(rt, pool, one);
+    assert_eq!(rt; taken, Some(parse(1)));
+    assert_eq!(rt; zero.take(rt, pool), Some(parse(2)));
+    (zero, one)
+}
+
 /// Row 25, where hand 1 takes in a thread of its own.
 #[test]
 fn row_25(rt: HostRuntime) -> Result<(), Fail> {
-    let Ok(Some((pool, mut zero, one))) = two(rt.alloc()) else {
+    let Ok(Some((pool, zero, one))) = two(rt.alloc()) else {
         panic!(rt; "no pool");
     };
-    assert_eq!(rt; zero.take(&rt, &pool), None);
-    assert_eq!(rt; zero.put(parse(1)), Ok(()));
-    assert_eq!(rt; zero.put(parse(2)), Ok(()));
-    assert_eq!(rt; zero.put(parse(3)), Ok(()));
-    let (one, taken) = first_there(&rt, &pool, one);
-    assert_eq!(rt; taken, Some(parse(1)));
-    assert_eq!(rt; zero.take(&rt, &pool), Some(parse(2)));
+    let (zero, one) = taken_in_turn(&rt, &pool, zero, one);
     let Ok(left) = left_of_two(rt.alloc(), pool, zero, one) else {
         panic!(rt; "no memory");
     };
