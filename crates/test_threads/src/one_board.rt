@@ -2,12 +2,14 @@
 ghost use Rattle.std.specs.Prelude.{◌≡◌};
 ghost use Rattle.std.specs.Option.{option_map};
 ghost use Rattle.cfg_model.specs.Program.Instructions.{IsLawful};
+ghost use Rattle.board.specs.Seat.{HoldsNothing};
 ghost use Rattle.test_threads.specs.Sample.{return_and_table};
 
 use board::{Board, Seat};
 use cfg_model::{Chains, Flow, Memory};
 use core_state::{Job, PlaceEnd, ShardKind};
 use std::alloc::Global;
+use std::process::Abort;
 use std::test::Fail;
 
 /// A program with a return and a jump through a table to it.
@@ -90,6 +92,26 @@ fn sent<T: Send>(value: T) -> T
     value
 }
 
+// Shard 3 of the starts is in other hands. The seat finds it busy, and makes its changes at another
+// shard.
+fn works_beside<R: Abort>(rt: &R, board: &Board<Task>, seat: &mut Seat<Task>)
+    requires own { seat.old.board ≡ board.now }
+    requires nothing { HoldsNothing seat.old }
+    ensures board { seat.new.board ≡ seat.old.board }
+    ensures share { seat.new.share ≡ seat.old.share }
+    ensures holds { seat.new.holds ≡ seat.old.holds }
+{
+    let busy = PlaceEnd::Busy {
+        kind: ShardKind::Starts,
+        shard: 3,
+    };
+    assert_eq!(rt; seat.want(board, 0xC0), Err(busy));
+    assert_eq!(rt; seat.want(board, 0x140), Ok(true));
+    assert_eq!(rt; seat.want(board, 0x140), Ok(false));
+    assert_eq!(rt; seat.has_start(board, 0x140), Ok(true));
+    assert_eq!(rt; seat.start_behind(board, 0x13F), Ok(None));
+}
+
 // Row 24, its part on a board.
 #[test]
 fn a_held_shard_is_busy(rt: HostRuntime) -> Result<(), Fail> {
@@ -101,15 +123,7 @@ fn a_held_shard_is_busy(rt: HostRuntime) -> Result<(), Fail> {
     let Ok(held) = first.hold(&board, ShardKind::Starts, 3) else {
         panic!(rt; "no seat holds it")
     };
-    let busy = PlaceEnd::Busy {
-        kind: ShardKind::Starts,
-        shard: 3,
-    };
-    assert_eq!(rt; second.want(&board, 0xC0), Err(busy));
-    assert_eq!(rt; second.want(&board, 0x140), Ok(true));
-    assert_eq!(rt; second.want(&board, 0x140), Ok(false));
-    assert_eq!(rt; second.has_start(&board, 0x140), Ok(true));
-    assert_eq!(rt; second.start_behind(&board, 0x13F), Ok(None));
+    works_beside(&rt, &board, &mut second);
     first.let_go(&board, held);
     let seat = first.join(&board, second);
     let state = board.close(rt.alloc(), seat)?;

@@ -1,5 +1,4 @@
-use Rattle.std.proofs.Common.{refl, ap, ◌∙◌, arith}
-use Rattle.cfg_model.specs.Builder.Reason.{WantReason}
+use Rattle.std.proofs.Common.{ap, ◌∙◌}
 use Rattle.board.specs.Slots.{slot_of}
 use Rattle.board.specs.Seat.{SeatState, HoldsNothing, first_seat}
 use Rattle.board.proofs.Ends.{nothing_held}
@@ -9,12 +8,6 @@ use Rattle.test_threads.proofs.one_board.a_held_shard_is_busy.Goals as goal
 pub split-first-requires-clause-nothing : goal.split-first-requires-clause-nothing
 split-first-requires-clause-nothing g c =
     still_nothing (first_seat c.in_ok-board.board) c.in_ok-board.seat (ap (λ (s : SeatState). s.holds) c.in_ok-board.ensures.seat) nothing_held
-
-pub want-requires-2-clause-reason : goal.want-requires-2-clause-reason
-want-requires-2-clause-reason g c = WantReason.seed (1, omega arith, refl)
-
-pub want-requires-3-clause-reason : goal.want-requires-3-clause-reason
-want-requires-3-clause-reason g c = WantReason.seed (1, omega arith, refl)
 
 pub join-seat-requires-clause-nothing : goal.join-seat-requires-clause-nothing
 join-seat-requires-clause-nothing g c =
@@ -26,8 +19,8 @@ join-seat-requires-clause-nothing g c =
 
 pub join-seat-requires-clause-other_nothing : goal.join-seat-requires-clause-other_nothing
 join-seat-requires-clause-other_nothing g c =
-    still_nothing (first_seat c.in_ok-board.board) c.start_behind.new.self
-    (c.start_behind.ensures.stays.holds ∙ (c.has_start.ensures.stays.holds ∙ (c.want-3.ensures.stays.holds ∙ (c.want-2.ensures.stays.holds ∙ (c.want.ensures.stays.holds ∙ (ap (λ (s : SeatState). s.holds) c.sent-second.ensures ∙ ap (λ (s : SeatState). s.holds) c.split-first.ensures.goes))))))
+    still_nothing (first_seat c.in_ok-board.board) c.works_beside.new.seat
+    (c.works_beside.ensures.holds ∙ (ap (λ (s : SeatState). s.holds) c.sent-second.ensures ∙ ap (λ (s : SeatState). s.holds) c.split-first.ensures.goes))
     nothing_held
 
 pub close-requires-clause-nothing : goal.close-requires-clause-nothing
