@@ -9,6 +9,10 @@ pub split-first-requires-clause-nothing : goal.split-first-requires-clause-nothi
 split-first-requires-clause-nothing g c =
     still_nothing (first_seat c.in_ok-board.board) c.in_ok-board.seat (ap (λ (s : SeatState). s.holds) c.in_ok-board.ensures.seat) nothing_held
 
+pub works_beside-requires-clause-nothing : goal.works_beside-requires-clause-nothing
+works_beside-requires-clause-nothing g c =
+    still_nothing (first_seat c.in_ok-board.board) c.sent-second.result (ap (λ (s : SeatState). s.holds) c.sent-second.ensures ∙ ap (λ (s : SeatState). s.holds) c.split-first.ensures.goes) nothing_held
+
 pub join-seat-requires-clause-nothing : goal.join-seat-requires-clause-nothing
 join-seat-requires-clause-nothing g c =
     let first : HoldsNothing c.split-first.result.0 =
