@@ -3,5 +3,4 @@ pub mod Seat
 pub mod Calls
 pub mod Rule
 pub mod BoardLaws
-pub mod Sample
 pub mod Inner

@@ -22,8 +22,6 @@ mod rule;
 mod seat;
 mod sights;
 mod table;
-#[cfg(test)]
-mod tests;
 mod turn;
 mod view;
 

@@ -22,8 +22,6 @@ mod names;
 mod station;
 mod tally;
 mod team;
-#[cfg(test)]
-mod tests;
 mod waiting;
 mod worker;
 

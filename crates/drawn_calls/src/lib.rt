@@ -19,9 +19,6 @@ use std::marker::{Send, Sync};
 use std::sync::atomic::{AtomicUsize, Ordering};
 use std::thread::Threads;
 
-#[cfg(test)]
-mod tests;
-
 /// Calls `f` at each number below `count` and gives the results in order. So many threads, the
 /// caller's among them, draw the numbers one after another, and no more of them than there are
 /// numbers. With one thread or one number no other is started. The stack grows with the number of

@@ -15,8 +15,6 @@ use std::marker::{Send, Sync};
 use std::thread::{Threads, join};
 
 mod chunks;
-#[cfg(test)]
-mod tests;
 
 pub use chunks::for_each_chunk_mut;
 

@@ -4,6 +4,5 @@ pub mod HandTries
 pub mod Takings
 pub mod Making
 pub mod Gathering
-pub mod TestHands
 pub mod Rules
 pub mod Rounds

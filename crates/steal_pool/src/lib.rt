@@ -20,8 +20,6 @@ pub mod names;
 mod note;
 mod noted;
 pub mod pool;
-#[cfg(test)]
-mod tests;
 
 pub use deques::{Deques, Round, Tried, first_of};
 pub use hand::{Back, Hand};

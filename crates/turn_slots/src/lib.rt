@@ -16,8 +16,6 @@ pub mod laws;
 mod rule;
 mod seat;
 mod table;
-#[cfg(test)]
-mod tests;
 mod view;
 
 pub use hold::{Hold, Memory, Taken};

@@ -1,9 +1,0 @@
-use Rattle.steal_pool.specs.Pool.{IsSameHand}
-use Rattle.steal_pool.proofs.tests.work.Given as goal
-
--- it is still the same hand
-abbrev pub invariant-loop-k : goal.invariant-loop-k
-invariant-loop-k g l = IsSameHand l.fn.hand l.hand
-
-abbrev pub invariant-loop : goal.invariant-loop
-invariant-loop g l = IsSameHand l.fn.hand l.hand

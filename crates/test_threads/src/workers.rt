@@ -1,0 +1,302 @@
+//! Workers on worked programs: the states that they leave, and gates that hold them.
+
+ghost use Rattle.std.specs.Prelude.{◌≤◌};
+
+use alone::build_alone;
+use cfg_model::{Chains, Flow};
+use core_state::{State, WorkKind};
+use crew::{Gate, OpenGate, Tally, build, work};
+use std::alloc::Global;
+use std::process::Abort;
+use std::sync::Wait;
+use std::sync::atomic::{AtomicU64, Ordering};
+use std::test::Fail;
+use std::thread::Threads;
+use test_programs::{
+    Sample, Slot, cut_table, row_6, row_8, row_9, row_10, row_12, row_17, table_jump,
+};
+
+/// The numbers of workers that are tried.
+const CREWS: [u32; 5] = [2, 3, 4, 8, 64];
+
+/// How often a gate looks whether a worker may go on.
+const TURNS: u64 = 200_000_000;
+
+/// More than there are of anything in a worked program.
+const MANY: u32 = 100;
+
+static RETURNS: [Slot; 13] = [
+    Some((4, Flow::Return)),
+    None,
+    None,
+    None,
+    Some((4, Flow::Return)),
+    None,
+    None,
+    None,
+    Some((4, Flow::Return)),
+    None,
+    None,
+    None,
+    Some((4, Flow::Return)),
+];
+
+/// Row 5: two functions that return.
+fn row_5(alloc: Global) -> Sample<'static> {
+    Sample {
+        alloc,
+        slots: &RETURNS,
+        targets: &[],
+        seeds: &[0, 4],
+    }
+}
+
+/// Four functions that return.
+fn four_returns(alloc: Global) -> Sample<'static> {
+    Sample {
+        alloc,
+        slots: &RETURNS,
+        targets: &[],
+        seeds: &[0, 4, 8, 12],
+    }
+}
+
+/// Both states have the same starts, as far parsed.
+fn same_starts(rt: &impl Abort, one: &State, other: &State) {
+    let mut at = None;
+    for _ in 0..MANY {
+        let next = one.start_after(at);
+        assert!(rt; next == other.start_after(at), "another start");
+        let Some(s) = next else {
+            return;
+        };
+        assert!(rt; one.start(s) == other.start(s), "another mark");
+        at = next;
+    }
+}
+
+/// Both states have the same ends, with the same near starts.
+fn same_ends(rt: &impl Abort, one: &State, other: &State) {
+    let mut at = None;
+    for _ in 0..MANY {
+        let next = one.end_after(at);
+        assert!(rt; next == other.end_after(at), "another end");
+        let Some(k) = next else {
+            return;
+        };
+        assert!(rt; one.near(k) == other.near(k), "another near start");
+        at = next;
+    }
+}
+
+/// Both states have the same terminators, with the same status.
+fn same_terminators(rt: &impl Abort, one: &State, other: &State) {
+    let mut at = None;
+    for _ in 0..MANY {
+        let next = one.term_after(at);
+        assert!(rt; next == other.term_after(at), "another terminator");
+        let Some(k) = next else {
+            return;
+        };
+        assert!(rt;
+            one.has_returned(k) == other.has_returned(k),
+            "another status"
+        );
+        assert!(rt; one.done(k) == other.done(k), "another mark");
+        at = next;
+    }
+}
+
+/// Any number of workers builds the state that is built alone, and leaves nothing to do.
+fn crews_agree<R: Threads + Wait + Abort + Sync>(
+    rt: &R,
+    alloc: Global,
+    code: &Sample,
+) -> Result<(), Fail> {
+    let one = build_alone(alloc, code, code.seeds())?;
+    for workers in CREWS {
+        let left = work(rt, alloc, code, code.seeds(), workers, &OpenGate)?;
+        assert!(rt; left.left(code, code.seeds()).is_none(), "work is left");
+        let state = build(rt, alloc, code, code.seeds(), workers, &OpenGate)?;
+        same_starts(rt, &one, &state);
+        same_ends(rt, &one, &state);
+        same_terminators(rt, &one, &state);
+    }
+    Ok(())
+}
+
+#[test]
+fn all_crews_build_one_state(rt: HostRuntime) -> Result<(), Fail> {
+    let alloc = rt.alloc();
+    for code in [
+        row_5(alloc),
+        row_6(alloc),
+        row_8(alloc),
+        row_9(alloc),
+        row_10(alloc),
+        row_12(alloc),
+        row_17(alloc),
+        table_jump(alloc),
+        cut_table(alloc),
+        four_returns(alloc),
+    ] {
+        crews_agree(&rt, alloc, &code)?;
+    }
+    Ok(())
+}
+
+/// Holds the first call of each of two workers until the other one has called.
+#[derive(Drop)]
+struct Meeting {
+    zero: AtomicU64,
+    one: AtomicU64,
+    late: AtomicU64,
+}
+
+impl Gate for Meeting {
+    fn before(&self, worker: u32, _kind: WorkKind, _key: u64) {
+        let (mine, other) = if worker == 0 {
+            (&self.zero, &self.one)
+        } else {
+            (&self.one, &self.zero)
+        };
+        if mine.swap(1, Ordering::SeqCst) == 0 && !reaches(other, 1) {
+            self.late.store(1, Ordering::SeqCst);
+        }
+    }
+}
+
+/// Whether the word comes to have so many bits before the last turn.
+fn reaches(word: &AtomicU64, bits: u32) -> bool {
+    for _ in 0..TURNS {
+        if word.load(Ordering::SeqCst).count_ones() >= bits {
+            return true;
+        }
+    }
+    false
+}
+
+/// Row 26, its first part: two workers act in one run. A crew whose workers work one after the
+/// other, in either order, is late.
+#[test]
+fn two_workers_meet(rt: HostRuntime) -> Result<(), Fail> {
+    let code = row_5(rt.alloc());
+    let gate = Meeting {
+        zero: AtomicU64::new(0),
+        one: AtomicU64::new(0),
+        late: AtomicU64::new(0),
+    };
+    let state = build(&rt, rt.alloc(), &code, code.seeds(), 2, &gate)?;
+    assert_eq!(rt; gate.zero.load(Ordering::SeqCst), 1);
+    assert_eq!(rt; gate.one.load(Ordering::SeqCst), 1);
+    assert_eq!(rt; gate.late.load(Ordering::SeqCst), 0);
+    assert_eq!(rt; state.near(0), Some(0));
+    assert_eq!(rt; state.near(4), Some(4));
+    Ok(())
+}
+
+/// Holds the first call of worker 0 until worker 1 was about to follow the edges of three
+/// terminators.
+#[derive(Drop)]
+struct Robbery {
+    called: AtomicU64,
+    edges: AtomicU64,
+    late: AtomicU64,
+}
+
+impl Gate for Robbery {
+    fn before(&self, worker: u32, kind: WorkKind, key: u64) {
+        if worker == 0 {
+            if self.called.swap(1, Ordering::SeqCst) == 0 && !reaches(&self.edges, 3) {
+                self.late.store(1, Ordering::SeqCst);
+            }
+        } else if kind == WorkKind::Edges {
+            self.edges.fetch_or(1 << (key / 4 % 64), Ordering::SeqCst);
+        }
+    }
+}
+
+/// Row 26, its second part: the names of two seeds are put into the hand of worker 0 alone, which
+/// is held with one of them. So worker 1 steals the other. A crew whose worker 1 never steals, or
+/// leaves most of the work to worker 0, is late.
+#[test]
+fn a_worker_steals(rt: HostRuntime) -> Result<(), Fail> {
+    let code = four_returns(rt.alloc());
+    let gate = Robbery {
+        called: AtomicU64::new(0),
+        edges: AtomicU64::new(0),
+        late: AtomicU64::new(0),
+    };
+    let state = build(&rt, rt.alloc(), &code, code.seeds(), 2, &gate)?;
+    assert_eq!(rt; gate.late.load(Ordering::SeqCst), 0);
+    assert!(rt; gate.edges.load(Ordering::SeqCst).count_ones() >= 3);
+    let one = build_alone(rt.alloc(), &code, code.seeds())?;
+    same_ends(&rt, &one, &state);
+    Ok(())
+}
+
+/// Adds up what workers counted, and notes whether the counts of one do not fit together.
+#[derive(Drop)]
+struct Counts {
+    ended: AtomicU64,
+    put: AtomicU64,
+    from_deques: AtomicU64,
+    made: AtomicU64,
+    odd: AtomicU64,
+}
+
+impl Gate for Counts {
+    fn before(&self, _worker: u32, _kind: WorkKind, _key: u64) {}
+
+    fn ended(&self, worker: u32, tally: &Tally) {
+        self.ended.fetch_or(1 << (worker % 64), Ordering::SeqCst);
+        self.put.fetch_add(tally.put, Ordering::SeqCst);
+        self.from_deques
+            .fetch_add(tally.from_deques, Ordering::SeqCst);
+        self.made.fetch_add(tally.made, Ordering::SeqCst);
+        let kept = tally.kept.saturating_sub(tally.put);
+        let taken = tally.from_kept.saturating_add(tally.from_deques);
+        if tally.from_kept > kept || tally.made > taken || tally.lost > tally.tries {
+            self.odd.store(1, Ordering::SeqCst);
+        }
+    }
+}
+
+/// Each worker gives what it counted, once. Names are taken no more often than they were put, and no
+/// operation is made without a name.
+#[test]
+fn workers_count(rt: HostRuntime) -> Result<(), Fail> {
+    let code = four_returns(rt.alloc());
+    for workers in CREWS {
+        let gate = Counts {
+            ended: AtomicU64::new(0),
+            put: AtomicU64::new(0),
+            from_deques: AtomicU64::new(0),
+            made: AtomicU64::new(0),
+            odd: AtomicU64::new(0),
+        };
+        build(&rt, rt.alloc(), &code, code.seeds(), workers, &gate)?;
+        let ended = gate.ended.load(Ordering::SeqCst).count_ones();
+        assert_eq!(rt; ended, workers);
+        assert_eq!(rt; gate.odd.load(Ordering::SeqCst), 0);
+        let put = gate.put.load(Ordering::SeqCst);
+        let put = put.saturating_add(4);
+        assert!(rt;
+            gate.from_deques.load(Ordering::SeqCst) <= put,
+            "a name was never put"
+        );
+        assert!(rt;
+            gate.made.load(Ordering::SeqCst) >= 8,
+            "work was not counted"
+        );
+    }
+    Ok(())
+}
+
+/// The gate without a gatekeeper, by itself.
+#[test]
+fn the_open_gate_holds_nobody(rt: HostRuntime) -> Result<(), Fail> {
+    OpenGate.before(1, WorkKind::Parse, 0);
+    assert_eq!(rt; OpenGate, OpenGate);
+    Ok(())
+}
