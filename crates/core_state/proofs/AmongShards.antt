@@ -34,7 +34,7 @@ module _ {X : Type 0} (At : ℕ → X → Work → Type 0) (shards : List (maps.
   none_joined (Some x) items same none = tt
 
 -- each work has a name
-name_of : Work → Name
+abbrev name_of : Work → Name
 name_of (Work.Want key) = record { kind = kinds.Want; key = key }
 name_of (Work.Parse key) = record { kind = kinds.Parse; key = key }
 name_of (Work.Move key) = record { kind = kinds.Move; key = key }
