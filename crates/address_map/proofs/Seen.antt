@@ -1,14 +1,13 @@
 -- The entries of a tree map seen as a finite map: what it has, and what a change of one key does.
-use Rattle.std.proofs.Common.{◌≡◌, refl, ℕ, Bool, cond, true, false, List, sym, ap, ◌∙◌}
+use Rattle.std.proofs.Common.{◌≡◌, ℕ, cond, false, List, sym, ap, ◌∙◌}
 use Rattle.std.specs.Prelude.{Some, None, Option, is_some, IsSome}
 use Rattle.std.specs.declared.cmp.Ordering.{Ordering}
-use Rattle.std.specs.Ordering.{nat_cmp, eq_by_cmp}
+use Rattle.std.specs.Ordering.{nat_cmp}
 use Rattle.std.specs.Cmp.{IsTotalOrder, eq_by_cmp_equiv, nat_cmp_total}
 use Rattle.std.specs.FinMap as maps
 use Rattle.std.specs.BTreeMap.{is_at}
 use Rattle.std.specs.Map.{lookup}
 use Rattle.address_map.proofs.OneEntry.{insert_again}
-use Rattle.address_map.proofs.OneEntry.{is_equal}
 
 -- a list of entries, as another with v put at k: what std says of an insertion
 abbrev pub PutsAt : {K X : Type 0} → (K → K → Ordering) → List (K × X) → List (K × X) → K → X → Type 0

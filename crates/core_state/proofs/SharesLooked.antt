@@ -1,6 +1,6 @@
 -- The work that is left in a state, share by share.
 use Rattle.std.proofs.Common.{◌≡◌, ◌≢◌, ℕ, ◌+◌, ◌%◌, ◌<◌, ◌≤◌, List, length, get_or, All, refl, subst, sym, ap, ◌∙◌, arith, below_more}
-use Rattle.std.specs.Prelude.{Option, Some, None, Contains, IfSome, IfNone}
+use Rattle.std.specs.Prelude.{Option, Some, None, IfNone}
 use Rattle.std.specs.Ordering.{nat_cmp}
 use Rattle.std.specs.FinMap as maps
 use Rattle.std.proofs.lemmas.List.{get_or_read}
@@ -11,7 +11,6 @@ use Rattle.cfg_model.specs.Builder.Left.{Work, HasNothingLeft}
 use Rattle.core_state.specs.declared.answer.Name.{Name}
 use Rattle.core_state.specs.Joined.{AreShards, joined}
 use Rattle.address_map.specs.Found.{IsFoundAmong}
-use Rattle.core_state.specs.inner.Remaining.{LeftAtStart, LeftAtEnd, LeftAtTerminator}
 use Rattle.core_state.specs.inner.Shares.{HasNothingAt, IsShared, HasNothingIn, IsFoundIn}
 use Rattle.core_state.proofs.Shards.{shard_below, read_joined}
 use Rattle.address_map.proofs.AmongParts.{found_in}

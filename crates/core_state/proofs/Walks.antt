@@ -1,6 +1,6 @@
 -- A walk over shards in the order of lines from one line on: what it has found after some lines.
 use Rattle.std.proofs.Common.{◌≡◌, ◌≢◌, ℕ, ◌+◌, ◌-◌, ◌<◌, ◌≤◌, ◌/◌, ◌%◌, Bool, true, false, List, length, get_or, subst, sym, ap, ◌∙◌, arith}
-use Rattle.std.specs.Prelude.{Option, Some, None, IsTrue, min, slice_get, MatchOption, ◌⊎◌}
+use Rattle.std.specs.Prelude.{Option, Some, None, IsTrue, slice_get, MatchOption, ◌⊎◌}
 use mathlib.Core.Logic.{inl, inr}
 use Rattle.std.proofs.lemmas.Option.{slice_get_read}
 use Rattle.std.proofs.lemmas.Bool.{eqb-true, eqb-false}
