@@ -17,7 +17,7 @@ use Rattle.core_state.specs.declared.end.Kept.TheVariants.{Near}
 use Rattle.core_state.specs.Answer.{arrival_of}
 use Rattle.core_state.specs.inner.EndKept.{entry_of}
 use Rattle.core_state.specs.Least.{IsLeast}
-use Rattle.core_state.proofs.PairsKept.{held}
+use Rattle.address_map.proofs.PairsKept.{held}
 
 module _ (n m : EndMap) (seen : n ≡ m) (k : ℕ) where
   pub near_known : (o : Option EndEntry) → maps.get n k ≡ o → option_map (λ (e : EndEntry). e.near) o ≡ near_at m k

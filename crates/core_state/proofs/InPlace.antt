@@ -13,9 +13,9 @@ use Rattle.core_state.specs.declared.waiters.Kept.{Kept}
 use Rattle.core_state.specs.declared.waiters.Kept.TheVariants.{Nobody}
 use Rattle.core_state.specs.Least.{IsLeastBy}
 use Rattle.core_state.specs.inner.InPlace.{in_place, elsewhere, told_if}
-use Rattle.core_state.specs.inner.Pairs.{AreApart, IsFirstAt, over}
+use Rattle.address_map.specs.Pairs.{AreApart, IsFirstAt, over}
 use Rattle.core_state.specs.inner.Waiting.{WaiterMap, AreAway, AwaitsTelling, with_told, lesser_by}
-use Rattle.core_state.proofs.SeenSet.{is_equal}
+use Rattle.address_map.proofs.OneEntry.{is_equal}
 use Rattle.core_state.proofs.WaiterChanges.{least_as, told_never}
 use Rattle.core_state.proofs.WaitersKept.{Row, at_key, there, nowhere, pushed, pushed_apart, marked, waits_marked, told_where, least_of_both}
 

@@ -9,7 +9,7 @@ use Rattle.core_state.specs.Joined.{joined, AreShards}
 use Rattle.core_state.specs.Least.{IsLeast, IsAbove}
 use Rattle.core_state.specs.inner.Walk.{IsKey, HaveOwn}
 use Rattle.core_state.proofs.Shards.{read_joined, shard_below}
-use Rattle.core_state.proofs.Walks.{least_as}
+use Rattle.address_map.proofs.Leasts.{least_as}
 
 module _ {X : Type 0} (ms : List (maps.FinMap nat_cmp X)) (are : AreShards ms) where
   pub own_keys : HaveOwn (λ m k. maps.contains_key m k) ms

@@ -10,7 +10,8 @@ use Rattle.cfg_model.specs.declared.state.Mark.TheVariants as marks
 use Rattle.cfg_model.specs.declared.state.Waiter.{Waiter}
 use Rattle.cfg_model.specs.Builder.State.{BuilderState, EndEntry, TerminatorEntry, IsStart, StandsAt}
 use Rattle.cfg_model.specs.Builder.Left.{Work, IsLeft, HasNothingLeft}
-use Rattle.core_state.specs.inner.Remaining.{LeftAmong, LeftAtStart, LeftAtEnd, LeftAtTerminator}
+use Rattle.address_map.specs.Found.{IsFoundAmong}
+use Rattle.core_state.specs.inner.Remaining.{LeftAtStart, LeftAtEnd, LeftAtTerminator}
 
 false_is : false ≡ true → ⊥
 false_is e = cc
@@ -37,50 +38,50 @@ module _ (seeds : List ℕ) (state : BuilderState) where
       IsLeft.untold w (subst (λ (o : Option TerminatorEntry). IsTrue (option_map_or (λ (e : TerminatorEntry). e.returned) o false)) (sym has) returned)
       (subst (λ (o : Option TerminatorEntry). maps.get (option_map_or (λ (e : TerminatorEntry). e.waiters) o maps.empty) w ≡ Some false) (sym has) untold)
 
-  pub left_of_start : (work : Work) → LeftAmong LeftAtStart state.starts work → IsLeft seeds state work
-  left_of_start work left = by_start left.key left.entry work left.has left.left
+  pub left_of_start : (work : Work) → IsFoundAmong LeftAtStart state.starts work → IsLeft seeds state work
+  left_of_start work left = by_start left.key left.entry work left.has left.there
 
-  pub left_of_end : (work : Work) → LeftAmong (LeftAtEnd state.starts) state.ends work → IsLeft seeds state work
-  left_of_end work left = by_end left.key left.entry work left.has left.left
+  pub left_of_end : (work : Work) → IsFoundAmong (LeftAtEnd state.starts) state.ends work → IsLeft seeds state work
+  left_of_end work left = by_end left.key left.entry work left.has left.there
 
-  pub left_of_terminator : (work : Work) → LeftAmong LeftAtTerminator state.terminators work → IsLeft seeds state work
-  left_of_terminator work left = by_terminator left.key left.entry work left.has left.left
+  pub left_of_terminator : (work : Work) → IsFoundAmong LeftAtTerminator state.terminators work → IsLeft seeds state work
+  left_of_terminator work left = by_terminator left.key left.entry work left.has left.there
 
   -- whoever is near or displaced at an end has its entry
-  near_left : (k x : ℕ) (o : Option EndEntry) → maps.get state.ends k ≡ o → option_map (λ (e : EndEntry). e.near) o ≡ Some x → ¬ IsStart state.starts x → ((work : Work) → ¬ LeftAmong (LeftAtEnd state.starts) state.ends work) → ⊥
+  near_left : (k x : ℕ) (o : Option EndEntry) → maps.get state.ends k ≡ o → option_map (λ (e : EndEntry). e.near) o ≡ Some x → ¬ IsStart state.starts x → ((work : Work) → ¬ IsFoundAmong (LeftAtEnd state.starts) state.ends work) → ⊥
   near_left k x None has near apart none = not_there x near
   near_left k x (Some entry) has near apart none =
-      none (Work.Want entry.near) (record { key = k; entry = entry; has = has; left = LeftAtEnd.unstarted (λ is. apart (subst (λ z. IsStart state.starts z) (same_there entry.near x near) is)) })
+      none (Work.Want entry.near) (record { key = k; entry = entry; has = has; there = LeftAtEnd.unstarted (λ is. apart (subst (λ z. IsStart state.starts z) (same_there entry.near x near) is)) })
 
-  moved_left : (k x : ℕ) (o : Option EndEntry) → maps.get state.ends k ≡ o → IsTrue (sets.contains (option_map_or (λ (e : EndEntry). e.moved) o sets.empty) x) → ((work : Work) → ¬ LeftAmong (LeftAtEnd state.starts) state.ends work) → ⊥
+  moved_left : (k x : ℕ) (o : Option EndEntry) → maps.get state.ends k ≡ o → IsTrue (sets.contains (option_map_or (λ (e : EndEntry). e.moved) o sets.empty) x) → ((work : Work) → ¬ IsFoundAmong (LeftAtEnd state.starts) state.ends work) → ⊥
   moved_left k x None has moved none = false_is (sym (sets.contains-empty nat_cmp x) ∙ moved)
-  moved_left k x (Some entry) has moved none = none (Work.Move k) (record { key = k; entry = entry; has = has; left = LeftAtEnd.displaced x moved })
+  moved_left k x (Some entry) has moved none = none (Work.Move k) (record { key = k; entry = entry; has = has; there = LeftAtEnd.displaced x moved })
 
-  stand_left : (k x : ℕ) → StandsAt state.ends k x → ¬ IsStart state.starts x → ((work : Work) → ¬ LeftAmong (LeftAtEnd state.starts) state.ends work) → ⊥
+  stand_left : (k x : ℕ) → StandsAt state.ends k x → ¬ IsStart state.starts x → ((work : Work) → ¬ IsFoundAmong (LeftAtEnd state.starts) state.ends work) → ⊥
   stand_left k x (inl near) apart none = near_left k x (maps.get state.ends k) refl near apart none
   stand_left k x (inr moved) apart none = moved_left k x (maps.get state.ends k) refl moved none
 
-  undone_left : (k : ℕ) (o : Option TerminatorEntry) → maps.get state.terminators k ≡ o → IsSome o → ¬ IsTrue (option_map_or (λ (e : TerminatorEntry). e.done) o false) → ((work : Work) → ¬ LeftAmong LeftAtTerminator state.terminators work) → ⊥
+  undone_left : (k : ℕ) (o : Option TerminatorEntry) → maps.get state.terminators k ≡ o → IsSome o → ¬ IsTrue (option_map_or (λ (e : TerminatorEntry). e.done) o false) → ((work : Work) → ¬ IsFoundAmong LeftAtTerminator state.terminators work) → ⊥
   undone_left k None has entered apart none = false_is entered
-  undone_left k (Some entry) has entered apart none = none (Work.Edges k) (record { key = k; entry = entry; has = has; left = LeftAtTerminator.undone apart })
+  undone_left k (Some entry) has entered apart none = none (Work.Edges k) (record { key = k; entry = entry; has = has; there = LeftAtTerminator.undone apart })
 
   untold_left : (k : ℕ) (w : Waiter) (o : Option TerminatorEntry) → maps.get state.terminators k ≡ o → IsTrue (option_map_or (λ (e : TerminatorEntry). e.returned) o false) → maps.get (option_map_or (λ (e : TerminatorEntry). e.waiters) o maps.empty) w ≡ Some false
-      → ((work : Work) → ¬ LeftAmong LeftAtTerminator state.terminators work) → ⊥
+      → ((work : Work) → ¬ IsFoundAmong LeftAtTerminator state.terminators work) → ⊥
   untold_left k w None has returned untold none = false_is returned
-  untold_left k w (Some entry) has returned untold none = none (Work.Tell k) (record { key = k; entry = entry; has = has; left = LeftAtTerminator.untold w returned untold })
+  untold_left k w (Some entry) has returned untold none = none (Work.Tell k) (record { key = k; entry = entry; has = has; there = LeftAtTerminator.untold w returned untold })
 
   pub nothing_left : ((s : ℕ) → Contains seeds s → IsStart state.starts s)
-      → ((work : Work) → ¬ LeftAmong LeftAtStart state.starts work) → ((work : Work) → ¬ LeftAmong (LeftAtEnd state.starts) state.ends work) → ((work : Work) → ¬ LeftAmong LeftAtTerminator state.terminators work)
+      → ((work : Work) → ¬ IsFoundAmong LeftAtStart state.starts work) → ((work : Work) → ¬ IsFoundAmong (LeftAtEnd state.starts) state.ends work) → ((work : Work) → ¬ IsFoundAmong LeftAtTerminator state.terminators work)
       → HasNothingLeft seeds state
   nothing_left known starts ends terminators work (IsLeft.unstarted_seed {s = s} is apart) = apart (known s is)
-  nothing_left known starts ends terminators work (IsLeft.unparsed {s = s} is) = starts (Work.Parse s) (record { key = s; entry = marks.Wanted; has = is; left = LeftAtStart.unparsed refl })
+  nothing_left known starts ends terminators work (IsLeft.unparsed {s = s} is) = starts (Work.Parse s) (record { key = s; entry = marks.Wanted; has = is; there = LeftAtStart.unparsed refl })
   nothing_left known starts ends terminators work (IsLeft.unstarted_stand k {x = x} stands apart) = stand_left k x stands apart ends
   nothing_left known starts ends terminators work (IsLeft.displaced {k = k} x moved) = moved_left k x (maps.get state.ends k) refl moved ends
   nothing_left known starts ends terminators work (IsLeft.undone {k = k} entered apart) = undone_left k (maps.get state.terminators k) refl entered apart terminators
   nothing_left known starts ends terminators work (IsLeft.untold {k = k} w returned untold) = untold_left k w (maps.get state.terminators k) refl returned untold terminators
 
   pub nothing_after : {T : Type 0} (o : Option T) → ((s : ℕ) → Contains seeds s → IsStart state.starts s)
-      → ((work : Work) → ¬ LeftAmong LeftAtStart state.starts work) → ((work : Work) → ¬ LeftAmong (LeftAtEnd state.starts) state.ends work) → IfNone o ((work : Work) → ¬ LeftAmong LeftAtTerminator state.terminators work)
+      → ((work : Work) → ¬ IsFoundAmong LeftAtStart state.starts work) → ((work : Work) → ¬ IsFoundAmong (LeftAtEnd state.starts) state.ends work) → IfNone o ((work : Work) → ¬ IsFoundAmong LeftAtTerminator state.terminators work)
       → IfNone o (HasNothingLeft seeds state)
   nothing_after None known starts ends terminators = nothing_left known starts ends terminators
   nothing_after (Some x) known starts ends terminators = tt

@@ -8,7 +8,7 @@ use Rattle.cfg_model.specs.Builder.Shard.{shard_of}
 use Rattle.core_state.specs.Joined.{joined, AreShards}
 use Rattle.core_state.specs.Line.{IsNextInLine}
 use Rattle.core_state.proofs.Shards.{same_there}
-use Rattle.core_state.proofs.Walks.{least_as}
+use Rattle.address_map.proofs.Leasts.{least_as}
 
 same_shard : (i a t : ℕ) → i ≡ shard_of a → t / 64 ≡ a / 64 → i ≡ shard_of t
 same_shard i a t place line = omega arith

@@ -8,7 +8,7 @@ use Rattle.std.specs.FinSet as sets
 use Rattle.cfg_model.specs.declared.state.Mark.TheVariants as marks
 use Rattle.cfg_model.specs.Builder.State.{StartMap, EndMap, EndEntry, TerminatorMap, TerminatorEntry}
 use Rattle.cfg_model.specs.Builder.Event.{with_start, with_parsed, with_settled, with_terminator, with_changed, new_entry}
-use Rattle.core_state.proofs.Shards.{alter, IsLocal}
+use Rattle.address_map.proofs.OneEntry.{alter, IsLocal}
 
 -- a value where there is none yet
 abbrev if_new : {X : Type 0} → X → Option X → Option X

@@ -14,10 +14,11 @@ use Rattle.std.specs.FinMap.Entries.{by_order, put, below_all, find-put}
 use Rattle.std.proofs.lemmas.List.{get_or_default}
 use Rattle.std.proofs.lemmas.Option.{slice_get-get_or, same_Some}
 use Rattle.core_state.specs.Least.{IsLeastBy}
-use Rattle.core_state.specs.inner.Pairs.{AreApart, AreRising, IsFirstAt, IsGapAt, over}
-use Rattle.core_state.proofs.SeenSet.{is_equal}
-use Rattle.core_state.proofs.EntriesLinked.{less_or_not}
-use Rattle.core_state.proofs.PairsInRow.{branch, get_over, stands_there}
+use Rattle.address_map.specs.Pairs.{AreApart, IsFirstAt, over}
+use Rattle.core_state.specs.inner.Pairs.{AreRising, IsGapAt}
+use Rattle.address_map.proofs.OneEntry.{is_equal}
+use Rattle.address_map.proofs.EntriesLinked.{less_or_not}
+use Rattle.address_map.proofs.PairsInRow.{branch, get_over, stands_there}
 
 first : (a b : Bool) → T (a && b) → T a
 first true b p = tt

@@ -3,11 +3,11 @@ use Rattle.std.proofs.Common.{◌≡◌, refl, Bool, cond, true, false, not, Lis
 use Rattle.std.specs.Prelude.{◌||◌, ◌&&◌}
 use Rattle.std.specs.List.{list_any}
 use Rattle.std.specs.declared.cmp.Ordering.{Ordering}
-use Rattle.std.specs.declared.cmp.Ordering.TheVariants.{Less, Equal, Greater}
-use Rattle.std.specs.Ordering.{eq_by_cmp, is_eq}
+use Rattle.std.specs.Ordering.{eq_by_cmp}
 use Rattle.std.specs.Cmp.{IsTotalOrder, eq_by_cmp_equiv}
 use Rattle.std.specs.FinSet as sets
 use Rattle.std.specs.BTreeMap.{is_at}
+use Rattle.address_map.proofs.OneEntry.{is_equal}
 
 -- a list of keys, as another with k as a member or not: what std says of a change
 abbrev pub HasAt : {K : Type 0} → (K → K → Ordering) → List K → List K → K → Bool → Type 0
@@ -24,11 +24,6 @@ and_cond false c = refl
 once_in : (b c : Bool) → (b ≡ true → c ≡ false) → (not b && (b || c)) ≡ c
 once_in true c new = sym (new refl)
 once_in false c new = refl
-
-pub is_equal : (r : Ordering) → is_eq r ≡ true → r ≡ Equal
-is_equal Less e = cc
-is_equal Equal e = refl
-is_equal Greater e = cc
 
 module _ {K : Type 0} {R : K → K → Ordering} (total : IsTotalOrder R) (exact : sets.IsAntisymmetric R) where
   pub member : (ks : List K) (q : K) → list_any (is_at (R q)) ks ≡ sets.contains (sets.from_list {R = R} ks) q

@@ -1,6 +1,6 @@
 -- The work that is left in a state, share by share.
 use Rattle.std.proofs.Common.{◌≡◌, ◌≢◌, ℕ, ◌+◌, ◌%◌, ◌<◌, ◌≤◌, List, length, get_or, All, refl, subst, sym, ap, ◌∙◌, arith, below_more}
-use Rattle.std.specs.Prelude.{Option, Some, None, Contains, IfSome, IfNone}
+use Rattle.std.specs.Prelude.{Option, Some, None, IfNone}
 use Rattle.std.specs.Ordering.{nat_cmp}
 use Rattle.std.specs.FinMap as maps
 use Rattle.std.proofs.lemmas.List.{get_or_read}
@@ -10,10 +10,11 @@ use Rattle.cfg_model.specs.Builder.State.{BuilderState}
 use Rattle.cfg_model.specs.Builder.Left.{Work, HasNothingLeft}
 use Rattle.core_state.specs.declared.answer.Name.{Name}
 use Rattle.core_state.specs.Joined.{AreShards, joined}
-use Rattle.core_state.specs.inner.Remaining.{LeftAmong, LeftAtStart, LeftAtEnd, LeftAtTerminator}
+use Rattle.address_map.specs.Found.{IsFoundAmong}
 use Rattle.core_state.specs.inner.Shares.{HasNothingAt, IsShared, HasNothingIn, IsFoundIn}
 use Rattle.core_state.proofs.Shards.{shard_below, read_joined}
-use Rattle.core_state.proofs.AmongShards.{found_in, among_joined}
+use Rattle.address_map.proofs.AmongParts.{found_in}
+use Rattle.core_state.proofs.AmongShards.{among_joined}
 use Rattle.core_state.proofs.LeftPieces.{nothing_left}
 
 -- one shard of a map
@@ -21,22 +22,22 @@ module _ {X : Type 0} (At : ℕ → X → Work → Type 0) (shards : List (maps.
   within : n < length shards
   within = subst (λ (l : ℕ). n < l) (sym are.count) below
 
-  pub some_of_shard : (work : Work) → LeftAmong At shard work → LeftAmong At m work
+  pub some_of_shard : (work : Work) → IsFoundAmong At shard work → IsFoundAmong At m work
   some_of_shard work left = among_joined At shards are m seen work (found_in At shards n shard within is work left)
 
-  in_its_shard : (work : Work) (left : LeftAmong At m work) → LeftAmong At (get_or shards (shard_of left.key) maps.empty) work
+  in_its_shard : (work : Work) (left : IsFoundAmong At m work) → IsFoundAmong At (get_or shards (shard_of left.key) maps.empty) work
   in_its_shard work left = record {
     key = left.key;
     entry = left.entry;
     has = sym (read_joined shards are left.key) ∙ ap (λ (s : maps.FinMap nat_cmp X). maps.get s left.key) seen ∙ left.has;
-    left = left.left;
+    there = left.there;
   }
 
-  pub none_of_shard : ((work : Work) → ¬ LeftAmong At shard work) → (work : Work) (left : LeftAmong At m work) → ¬ (shard_of left.key ≡ n)
+  pub none_of_shard : ((work : Work) → ¬ IsFoundAmong At shard work) → (work : Work) (left : IsFoundAmong At m work) → ¬ (shard_of left.key ≡ n)
   none_of_shard none work left home =
       none work
-      (subst (λ (s : maps.FinMap nat_cmp X). LeftAmong At s work) (sym (get_or_read shards n shard within is maps.empty))
-      (subst (λ (i : ℕ). LeftAmong At (get_or shards i maps.empty) work) home (in_its_shard work left)))
+      (subst (λ (s : maps.FinMap nat_cmp X). IsFoundAmong At s work) (sym (get_or_read shards n shard within is maps.empty))
+      (subst (λ (i : ℕ). IsFoundAmong At (get_or shards i maps.empty) work) home (in_its_shard work left)))
 
 pub if_none : {T : Type 0} {P Q : Type 0} (o : Option T) → (P → Q) → IfNone o P → IfNone o Q
 if_none None f p = f p

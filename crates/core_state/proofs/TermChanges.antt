@@ -11,7 +11,7 @@ use Rattle.cfg_model.proofs.Builder.MapFacts.{get_here}
 use Rattle.core_state.specs.Least.{IsLeastBy}
 use Rattle.core_state.specs.Reads.{IsNextToTell, HasNextToTell}
 use Rattle.core_state.specs.inner.Waiting.{HasNextHere}
-use Rattle.core_state.proofs.PairsKept.{held}
+use Rattle.address_map.proofs.PairsKept.{held}
 
 -- who is next to be told is read of the entry alone
 pub next_as : (m n : TerminatorMap) (k : ℕ) → maps.get m k ≡ maps.get n k → (o : Option Waiter) → IsNextToTell m k o → IsNextToTell n k o

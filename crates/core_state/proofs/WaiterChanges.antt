@@ -18,7 +18,8 @@ use Rattle.core_state.specs.Least.{IsLeastBy}
 use Rattle.core_state.specs.inner.Untold.{is_untold, AreUntold}
 use Rattle.core_state.specs.inner.Waiting.{WaiterMap, AwaitsTelling, with_told}
 use Rattle.core_state.proofs.DerivedOrder.{derived_order}
-use Rattle.core_state.proofs.Seen.{found, put, take, take_new, PutsAt, TakesAt}
+use Rattle.address_map.proofs.Seen.{found, put, PutsAt}
+use Rattle.core_state.proofs.SeenMap.{take, take_new, TakesAt}
 use Rattle.core_state.proofs.SeenSet.{HasAt, seen_insert, seen_remove}
 use Rattle.core_state.proofs.LeastFirst.{least_of_first}
 

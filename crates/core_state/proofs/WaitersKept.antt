@@ -14,13 +14,14 @@ use Rattle.cfg_model.specs.declared.state.Waiter.{Waiter}
 use Rattle.cfg_model.specs.Builder.Waiter.{waiter_cmp}
 use Rattle.cfg_model.proofs.Builder.WaiterOrder.{waiter_cmp_total, exact_waiters}
 use Rattle.core_state.specs.Least.{IsLeastBy}
-use Rattle.core_state.specs.inner.Pairs.{AreApart, AreRising, IsFirstAt, IsGapAt, over}
+use Rattle.address_map.specs.Pairs.{AreApart, IsFirstAt, over}
+use Rattle.core_state.specs.inner.Pairs.{AreRising, IsGapAt}
 use Rattle.core_state.specs.inner.Waiting.{WaiterMap, AreAway, AwaitsTelling, with_waiter, with_told, lesser_by}
-use Rattle.core_state.proofs.SeenSet.{is_equal}
-use Rattle.core_state.proofs.Seen.{not_there}
+use Rattle.address_map.proofs.OneEntry.{is_equal}
+use Rattle.address_map.proofs.Seen.{not_there}
 use Rattle.core_state.proofs.WaiterChanges.{least_as}
 use Rattle.core_state.proofs.RowInOrder.{over_put, put_gap, put_there, gap_none}
-use Rattle.core_state.proofs.PairsInRow.{get_over, find_push, apart_push, over_push, over_set, over_behind, inside, found_at, pair_there}
+use Rattle.address_map.proofs.PairsInRow.{get_over, find_push, apart_push, over_push, over_set, over_behind, inside, found_at, pair_there}
 
 abbrev pub Row : Type 0
 Row = List (Waiter × Bool)

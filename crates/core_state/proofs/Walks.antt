@@ -1,13 +1,15 @@
 -- A walk over shards in the order of lines from one line on: what it has found after some lines.
 use Rattle.std.proofs.Common.{◌≡◌, ◌≢◌, ℕ, ◌+◌, ◌-◌, ◌<◌, ◌≤◌, ◌/◌, ◌%◌, Bool, true, false, List, length, get_or, subst, sym, ap, ◌∙◌, arith}
-use Rattle.std.specs.Prelude.{Option, Some, None, IsTrue, min, slice_get, MatchOption, ◌⊎◌}
+use Rattle.std.specs.Prelude.{Option, Some, None, IsTrue, slice_get, MatchOption, ◌⊎◌}
 use mathlib.Core.Logic.{inl, inr}
 use Rattle.std.proofs.lemmas.Option.{slice_get_read}
 use Rattle.std.proofs.lemmas.Bool.{eqb-true, eqb-false}
 use Rattle.cfg_model.specs.Builder.Shard.{shard_of}
 use Rattle.cfg_model.proofs.Builder.MapFacts.{same_or_other}
 use Rattle.core_state.specs.Least.{IsLeast, IsAbove}
-use Rattle.core_state.specs.inner.Walk.{IsKey, HaveOwn, lesser_of, is_in_line}
+use Rattle.core_state.specs.inner.Walk.{IsKey, HaveOwn, is_in_line}
+use Rattle.address_map.specs.Least.{lesser_of}
+use Rattle.address_map.proofs.Leasts.{least_as, least_either}
 use Rattle.core_state.proofs.Shards.{shard_below}
 
 -- n is the shard of one of the j lines from that line on
@@ -18,30 +20,6 @@ IsSeen line j n = (i : ℕ) × (i < j) × (n ≡ (line + i) % 64)
 pub record IsWalking {S : Type 0} (has : S → ℕ → Bool) (shards : List S) (a : Option ℕ) (line j : ℕ) (least : Option ℕ) : Type 0 where
   pub beyond : (k : ℕ) → IsKey has shards k → IsAbove a k → line + j ≤ k / 64
   pub known : IsLeast (λ k. IsKey has shards k × IsAbove a k × IsSeen line j (shard_of k)) least
-
-pub least_as : (P Q : ℕ → Type 0) (o : Option ℕ) → ((k : ℕ) → P k → Q k) → ((k : ℕ) → Q k → P k) → IsLeast P o → IsLeast Q o
-least_as P Q None to fro least = λ k q. least k (fro k q)
-least_as P Q (Some x) to fro least = (to x least.0, λ k q. least.1 k (fro k q))
-
--- the lesser of the least of two kinds is the least of both
-pub least_either : (P Q : ℕ → Type 0) (x y : Option ℕ) → IsLeast P x → IsLeast Q y → IsLeast (λ k. P k ⊎ Q k) (lesser_of x y)
-least_either P Q None None p q = λ k e. elim e [ inl h ↦ p k h | inr h ↦ q k h ]
-least_either P Q None (Some y) p q = (inr q.0, λ k e. elim e [ inl h ↦ absurd (p k h) | inr h ↦ q.1 k h ])
-least_either P Q (Some x) None p q = (inl p.0, λ k e. elim e [ inl h ↦ p.1 k h | inr h ↦ absurd (q k h) ])
-least_either P Q (Some x) (Some y) p q = (one (min_is x y), λ k e. elim e [ inl h ↦ low_first x y k (p.1 k h) | inr h ↦ low_second x y k (q.1 k h) ])
-  where
-    min_is : (x y : ℕ) → (min x y ≡ x) ⊎ (min x y ≡ y)
-    min_is x y = grind arith
-
-    one : (min x y ≡ x) ⊎ (min x y ≡ y) → P (min x y) ⊎ Q (min x y)
-    one (inl e) = inl (subst P (sym e) p.0)
-    one (inr e) = inr (subst Q (sym e) q.0)
-
-    low_first : (x y k : ℕ) → x ≤ k → min x y ≤ k
-    low_first x y k h = omega arith
-
-    low_second : (x y k : ℕ) → y ≤ k → min x y ≤ k
-    low_second x y k h = omega arith
 
 in_line_is : (x line : ℕ) → is_in_line (Some x) line ≡ true → x / 64 ≡ line
 in_line_is x line e = eqb-true (x / 64) line e

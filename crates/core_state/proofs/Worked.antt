@@ -1,12 +1,11 @@
 -- The definitions, computed on a few values.
-use Rattle.std.proofs.Common.{◌≡◌, true, false, refl, arith}
+use Rattle.std.proofs.Common.{◌≡◌, true, false, refl}
 use Rattle.std.specs.Prelude.{Some, None}
 use Rattle.cfg_model.specs.Builder.Shard.{shard_of}
 use Rattle.core_state.specs.declared.answer.Arrival.TheVariants.{First, Same, Split}
 use Rattle.core_state.specs.Answer.{split_into, arrival_of}
-use Rattle.core_state.specs.Least.{IsLeast, IsAbove}
 use Rattle.core_state.specs.inner.Untold.{is_untold}
-use Rattle.core_state.specs.inner.Walk.{lesser_of, is_in_line}
+use Rattle.core_state.specs.inner.Walk.{is_in_line}
 
 -- row 23: both starts have to leave the end at which they meet, the lesser one first
 both_leave : arrival_of 0x10002 (Some 0x10000) 0x10004 ≡ Split 0x10004 0x10000 (Some 0x10002)
@@ -45,22 +44,9 @@ untold_is = refl
 none_is_not : is_untold None ≡ false
 none_is_not = refl
 
--- the lesser of two keys, and the line of one
-lesser_found : lesser_of (Some 0x10008) (Some 0x10004) ≡ Some 0x10004
-lesser_found = refl
-
-only_found : lesser_of None (Some 0x10004) ≡ Some 0x10004
-only_found = refl
-
+-- the line of a key
 in_its_line : is_in_line (Some 0x1003f) 0x400 ≡ true
 in_its_line = refl
 
 in_the_next : is_in_line (Some 0x10040) 0x400 ≡ false
 in_the_next = refl
-
--- a number is the least above another only where it lies above it
-least_above : IsLeast (λ k. (k ≡ 0x10004) × IsAbove (Some 0x10000) k) (Some 0x10004)
-least_above = ((refl, omega arith), λ y is. omega (arith, is.0))
-
-none_above : IsLeast (λ k. (k ≡ 0x10004) × IsAbove (Some 0x10004) k) None
-none_above x is = omega (arith, is.0, is.1)

@@ -5,7 +5,6 @@ pub mod Reads
 pub mod Joined
 pub mod Leads
 pub mod Counted
-pub mod Sample
 pub mod Place
 pub mod Work
 pub mod inner

@@ -2,9 +2,6 @@
 pub mod Untold
 pub mod Waiting
 pub mod Pairs
-pub mod Entries
-pub mod Lent
-pub mod Grouped
 pub mod Walk
 pub mod Remaining
 pub mod Shares

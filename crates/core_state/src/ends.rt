@@ -10,16 +10,16 @@ ghost use Rattle.core_state.specs.Answer.{arrival_of};
 ghost use Rattle.cfg_model.specs.Builder.Left.{Work};
 ghost use Rattle.core_state.specs.Least.{IsLeast};
 ghost use Rattle.core_state.specs.Work.{work_of};
-ghost use Rattle.core_state.specs.inner.Remaining.{LeftAmong, LeftAtEnd};
+ghost use Rattle.address_map.specs.Found.{IsFoundAmong};
+ghost use Rattle.core_state.specs.inner.Remaining.{LeftAtEnd};
 
-use crate::address_map::AddressMap;
 use crate::along::{Along, Walk};
 use crate::answer::{Arrival, Name};
 use crate::end::End;
-use crate::look::Look;
 use crate::maps::Maps;
 use crate::memory::Memory;
 use crate::walk::Keys;
+use address_map::{AddressMap, Look};
 use cfg_model::Chains;
 use std::alloc::Global;
 use std::marker::Model;
@@ -111,11 +111,11 @@ impl Ends {
     /// Work that is left at an end. It goes over the shard once.
     pub(crate) fn left(&self, shards: &Maps) -> Option<Name>
         ensures some { IfSome result
-            (λ name. LeftAmong (LeftAtEnd shards.now.starts) self.now (work_of name)) }
+            (λ name. IsFoundAmong (LeftAtEnd shards.now.starts) self.now (work_of name)) }
         ensures none { IfNone result
-            ((work : Work) → ¬ LeftAmong (LeftAtEnd shards.now.starts) self.now work) }
+            ((work : Work) → ¬ IsFoundAmong (LeftAtEnd shards.now.starts) self.now work) }
     {
-        self.ends.first_left(&LookAtEnd(shards))
+        self.ends.find_by(&LookAtEnd(shards))
     }
 }
 
@@ -131,12 +131,12 @@ impl Keys for Ends {
 #[derive(Clone, Copy)]
 struct LookAtEnd<'a>(&'a Maps);
 
-impl Look<End> for LookAtEnd<'_> {
-    ghost use Rattle.core_state.specs.inner.Remaining.{LeftAtEnd};
+impl Look<End, Name> for LookAtEnd<'_> {
+    ghost use Rattle.core_state.specs.inner.Remaining.{by_name, LeftAtEnd};
 
-    ghost left = { λ look. LeftAtEnd look.0.now.starts };
+    ghost finds = { λ look. by_name (LeftAtEnd look.0.now.starts) };
 
-    fn left_at(&self, k: u64, end: &End) -> Option<Name> {
+    fn look_at(&self, k: u64, end: &End) -> Option<Name> {
         end.left(k, self.0)
     }
 }

@@ -5,7 +5,8 @@ ghost use Rattle.std.specs.FinMap as maps;
 ghost use Rattle.cfg_model.specs.Builder.State.{IsStart};
 ghost use Rattle.cfg_model.specs.Builder.Left.{Work, IsLeft, HasNothingLeft};
 ghost use Rattle.core_state.specs.Work.{work_of};
-ghost use Rattle.core_state.specs.inner.Remaining.{LeftAmong, LeftIn, LeftAtStart};
+ghost use Rattle.address_map.specs.Found.{IsFoundAmong, IsFoundInPart};
+ghost use Rattle.core_state.specs.inner.Remaining.{LeftAtStart};
 ghost use Rattle.core_state.specs.inner.Remaining.{LeftAtEnd, LeftAtTerminator};
 
 use crate::answer::{Name, WorkKind};
@@ -50,8 +51,8 @@ fn unstarted_seed(shards: &Maps, seeds: &[u64]) -> Option<u64>
 
 /// Work that is left at the starts of these shards.
 pub(crate) fn left_of_starts(shards: &[Starts]) -> Option<Name>
-    ensures some { IfSome result (λ name. LeftIn LeftAtStart shards.now (work_of name)) }
-    ensures none { IfNone result ((work : Work) → ¬ LeftIn LeftAtStart shards.now work) }
+    ensures some { IfSome result (λ name. IsFoundInPart LeftAtStart shards.now (work_of name)) }
+    ensures none { IfNone result ((work : Work) → ¬ IsFoundInPart LeftAtStart shards.now work) }
 {
     for shard in shards {
         if let Some(name) = shard.left() {
@@ -64,9 +65,9 @@ pub(crate) fn left_of_starts(shards: &[Starts]) -> Option<Name>
 /// Work that is left at the ends of these shards, where the others are those of the starts.
 pub(crate) fn left_of_ends(ends: &[Ends], shards: &Maps) -> Option<Name>
     ensures some { IfSome result
-        (λ name. LeftIn (LeftAtEnd shards.now.starts) ends.now (work_of name)) }
+        (λ name. IsFoundInPart (LeftAtEnd shards.now.starts) ends.now (work_of name)) }
     ensures none { IfNone result
-        ((work : Work) → ¬ LeftIn (LeftAtEnd shards.now.starts) ends.now work) }
+        ((work : Work) → ¬ IsFoundInPart (LeftAtEnd shards.now.starts) ends.now work) }
 {
     for shard in ends {
         if let Some(name) = shard.left(shards) {
@@ -78,8 +79,8 @@ pub(crate) fn left_of_ends(ends: &[Ends], shards: &Maps) -> Option<Name>
 
 /// Work that is left at the terminators of these shards.
 pub(crate) fn left_of_terms(shards: &[Terms]) -> Option<Name>
-    ensures some { IfSome result (λ name. LeftIn LeftAtTerminator shards.now (work_of name)) }
-    ensures none { IfNone result ((work : Work) → ¬ LeftIn LeftAtTerminator shards.now work) }
+    ensures some { IfSome result (λ name. IsFoundInPart LeftAtTerminator shards.now (work_of name)) }
+    ensures none { IfNone result ((work : Work) → ¬ IsFoundInPart LeftAtTerminator shards.now work) }
 {
     for shard in shards {
         if let Some(name) = shard.left() {

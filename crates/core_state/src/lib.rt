@@ -13,38 +13,24 @@
 ghost use Rattle.std.specs.Prelude.{◌≡◌};
 ghost use Rattle.cfg_model.specs.Builder.Shard.{shard_of};
 
-mod address_map;
-#[cfg(test)]
-mod address_map_tests;
 pub mod along;
 pub mod answer;
-mod chunk;
 mod crowd;
 mod end;
 pub mod ends;
-mod entry;
 pub mod laws;
 mod left;
 mod left_sharing;
-#[cfg(test)]
-mod left_tests;
-mod look;
 mod maps;
 pub mod memory;
 pub mod place;
-mod region;
 mod row;
-mod scattered;
 mod several;
 mod split_end;
 pub mod starts;
 pub mod state;
 mod state_place;
 pub mod terms;
-#[cfg(test)]
-mod tests;
-#[cfg(test)]
-mod waiter_tests;
 mod waiters;
 mod walk;
 

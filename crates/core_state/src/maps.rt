@@ -14,7 +14,8 @@ ghost use Rattle.core_state.specs.Least.{IsLeast, IsAbove};
 ghost use Rattle.core_state.specs.Line.{IsNextInLine};
 ghost use Rattle.core_state.specs.Reads.{done_at, returned_at, IsNextToTell, HasNextToTell};
 ghost use Rattle.core_state.specs.Work.{work_of};
-ghost use Rattle.core_state.specs.inner.Remaining.{LeftAmong, LeftAtStart};
+ghost use Rattle.address_map.specs.Found.{IsFoundAmong};
+ghost use Rattle.core_state.specs.inner.Remaining.{LeftAtStart};
 ghost use Rattle.core_state.specs.inner.Remaining.{LeftAtEnd, LeftAtTerminator};
 ghost use Rattle.core_state.specs.inner.Shares.{HasNothingAt};
 ghost use Rattle.cfg_model.specs.Builder.Left.{Work, IsLeft};
@@ -284,9 +285,9 @@ impl Maps {
     /// Work that is left at a start.
     pub(crate) fn left_of_starts(&self) -> Option<Name>
         ensures some { IfSome result
-            (λ name. LeftAmong LeftAtStart self.now.starts (work_of name)) }
+            (λ name. IsFoundAmong LeftAtStart self.now.starts (work_of name)) }
         ensures none { IfNone result
-            ((work : Work) → ¬ LeftAmong LeftAtStart self.now.starts work) }
+            ((work : Work) → ¬ IsFoundAmong LeftAtStart self.now.starts work) }
     {
         left_of_starts(self.starts.as_slice())
     }
@@ -294,9 +295,9 @@ impl Maps {
     /// Work that is left at an end.
     pub(crate) fn left_of_ends(&self) -> Option<Name>
         ensures some { IfSome result
-            (λ name. LeftAmong (LeftAtEnd self.now.starts) self.now.ends (work_of name)) }
+            (λ name. IsFoundAmong (LeftAtEnd self.now.starts) self.now.ends (work_of name)) }
         ensures none { IfNone result
-            ((work : Work) → ¬ LeftAmong (LeftAtEnd self.now.starts) self.now.ends work) }
+            ((work : Work) → ¬ IsFoundAmong (LeftAtEnd self.now.starts) self.now.ends work) }
     {
         left_of_ends(self.ends.as_slice(), self)
     }
@@ -304,9 +305,9 @@ impl Maps {
     /// Work that is left at a terminator.
     pub(crate) fn left_of_terms(&self) -> Option<Name>
         ensures some { IfSome result
-            (λ name. LeftAmong LeftAtTerminator self.now.terminators (work_of name)) }
+            (λ name. IsFoundAmong LeftAtTerminator self.now.terminators (work_of name)) }
         ensures none { IfNone result
-            ((work : Work) → ¬ LeftAmong LeftAtTerminator self.now.terminators work) }
+            ((work : Work) → ¬ IsFoundAmong LeftAtTerminator self.now.terminators work) }
     {
         left_of_terms(self.terms.as_slice())
     }

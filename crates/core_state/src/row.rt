@@ -5,7 +5,8 @@ ghost use Rattle.std.specs.FinMap.{find};
 ghost use Rattle.std.specs.FinMap.Entries.{put};
 ghost use Rattle.cfg_model.specs.Builder.Waiter.{waiter_cmp};
 ghost use Rattle.core_state.specs.Least.{IsLeastBy};
-ghost use Rattle.core_state.specs.inner.Pairs.{AreRising, IsFirstAt, IsGapAt};
+ghost use Rattle.core_state.specs.inner.Pairs.{AreRising, IsGapAt};
+ghost use Rattle.address_map.specs.Pairs.{IsFirstAt};
 ghost use Rattle.core_state.specs.inner.Waiting.{lesser_by};
 
 use crate::memory::Memory;

@@ -4,7 +4,7 @@ ghost use Rattle.std.specs.Prelude.{◌≡◌, ◌↔◌, [], ◌∷◌, IsTrue,
 ghost use Rattle.std.specs.FinMap as maps;
 ghost use Rattle.cfg_model.specs.Builder.Waiter.{waiter_cmp};
 ghost use Rattle.core_state.specs.Least.{IsLeastBy};
-ghost use Rattle.core_state.specs.inner.Pairs.{over};
+ghost use Rattle.address_map.specs.Pairs.{over};
 ghost use Rattle.core_state.specs.inner.Waiting.{AwaitsTelling, with_waiter, with_told};
 
 use crate::crowd::Crowd;
@@ -30,7 +30,8 @@ impl Model for Several {
     ghost use Rattle.std.specs.FinMap as maps;
     ghost use Rattle.std.specs.Coded.{coded_bool};
     ghost use Rattle.cfg_model.specs.Builder.Waiter.{coded_waiter, waiter_cmp};
-    ghost use Rattle.core_state.specs.inner.Pairs.{AreRising, over};
+    ghost use Rattle.core_state.specs.inner.Pairs.{AreRising};
+    ghost use Rattle.address_map.specs.Pairs.{over};
     ghost use Rattle.core_state.specs.inner.Waiting.{WaiterMap, AreAway};
 
     ghost Value = { WaiterMap };

@@ -7,13 +7,13 @@ ghost use Rattle.cfg_model.specs.Builder.Event.{with_start, with_parsed};
 ghost use Rattle.cfg_model.specs.Builder.Left.{Work};
 ghost use Rattle.core_state.specs.Line.{IsNextInLine};
 ghost use Rattle.core_state.specs.Work.{work_of};
-ghost use Rattle.core_state.specs.inner.Remaining.{LeftAmong, LeftAtStart};
+ghost use Rattle.address_map.specs.Found.{IsFoundAmong};
+ghost use Rattle.core_state.specs.inner.Remaining.{LeftAtStart};
 
-use crate::address_map::AddressMap;
 use crate::answer::{Name, WorkKind};
-use crate::look::Look;
 use crate::memory::Memory;
 use crate::walk::Keys;
+use address_map::{AddressMap, Look};
 use cfg_model::Mark;
 use std::alloc::Global;
 use std::marker::Model;
@@ -52,7 +52,7 @@ impl Starts {
         ensures answer { IfOk result (λ new. IsTrue new ↔ ¬ IsStart self.old s) }
         ensures unchanged { OnErr result (self.new ≡ self.old) }
     {
-        self.marks.add(s, Mark::Wanted)
+        Ok(self.marks.add(s, Mark::Wanted)?)
     }
 
     /// Makes the start `s` a parsed one.
@@ -85,10 +85,10 @@ impl Starts {
 
     /// Work that is left at a start: to parse it. It goes over the shard once.
     pub(crate) fn left(&self) -> Option<Name>
-        ensures some { IfSome result (λ name. LeftAmong LeftAtStart self.now (work_of name)) }
-        ensures none { IfNone result ((work : Work) → ¬ LeftAmong LeftAtStart self.now work) }
+        ensures some { IfSome result (λ name. IsFoundAmong LeftAtStart self.now (work_of name)) }
+        ensures none { IfNone result ((work : Work) → ¬ IsFoundAmong LeftAtStart self.now work) }
     {
-        self.marks.first_left(&LookAtStart)
+        self.marks.find_by(&LookAtStart)
     }
 }
 
@@ -104,12 +104,12 @@ impl Keys for Starts {
 #[derive(Clone, Copy)]
 struct LookAtStart;
 
-impl Look<Mark> for LookAtStart {
-    ghost use Rattle.core_state.specs.inner.Remaining.{LeftAtStart};
+impl Look<Mark, Name> for LookAtStart {
+    ghost use Rattle.core_state.specs.inner.Remaining.{by_name, LeftAtStart};
 
-    ghost left = { λ _. LeftAtStart };
+    ghost finds = { λ _. by_name LeftAtStart };
 
-    fn left_at(&self, k: u64, mark: &Mark) -> Option<Name> {
+    fn look_at(&self, k: u64, mark: &Mark) -> Option<Name> {
         match *mark {
             Mark::Wanted => Some(Name {
                 kind: WorkKind::Parse,

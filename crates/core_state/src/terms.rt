@@ -6,19 +6,19 @@ ghost use Rattle.std.specs.FinMap as maps;
 ghost use Rattle.cfg_model.specs.Builder.State.{IsEntered, IsReturned, WaitsAt};
 ghost use Rattle.cfg_model.specs.Builder.Left.{Work};
 ghost use Rattle.core_state.specs.Work.{work_of};
-ghost use Rattle.core_state.specs.inner.Remaining.{LeftAmong, LeftAtTerminator};
+ghost use Rattle.address_map.specs.Found.{IsFoundAmong};
+ghost use Rattle.core_state.specs.inner.Remaining.{LeftAtTerminator};
 ghost use Rattle.cfg_model.specs.Builder.Event.{new_entry, with_terminator, with_changed};
 ghost use Rattle.cfg_model.specs.Builder.Event.{entry_with_waiter, entry_with_told};
 ghost use Rattle.cfg_model.specs.Builder.Event.{entry_with_return, entry_with_done};
 ghost use Rattle.core_state.specs.inner.Waiting.{IsNextHere, HasNextHere};
 ghost use Rattle.core_state.specs.Reads.{done_at, returned_at, IsNextToTell, HasNextToTell};
 
-use crate::address_map::AddressMap;
 use crate::answer::{Name, WorkKind};
-use crate::look::Look;
 use crate::memory::Memory;
 use crate::waiters::Waiters;
 use crate::walk::Keys;
+use address_map::{AddressMap, Look};
 use cfg_model::Waiter;
 use std::alloc::Global;
 use std::marker::Model;
@@ -61,7 +61,7 @@ impl Terms {
         ensures answer { IfOk result (λ new. IsTrue new ↔ ¬ IsEntered self.old k) }
         ensures unchanged { OnErr result (self.new ≡ self.old) }
     {
-        self.terms.add(k, Terminator::new(self.alloc))
+        Ok(self.terms.add(k, Terminator::new(self.alloc))?)
     }
 
     /// Makes `w` wait at the terminator `k`, untold, where it does not wait there yet. Answers
@@ -155,10 +155,10 @@ impl Terms {
 
     /// Work that is left at a terminator. It goes over the shard once.
     pub(crate) fn left(&self) -> Option<Name>
-        ensures some { IfSome result (λ name. LeftAmong LeftAtTerminator self.now (work_of name)) }
-        ensures none { IfNone result ((work : Work) → ¬ LeftAmong LeftAtTerminator self.now work) }
+        ensures some { IfSome result (λ name. IsFoundAmong LeftAtTerminator self.now (work_of name)) }
+        ensures none { IfNone result ((work : Work) → ¬ IsFoundAmong LeftAtTerminator self.now work) }
     {
-        self.terms.first_left(&LookAtTerminator)
+        self.terms.find_by(&LookAtTerminator)
     }
 }
 
@@ -174,12 +174,12 @@ impl Keys for Terms {
 #[derive(Clone, Copy)]
 struct LookAtTerminator;
 
-impl Look<Terminator> for LookAtTerminator {
-    ghost use Rattle.core_state.specs.inner.Remaining.{LeftAtTerminator};
+impl Look<Terminator, Name> for LookAtTerminator {
+    ghost use Rattle.core_state.specs.inner.Remaining.{by_name, LeftAtTerminator};
 
-    ghost left = { λ _. LeftAtTerminator };
+    ghost finds = { λ _. by_name LeftAtTerminator };
 
-    fn left_at(&self, k: u64, term: &Terminator) -> Option<Name> {
+    fn look_at(&self, k: u64, term: &Terminator) -> Option<Name> {
         term.left(k)
     }
 }

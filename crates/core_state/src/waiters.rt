@@ -9,7 +9,7 @@ ghost use Rattle.cfg_model.specs.Builder.Waiter.{waiter_cmp};
 ghost use Rattle.core_state.specs.Least.{IsLeastBy};
 ghost use Rattle.core_state.specs.inner.Waiting.{AwaitsTelling, with_waiter, with_told};
 ghost use Rattle.core_state.specs.inner.InPlace.{in_place, elsewhere, pair_of, told_if};
-ghost use Rattle.core_state.specs.inner.Pairs.{AreApart, over};
+ghost use Rattle.address_map.specs.Pairs.{AreApart, over};
 
 use crate::memory::Memory;
 use crate::row::lesser;
@@ -64,7 +64,7 @@ impl Model for Waiters {
 
     ghost coded = { maps.code coded_waiter coded_bool };
 
-    ghost use Rattle.core_state.specs.inner.Pairs.{AreApart, over};
+    ghost use Rattle.address_map.specs.Pairs.{AreApart, over};
     ghost use Rattle.core_state.specs.inner.InPlace.{in_place, elsewhere};
 
     ghost view = { λ s. over (in_place s.kept) (elsewhere s.kept) };

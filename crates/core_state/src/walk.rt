@@ -1,13 +1,10 @@
 //! Walks over the keys of all shards of one kind, in their order.
 
-ghost use Rattle.std.specs.Prelude.{◌≡◌, ◌/◌, ◌<◌, ◌^◌, IsTrue, IsSome, MatchOption, length};
-ghost use Rattle.std.specs.Ordering.{nat_cmp};
-ghost use Rattle.std.specs.BTreeMap as tree;
+ghost use Rattle.std.specs.Prelude.{◌≡◌, ◌/◌, ◌<◌, ◌^◌, IsTrue, MatchOption, length};
 ghost use Rattle.core_state.specs.Least.{IsLeast, IsAbove};
-ghost use Rattle.core_state.specs.inner.Walk.{IsKey, HaveOwn, lesser_of, is_in_line};
+ghost use Rattle.core_state.specs.inner.Walk.{IsKey, HaveOwn, is_in_line};
 
-use std::collections::BTreeMap;
-use std::ops::Bound;
+use address_map::lesser;
 
 /// A shard, as the keys that it has.
 pub(crate) trait Keys {
@@ -20,22 +17,6 @@ pub(crate) trait Keys {
     /// The least key above `a`, or the least of all where there is no `a`.
     fn after(&self, a: Option<u64>) -> Option<u64>
         ensures { IsLeast (λ k. IsTrue (has self.now k) × IsAbove a k) result };
-}
-
-/// The least key above `a`, or the least of all where there is no `a`, of a map.
-pub(crate) fn least_above<V>(map: &BTreeMap<u64, V>, a: Option<u64>) -> Option<u64>
-    ensures { IsLeast (λ k. IsSome (tree.get nat_cmp map.now k) × IsAbove a k) result }
-{
-    match a {
-        Some(a) => {
-            let (key, _) = map.range((Bound::Excluded(a), Bound::Unbounded)).next()?;
-            Some(*key)
-        }
-        None => {
-            let (key, _) = map.first_key_value()?;
-            Some(*key)
-        }
-    }
 }
 
 /// The least key above `a`, or the least of all where there is no `a`, of 64 shards.
@@ -78,16 +59,5 @@ fn lies_in(key: Option<u64>, line: u64) -> bool
     match key {
         Some(key) => key / 64 == line,
         None => false,
-    }
-}
-
-/// The lesser of two keys, either of which may be none.
-pub(crate) fn lesser(x: Option<u64>, y: Option<u64>) -> Option<u64>
-    ensures { result ≡ lesser_of x y }
-{
-    match (x, y) {
-        (Some(x), Some(y)) => Some(x.min(y)),
-        (Some(x), None) => Some(x),
-        (None, y) => y,
     }
 }

@@ -8,10 +8,17 @@
 //! - `listed_programs`: the worked programs of `test_programs`, asked as the programs that they are.
 //! - `yardstick`: their graphs, as `test_yardstick` builds them.
 //! - `file_code`: the code of a file as a program, against walks that decode each instruction.
-//! - `gaps`: the stretches that bounds leave between them.
+//! - `address_maps`: many addresses of a map, of one page and of several, near and far.
+//! - `state_program`: a small program, for the tests of changes and of work that is left.
+//! - `state_changes`: each change of a state on it, one after the other.
+//! - `waits`: few and many waiters of one terminator, in several orders.
+//! - `work_left`: the work that is left in a state, found by one worker and by several.
+//! - `gaps`: the ranges that bounds leave between them.
 //! - `closed_states`: the closed states of the worked programs.
 #![tactic(auto)]
 
+#[cfg(test)]
+mod address_maps;
 #[cfg(test)]
 mod closed_states;
 #[cfg(test)]
@@ -20,5 +27,13 @@ mod file_code;
 mod gaps;
 #[cfg(test)]
 mod listed_programs;
+#[cfg(test)]
+mod state_changes;
+#[cfg(test)]
+mod state_program;
+#[cfg(test)]
+mod waits;
+#[cfg(test)]
+mod work_left;
 #[cfg(test)]
 mod yardstick;

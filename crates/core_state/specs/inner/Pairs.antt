@@ -1,24 +1,10 @@
--- Pairs of a key and a value in a row, read as a map: the first pair of a key counts.
-use Rattle.std.specs.Prelude.{◌≡◌, ℕ, ◌≤◌, ◌<◌, T, List, [], ◌∷◌, length, get_or, take, slice_get, Some, None}
+-- Pairs of a key and a value in a row, in the order of their keys.
+use Rattle.std.specs.Prelude.{◌≡◌, ℕ, ◌≤◌, ◌<◌, T, List, length, get_or}
 use Rattle.std.specs.declared.cmp.Ordering.{Ordering}
-use Rattle.std.specs.declared.cmp.Ordering.TheVariants.{Less, Equal}
-use Rattle.std.specs.FinMap as maps
-use Rattle.std.specs.FinMap.{find}
+use Rattle.std.specs.declared.cmp.Ordering.TheVariants.{Less}
 use Rattle.std.specs.FinMap.Entries.{is_sorted}
 
 module _ {K X : Type 0} (R : K → K → Ordering) where
-  -- No key stands twice.
-  abbrev pub AreApart : List (K × X) → Type 0
-  AreApart [] = Unit {0}
-  AreApart (e ∷ es) = (find R e.0 es ≡ None) × AreApart es
-
-  -- The pair at i is the first one of the key.
-  pub record IsFirstAt (es : List (K × X)) (key : K) (i : ℕ) : Type 0 where
-    pub pair : K × X
-    pub at : slice_get es i ≡ Some pair
-    pub is : R key pair.0 ≡ Equal
-    pub first : find R key (take i es) ≡ None
-
   -- The keys strictly rise.
   abbrev pub AreRising : List (K × X) → Type 0
   AreRising es = T (is_sorted R es)
@@ -29,9 +15,3 @@ module _ {K X : Type 0} (R : K → K → Ordering) where
     pub within : i ≤ length es
     pub behind : (k : ℕ) (e : K × X) → k < i → R (get_or es k e).0 key ≡ Less
     pub before : (k : ℕ) (e : K × X) → i ≤ k → k < length es → R key (get_or es k e).0 ≡ Less
-
--- The map with the pairs put into it.
-abbrev pub over : {K X : Type 0} {R : K → K → Ordering} → List (K × X) → maps.FinMap R X
-    → maps.FinMap R X
-over [] m = m
-over (e ∷ es) m = maps.insert (over es m) e.0 e.1

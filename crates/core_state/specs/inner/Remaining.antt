@@ -1,6 +1,5 @@
--- The work that is left at one entry of a state, and among the entries of a map.
-use Rattle.std.specs.Prelude.{◌≡◌, ℕ, ◌<◌, List, length, Some, false, IsTrue, slice_index_or}
-use Rattle.std.specs.Ordering.{nat_cmp}
+-- The work that is left at one entry of a state.
+use Rattle.std.specs.Prelude.{◌≡◌, ℕ, Some, false, IsTrue}
 use Rattle.std.specs.FinMap as maps
 use Rattle.std.specs.FinSet as sets
 use Rattle.cfg_model.specs.declared.state.Mark.{Mark}
@@ -8,6 +7,8 @@ use Rattle.cfg_model.specs.declared.state.Mark.TheVariants as marks
 use Rattle.cfg_model.specs.declared.state.Waiter.{Waiter}
 use Rattle.cfg_model.specs.Builder.State.{StartMap, EndEntry, TerminatorEntry, IsStart}
 use Rattle.cfg_model.specs.Builder.Left.{Work}
+use Rattle.core_state.specs.declared.answer.Name.{Name}
+use Rattle.core_state.specs.Work.{work_of}
 
 -- At a start that is wanted: to parse it.
 pub data LeftAtStart (s : ℕ) (mark : Mark) : Work → Type 0 where
@@ -26,17 +27,6 @@ pub data LeftAtTerminator (k : ℕ) (entry : TerminatorEntry) : Work → Type 0 
   untold : (w : Waiter) → IsTrue entry.returned → maps.get entry.waiters w ≡ Some false
       → LeftAtTerminator k entry (Work.Tell k)
 
--- The work is left at an entry of the map.
-pub record LeftAmong {X : Type 0} (At : ℕ → X → Work → Type 0) (m : maps.FinMap nat_cmp X)
-    (work : Work) : Type 0 where
-  pub key : ℕ
-  pub entry : X
-  pub has : maps.get m key ≡ Some entry
-  pub left : At key entry work
-
--- The work is left at an entry of one of these shards.
-pub record LeftIn {X : Type 0} (At : ℕ → X → Work → Type 0) (shards : List (maps.FinMap nat_cmp X))
-    (work : Work) : Type 0 where
-  pub shard : ℕ
-  pub within : shard < length shards
-  pub left : LeftAmong At (slice_index_or shards shard maps.empty) work
+-- The work of a name, of work that is left at an entry.
+abbrev pub by_name : {X : Type 0} → (ℕ → X → Work → Type 0) → ℕ → X → Name → Type 0
+by_name At key entry name = At key entry (work_of name)

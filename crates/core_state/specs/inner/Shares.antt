@@ -5,14 +5,15 @@ use Rattle.cfg_model.specs.Builder.State.{BuilderState, IsStart}
 use Rattle.cfg_model.specs.Builder.Left.{Work, IsLeft}
 use Rattle.core_state.specs.declared.answer.Name.{Name}
 use Rattle.core_state.specs.Work.{work_of}
-use Rattle.core_state.specs.inner.Remaining.{LeftAmong, LeftAtStart, LeftAtEnd, LeftAtTerminator}
+use Rattle.address_map.specs.Found.{IsFoundAmong}
+use Rattle.core_state.specs.inner.Remaining.{LeftAtStart, LeftAtEnd, LeftAtTerminator}
 
 -- Nothing is left at the starts, ends and terminators with these addresses.
 pub record HasNothingAt (Is : ℕ → Type 0) (state : BuilderState) : Type 0 where
-  pub starts : (work : Work) (left : LeftAmong LeftAtStart state.starts work) → ¬ Is left.key
-  pub ends : (work : Work) (left : LeftAmong (LeftAtEnd state.starts) state.ends work)
+  pub starts : (work : Work) (left : IsFoundAmong LeftAtStart state.starts work) → ¬ Is left.key
+  pub ends : (work : Work) (left : IsFoundAmong (LeftAtEnd state.starts) state.ends work)
       → ¬ Is left.key
-  pub terminators : (work : Work) (left : LeftAmong LeftAtTerminator state.terminators work)
+  pub terminators : (work : Work) (left : IsFoundAmong LeftAtTerminator state.terminators work)
       → ¬ Is left.key
 
 -- The address belongs to this share, of so many: shards go to shares in turn.

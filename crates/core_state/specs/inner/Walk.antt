@@ -1,5 +1,5 @@
 -- What a walk over the keys of many shards reads of them.
-use Rattle.std.specs.Prelude.{◌≡◌, ℕ, ◌==◌, ◌/◌, Bool, false, List, min}
+use Rattle.std.specs.Prelude.{◌≡◌, ℕ, ◌==◌, ◌/◌, Bool, false, List}
 use Rattle.std.specs.Prelude.{slice_get, IsTrue, Option, Some, None}
 use Rattle.cfg_model.specs.Builder.Shard.{shard_of}
 
@@ -11,12 +11,6 @@ IsKey {S} has shards k = (s : S) × (slice_get shards (shard_of k) ≡ Some s) �
 abbrev pub HaveOwn : {S : Type 0} → (S → ℕ → Bool) → List S → Type 0
 HaveOwn {S} has shards =
     (i : ℕ) (s : S) → slice_get shards i ≡ Some s → (k : ℕ) → IsTrue (has s k) → shard_of k ≡ i
-
--- The lesser of two numbers, either of which may be none.
-abbrev pub lesser_of : Option ℕ → Option ℕ → Option ℕ
-lesser_of None y = y
-lesser_of (Some x) None = Some x
-lesser_of (Some x) (Some y) = Some (min x y)
 
 -- Whether there is a number, and it is the address of a byte of that line of 64 bytes.
 abbrev pub is_in_line : Option ℕ → ℕ → Bool

@@ -1,5 +1,5 @@
 use Rattle.core_state.specs.inner.Remaining.{LeftAtStart}
-use Rattle.core_state.proofs.AmongShards.{none_passed, passed_more, passed_all, found_in}
+use Rattle.address_map.proofs.AmongParts.{none_passed, passed_more, passed_all, found_in}
 use Rattle.core_state.proofs.left.left_of_starts.Goals as goal
 
 pub loop-shard-init : goal.loop-shard-init

@@ -1,5 +1,5 @@
 use Rattle.core_state.specs.inner.Remaining.{LeftAtStart}
-use Rattle.core_state.proofs.AmongShards.{ArePassed}
+use Rattle.address_map.proofs.AmongParts.{ArePassed}
 use Rattle.core_state.proofs.left.left_of_starts.Given as goal
 
 -- nothing is left in the shards that were passed

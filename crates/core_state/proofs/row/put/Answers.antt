@@ -1,7 +1,8 @@
 use Rattle.std.proofs.Common.{subst, ◌∙◌}
 use Rattle.cfg_model.specs.Builder.Waiter.{waiter_cmp}
 use Rattle.cfg_model.proofs.Builder.WaiterOrder.{waiter_cmp_total}
-use Rattle.core_state.specs.inner.Pairs.{IsFirstAt, IsGapAt}
+use Rattle.address_map.specs.Pairs.{IsFirstAt}
+use Rattle.core_state.specs.inner.Pairs.{IsGapAt}
 use Rattle.core_state.proofs.RowInOrder.{put_gap}
 use Rattle.core_state.proofs.WaitersKept.{Row, put_first}
 use Rattle.core_state.proofs.row.put.Goals as goal

@@ -8,7 +8,7 @@ use Rattle.cfg_model.proofs.Builder.MapFacts.{insert_again}
 use Rattle.cfg_model.proofs.Builder.StateReads.{near_here}
 use Rattle.core_state.specs.declared.answer.Arrival.TheVariants.{First}
 use Rattle.core_state.specs.Answer.{arrival_of}
-use Rattle.core_state.proofs.PairsKept.{held, none_before_it, put_there, left_there, has_it}
+use Rattle.address_map.proofs.PairsKept.{held, none_before_it, put_there, left_there, has_it}
 use Rattle.core_state.proofs.EndChanges.{arrives_known, arrives_first, answers}
 use Rattle.core_state.proofs.ends.Ends.arrive_along.Goals as goal
 

@@ -6,7 +6,8 @@ use Rattle.std.proofs.lemmas.Result.{IfOk-weaker, on_ok_weaker}
 use Rattle.cfg_model.specs.Builder.State.{BuilderState, EndEntry}
 use Rattle.cfg_model.specs.Builder.Event.{Arrives}
 use Rattle.core_state.specs.Answer.{arrival_of}
-use Rattle.core_state.proofs.Shards.{same_there, still, still_inserted, insert_whole, new_there, either}
+use Rattle.core_state.proofs.Shards.{same_there, still, still_inserted, insert_whole, new_there}
+use Rattle.address_map.proofs.OneEntry.{either}
 use Rattle.core_state.proofs.maps.Maps.arrive_along.Goals as goal
 
 pub arrive_along-requires-clause-near : goal.arrive_along-requires-clause-near

@@ -5,7 +5,8 @@ use Rattle.std.specs.FinMap as maps
 use Rattle.std.proofs.lemmas.Result.{IfOk-weaker, on_ok_weaker}
 use Rattle.cfg_model.specs.Builder.State.{BuilderState, TerminatorEntry}
 use Rattle.cfg_model.specs.Builder.Event.{entry_with_waiter}
-use Rattle.core_state.proofs.Shards.{same_there, changed, still, still_after, either}
+use Rattle.core_state.proofs.Shards.{same_there, changed, still, still_after}
+use Rattle.address_map.proofs.OneEntry.{either}
 use Rattle.core_state.proofs.LocalChanges.{change_local}
 use Rattle.core_state.proofs.maps.Maps.place_waiter.Goals as goal
 

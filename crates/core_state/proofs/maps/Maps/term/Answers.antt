@@ -2,7 +2,8 @@ use Rattle.std.proofs.Common.{ap, subst}
 use Rattle.std.specs.Prelude.{Option, IsSome, IsTrue, ◌↔◌}
 use Rattle.std.proofs.lemmas.Result.{IfOk-weaker, on_ok_weaker}
 use Rattle.cfg_model.specs.Builder.State.{BuilderState, TerminatorEntry}
-use Rattle.core_state.proofs.Shards.{same_there, changed, still, still_after, either}
+use Rattle.core_state.proofs.Shards.{same_there, changed, still, still_after}
+use Rattle.address_map.proofs.OneEntry.{either}
 use Rattle.core_state.proofs.LocalChanges.{term_local}
 use Rattle.core_state.proofs.maps.Maps.term.Goals as goal
 

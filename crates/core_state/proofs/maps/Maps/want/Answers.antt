@@ -3,7 +3,8 @@ use Rattle.std.specs.Prelude.{Option, IsSome, IsTrue, ◌↔◌}
 use Rattle.std.proofs.lemmas.Result.{IfOk-weaker, on_ok_weaker}
 use Rattle.cfg_model.specs.declared.state.Mark.{Mark}
 use Rattle.cfg_model.specs.Builder.State.{BuilderState}
-use Rattle.core_state.proofs.Shards.{same_there, changed, still, still_after, either}
+use Rattle.core_state.proofs.Shards.{same_there, changed, still, still_after}
+use Rattle.address_map.proofs.OneEntry.{either}
 use Rattle.core_state.proofs.LocalChanges.{want_local}
 use Rattle.core_state.proofs.maps.Maps.want.Goals as goal
 

@@ -1,8 +1,9 @@
 use Rattle.std.proofs.Common.{true, sym, ap, subst, ◌∙◌, ◌<◌}
 use Rattle.cfg_model.specs.Builder.Waiter.{waiter_cmp}
-use Rattle.core_state.specs.inner.Pairs.{IsFirstAt, IsGapAt, over}
+use Rattle.address_map.specs.Pairs.{IsFirstAt, over}
+use Rattle.core_state.specs.inner.Pairs.{IsGapAt}
 use Rattle.core_state.specs.inner.Waiting.{WaiterMap, AreAway}
-use Rattle.core_state.proofs.PairsInRow.{inside}
+use Rattle.address_map.proofs.PairsInRow.{inside}
 use Rattle.core_state.proofs.WaitersKept.{Row, has_crowd, not_in_row, put_first, put_over, put_kept, out_of_crowd, stands_in, told_where, told_crowd, away_told}
 use Rattle.core_state.proofs.several.Several.tell.Goals as goal
 

@@ -1,6 +1,7 @@
 use Rattle.std.proofs.Common.{true, false, sym, ap, subst, ◌∙◌}
 use Rattle.cfg_model.specs.Builder.Waiter.{waiter_cmp}
-use Rattle.core_state.specs.inner.Pairs.{IsFirstAt, IsGapAt, over}
+use Rattle.address_map.specs.Pairs.{IsFirstAt, over}
+use Rattle.core_state.specs.inner.Pairs.{IsGapAt}
 use Rattle.core_state.specs.inner.Waiting.{WaiterMap, AreAway}
 use Rattle.core_state.proofs.WaitersKept.{Row, stands_in, put_over, put_kept, not_in_row, as_in_crowd, put_in_gap, crowd_without, crowd_put, away_crowd, is_new, not_new, waits_already, waits_new}
 use Rattle.core_state.proofs.several.Several.wait.Goals as goal

@@ -1,8 +1,9 @@
-use Rattle.std.proofs.Common.{subst}
-use Rattle.std.specs.Prelude.{IfNone}
-use Rattle.cfg_model.specs.Builder.Left.{Work}
-use Rattle.core_state.specs.inner.Remaining.{LeftAmong, LeftAtStart}
+use Rattle.core_state.specs.inner.Remaining.{LeftAtStart}
+use Rattle.core_state.proofs.AmongShards.{some_work, no_work}
 use Rattle.core_state.proofs.starts.Starts.left.Goals as goal
 
+pub returns-clause-some : goal.returns-clause-some
+returns-clause-some c = some_work LeftAtStart _ _ c.self.view_is c.find_by.result c.find_by.ensures.some
+
 pub returns-clause-none : goal.returns-clause-none
-returns-clause-none c = subst (λ m. IfNone c.first_left.result ((work : Work) → ¬ LeftAmong LeftAtStart m work)) c.self.view_is c.first_left.ensures.none
+returns-clause-none c = no_work LeftAtStart _ _ c.self.view_is c.find_by.result c.find_by.ensures.none

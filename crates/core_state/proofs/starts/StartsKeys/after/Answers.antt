@@ -1,6 +1,6 @@
 use Rattle.std.proofs.Common.{subst}
 use Rattle.core_state.specs.Least.{IsLeast}
-use Rattle.core_state.specs.inner.Grouped.{IsKeyAbove}
+use Rattle.address_map.specs.Keys.{IsKeyAbove}
 use Rattle.core_state.proofs.starts.StartsKeys.after.Goals as goal
 
 pub returns : goal.returns

@@ -4,7 +4,7 @@ use Rattle.cfg_model.specs.declared.state.Waiter.{Waiter}
 use Rattle.core_state.specs.declared.waiters.Kept.TheVariants.{Nobody}
 use Rattle.core_state.specs.declared.waiters.Waiters.TheInside.{Inside}
 use Rattle.core_state.specs.inner.InPlace.{pair_of}
-use Rattle.core_state.specs.inner.Pairs.{over}
+use Rattle.address_map.specs.Pairs.{over}
 use Rattle.core_state.specs.inner.Waiting.{WaiterMap, with_told}
 use Rattle.core_state.proofs.InPlace.{seen_as, apart_as, told_nobody, told_one, both_told}
 use Rattle.core_state.proofs.waiters.Waiters.tell.Goals as goal

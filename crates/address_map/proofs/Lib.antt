@@ -1,0 +1,15 @@
+pub mod OneEntry
+pub mod Appended
+pub mod Leasts
+pub mod Seen
+pub mod PairsInRow
+pub mod PairsKept
+pub mod PartsJoined
+pub mod ChunksJoined
+pub mod KeysAfter
+pub mod EntriesLinked
+pub mod EntriesKept
+pub mod NearAndFar
+pub mod Among
+pub mod AmongParts
+pub mod Worked

@@ -1,0 +1,7 @@
+pub mod Least
+pub mod Keys
+pub mod Lent
+pub mod Found
+pub mod Joined
+pub mod Pairs
+pub mod inner

@@ -1,5 +1,0 @@
-use Rattle.core_state.proofs.NearAndFar.{nothing_apart}
-use Rattle.core_state.proofs.address_map.AddressMap.begin.Goals as goal
-
-pub invariant_of-self : goal.invariant_of-self
-invariant_of-self g c = nothing_apart _ _ _ (c.is_empty.ensures c.if-is_empty.true) (c.is_empty-then-is_empty.ensures c.if-is_empty-2.true)

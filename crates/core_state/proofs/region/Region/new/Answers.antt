@@ -1,6 +1,0 @@
-use Rattle.core_state.specs.inner.Grouped.{place_of}
-use Rattle.core_state.proofs.PartsJoined.{no_parts}
-use Rattle.core_state.proofs.region.Region.new.Goals as goal
-
-pub invariant_of-result : goal.invariant_of-result
-invariant_of-result g c = rw c.new.ensures.items (no_parts _ place_of)

@@ -1,5 +1,0 @@
-use Rattle.cfg_model.specs.Program.Chain.{OnChain}
-use Rattle.core_state.proofs.tests.move_first.Goals as goal
-
-pub arrive-requires-clause-arriving : goal.arrive-requires-clause-arriving
-arrive-requires-clause-arriving g c κs = OnChain.here

@@ -1,0 +1,134 @@
+//! Many addresses of a map by address, of one page and of several, which come in mixed order: those
+//! that were added are found, no other one is, and a walk goes along all of them.
+
+ghost use Rattle.std.specs.Prelude.{◌≡◌};
+
+use address_map::{AddressMap, Look, lesser};
+use std::process::Abort;
+use std::test::Fail;
+
+/// How many addresses there are, of which each second one is added.
+const COUNT: u16 = 2048;
+
+/// Where the addresses lie: from the first one on, each so many bytes after the one before.
+#[derive(Clone, Copy)]
+struct Spread {
+    first: u32,
+    apart: u16,
+}
+
+impl Spread {
+    /// The address of this number.
+    fn address(self, number: u16) -> u64 {
+        u64::from(self.first) * 0x10000 + u64::from(number) * u64::from(self.apart)
+    }
+}
+
+/// The value that is added at the address of this number.
+fn value(number: u16) -> Option<u16> {
+    if number % 2 == 0 { Some(number) } else { None }
+}
+
+/// Each second address is added, not in their order, but every 389th in turn; then once more, which
+/// changes nothing.
+fn add_half(rt: &impl Abort, map: &mut AddressMap<u16>, spread: Spread) -> Result<(), Fail> {
+    for place in 0..COUNT {
+        let number = (u32::from(place) * 389 % u32::from(COUNT)) as u16;
+        if value(number).is_some() {
+            assert_eq!(rt; map.add(spread.address(number), number)?, true);
+            assert_eq!(rt; map.add(spread.address(number), 1)?, false);
+        }
+    }
+    Ok(())
+}
+
+/// Each second address is found.
+fn find_half(rt: &impl Abort, map: &AddressMap<u16>, spread: Spread) {
+    for number in 0..COUNT {
+        assert_eq!(rt; map.get(spread.address(number)).copied(), value(number));
+    }
+}
+
+/// After each address comes the next one that was added, also in its page if it lies there.
+fn walk_half(rt: &impl Abort, map: &AddressMap<u16>, spread: Spread) {
+    for number in 0..COUNT - 2 {
+        let a = spread.address(number);
+        let next = spread.address(number + 2 - number % 2);
+        assert_eq!(rt; map.after(Some(a)), Some(next));
+        let in_page = if next / 4096 == a / 4096 {
+            Some(next)
+        } else {
+            None
+        };
+        assert_eq!(rt; map.after_in_page(a), in_page);
+    }
+    assert_eq!(rt; map.after(Some(spread.address(COUNT - 2))), None);
+}
+
+/// The look for the address of a value.
+#[derive(Clone, Copy)]
+struct LookForValue(u16);
+
+impl Look<u16, u64> for LookForValue {
+    ghost use Rattle.std.specs.Prelude.{◌≡◌};
+
+    ghost finds = { λ look k value found. (value ≡ look.0) × (found ≡ k) };
+
+    fn look_at(&self, k: u64, value: &u16) -> Option<u64> {
+        if *value == self.0 { Some(k) } else { None }
+    }
+}
+
+/// The value of one address is written, and found there alone.
+fn write_one(rt: &impl Abort, map: &mut AddressMap<u16>, spread: Spread) {
+    let k = spread.address(6);
+    assert_eq!(rt; map.find_by(&LookForValue(7)), None);
+    if map.get(k).is_some() {
+        *map.value_mut(k) = 7;
+    }
+    assert_eq!(rt; map.get(k).copied(), Some(7));
+    assert_eq!(rt; map.find_by(&LookForValue(7)), Some(k));
+    assert_eq!(rt; map.find_by(&LookForValue(6)), None);
+}
+
+/// In one page, in several pages of one chunk, and in several chunks.
+#[test]
+fn near_ones_are_found(rt: HostRuntime) -> Result<(), Fail> {
+    for apart in [2, 66, 1026] {
+        let spread = Spread { first: 1, apart };
+        let mut map = AddressMap::new(rt.alloc());
+        add_half(&rt, &mut map, spread)?;
+        find_half(&rt, &map, spread);
+        walk_half(&rt, &map, spread);
+        write_one(&rt, &mut map, spread);
+    }
+    Ok(())
+}
+
+/// The same far from the first address of the map, which is the least one.
+#[test]
+fn far_ones_are_found(rt: HostRuntime) -> Result<(), Fail> {
+    for apart in [2, 66, 1026] {
+        let spread = Spread {
+            first: 0x7fff_0000,
+            apart,
+        };
+        let mut map = AddressMap::new(rt.alloc());
+        assert_eq!(rt; map.add(0x10000, 1)?, true);
+        add_half(&rt, &mut map, spread)?;
+        find_half(&rt, &map, spread);
+        walk_half(&rt, &map, spread);
+        write_one(&rt, &mut map, spread);
+        assert_eq!(rt; map.after(None), Some(0x10000));
+        assert_eq!(rt; map.after(Some(0x10000)), Some(spread.address(0)));
+    }
+    Ok(())
+}
+
+/// The lesser of two addresses, either of which may be none.
+#[test]
+fn the_lesser_is_found(rt: HostRuntime) {
+    assert_eq!(rt; lesser(Some(0x10008), Some(0x10004)), Some(0x10004));
+    assert_eq!(rt; lesser(None, Some(0x10004)), Some(0x10004));
+    assert_eq!(rt; lesser(Some(0x10008), None), Some(0x10008));
+}
