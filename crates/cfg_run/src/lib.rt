@@ -22,4 +22,3 @@ pub use run::{run, run_one};
 pub use run_ends::FILE_LIMIT;
 pub use safe::run_safely;
 pub use status::Status;
-pub use text::{FileReport, Text};
