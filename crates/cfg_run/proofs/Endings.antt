@@ -1,9 +1,11 @@
 -- How a run ends: what each refusal leaves, by its kind.
 use Rattle.std.proofs.Common.{cond, ◌≡◌, ℕ, ◌<◌, ◌≤◌, List, [], ◌++◌, length, Option, Some, None, refl, sym, ap, subst, arith, length-append, append-nil, ◌∙◌}
-use Rattle.std.specs.Prelude.{IfSome, IfErr, nat_lt, nat_le, ◌&&◌, Result, Ok, Err, codes, Bool, true, false}
+use Rattle.std.specs.Prelude.{◌≢◌, IfSome, IfErr, nat_lt, nat_le, ◌&&◌, Result, Ok, Err, codes, Bool, true, false}
 use Rattle.std.specs.Option.{option_and_then}
 use Rattle.std.proofs.lemmas.Bool.{cond-true, lt-ltb, leb-true}
 use Rattle.std.proofs.lemmas.Option.{cond_some, same_Some, none-some}
+use Rattle.elf_image.specs.declared.fault.ElfError.{ElfError}
+use Rattle.elf_image.specs.declared.fault.ElfError.TheVariants as errors
 use Rattle.elf_image.specs.declared.fault.Fault.{Fault}
 use Rattle.elf_image.specs.declared.fault.Fault.TheVariants.{TooLarge}
 use Rattle.elf_image.specs.FaultTests.{is_too_large}
@@ -18,11 +20,15 @@ use Rattle.cfg_words.specs.declared.error.WordsError.TheVariants as words
 use Rattle.cfg_run.specs.declared.refusal.Refusal.{Refusal}
 use Rattle.cfg_run.specs.declared.refusal.Refusal.TheVariants as refusals
 use Rattle.cfg_run.specs.Answer.{IsAnswer, usage_answer, malformed_answer}
-use Rattle.cfg_run.specs.Refusal.{status_of, refusal_of_words}
+use Rattle.run_ends.specs.declared.reading.Unread.{Unread}
+use Rattle.run_ends.specs.declared.reading.Unread.TheVariants as unread
+use Rattle.cfg_run.specs.Refusal.{status_of, refusal_of, refusal_of_words, refusal_of_unread}
+use Rattle.file_graph.specs.Survey.{IsFaultOf}
 use Rattle.cfg_run.specs.Words.{IsForFile, CanBeMade}
 use Rattle.cfg_run.specs.Lines.{refusal_line}
-use Rattle.cfg_run.specs.Inner.{IsFaultOf, IsUnread, IsTrueOf, IsMalformed}
-use Rattle.cfg_run.specs.Run.{Grows, IsDecided, HasRead, Gives, IsLineOf}
+use Rattle.cfg_run.specs.Inner.{IsRefusalOf, IsTrueOf, IsMalformed}
+use Rattle.run_ends.specs.Told.{Grows}
+use Rattle.cfg_run.specs.Run.{IsDecided, HasRead, Gives, IsLineOf}
 
 -- Nothing was appended.
 pub appends-nothing : (old : Option (List ℕ)) → Appends old [] old
@@ -48,36 +54,43 @@ module _ (path : List ℕ) (workers : ℕ) (kind : ReportKind) where
   told-too-large None new takes = tt
   told-too-large (Some bytes) new takes = IsAnswer.malformed (too-large bytes (taken-more bytes new takes))
 
-  pub unread-true : (told new : Option (List ℕ)) (rose : Type 0) (r : Refusal) → IsUnread rose r
-      → (r ≡ refusals.Malformed TooLarge → TakesCount told 67108865 new) → IsTrueOf (Some (of_file path workers kind)) told rose r
-  unread-true told new rose refusals.Usage is takes = absurd is
-  unread-true told new rose (refusals.Malformed fault) is takes =
-      let all = told-too-large told new (takes (ap (λ f. refusals.Malformed f) is)) in
-      (tt, subst (λ (f : Fault). IfSome told (λ bytes. IsAnswer bytes (Some (of_file path workers kind)) (malformed_answer f))) (sym is) all)
-  unread-true told new rose refusals.ReadFault is takes = (tt, is)
-  unread-true told new rose refusals.WriteFault is takes = is
-  unread-true told new rose refusals.Memory is takes = tt
+  pub unread-true : (told new : Option (List ℕ)) (rose : Type 0) (e : Unread) → (e ≡ unread.ReadFault → rose)
+      → (e ≡ unread.TooLarge → TakesCount told 67108865 new) → IsTrueOf (Some (of_file path workers kind)) told rose (refusal_of_unread e)
+  unread-true told new rose unread.ReadFault failed takes = (tt, failed refl)
+  unread-true told new rose unread.TooLarge failed takes = (tt, told-too-large told new (takes refl))
+  unread-true told new rose unread.Memory failed takes = tt
 
   -- So is what the bytes that were read refuse.
-  fault-of : (bytes : List ℕ) (rose : Type 0) (r : Refusal) → IsFaultOf bytes r → IsTrueOf (Some (of_file path workers kind)) (Some bytes) rose r
+  fault-of : (bytes : List ℕ) (rose : Type 0) (r : Refusal) → IsRefusalOf bytes r → IsTrueOf (Some (of_file path workers kind)) (Some bytes) rose r
   fault-of bytes rose refusals.Usage is = absurd is
   fault-of bytes rose (refusals.Malformed fault) is = (tt, IsAnswer.malformed is)
   fault-of bytes rose refusals.ReadFault is = absurd is
   fault-of bytes rose refusals.WriteFault is = absurd is
   fault-of bytes rose refusals.Memory is = tt
 
-  untold : (rose : Type 0) (bytes : List ℕ) (r : Refusal) → IsFaultOf bytes r → IsTrueOf (Some (of_file path workers kind)) None rose r
+  untold : (rose : Type 0) (bytes : List ℕ) (r : Refusal) → IsRefusalOf bytes r → IsTrueOf (Some (of_file path workers kind)) None rose r
   untold rose bytes refusals.Usage is = absurd is
   untold rose bytes (refusals.Malformed fault) is = (tt, tt)
   untold rose bytes refusals.ReadFault is = absurd is
   untold rose bytes refusals.WriteFault is = absurd is
   untold rose bytes refusals.Memory is = tt
 
-  pub fault-true : (told : Option (List ℕ)) (bytes : List ℕ) (rose : Type 0) (r : Refusal) → IfSome told (λ b. b ≡ bytes) → IsFaultOf bytes r
+  pub fault-true : (told : Option (List ℕ)) (bytes : List ℕ) (rose : Type 0) (r : Refusal) → IfSome told (λ b. b ≡ bytes) → IsRefusalOf bytes r
       → IsTrueOf (Some (of_file path workers kind)) told rose r
   fault-true None bytes rose r same is = untold rose bytes r is
   fault-true (Some b) bytes rose r same is =
       subst (λ (x : List ℕ). IsTrueOf (Some (of_file path workers kind)) (Some x) rose r) (sym same) (fault-of bytes rose r is)
+
+-- What making the graph refuses is true of the bytes.
+pub refusal-of : (bytes : List ℕ) (e : ElfError) → IsFaultOf bytes e → IsRefusalOf bytes (refusal_of e)
+refusal-of bytes (errors.Malformed fault) is = is
+refusal-of bytes errors.Memory is = tt
+
+-- A file that was not read and is no malformed one was not too large.
+pub not-too-large : (e : Unread) → ¬ IsMalformed (refusal_of_unread e) → e ≢ unread.TooLarge
+not-too-large unread.ReadFault no = λ same. absurd (cc)
+not-too-large unread.TooLarge no = λ same. no tt
+not-too-large unread.Memory no = λ same. absurd (cc)
 
 -- ---- refusing
 

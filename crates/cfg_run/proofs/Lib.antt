@@ -1,4 +1,2 @@
-pub mod Pieces
-pub mod UnderCuts
 pub mod Endings
 pub mod Unique

@@ -167,12 +167,7 @@ pub fn run_one<I: Input, O: Sink, E: Sink>(
 }
 
 // Answers a request with the file and graph that `by` makes of bytes. Its clauses are those of `run_one`.
-fn run_by<
-    F: Fn(Vec<u8>) -> Result<FileGraph, ElfError>,
-    I: Input,
-    O: Sink,
-    E: Sink,
->(
+fn run_by<F: Fn(Vec<u8>) -> Result<FileGraph, ElfError>, I: Input, O: Sink, E: Sink>(
     alloc: Global,
     by: &F,
     request: &Request,

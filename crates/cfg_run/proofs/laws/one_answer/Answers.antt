@@ -1,4 +1,5 @@
-use Rattle.cfg_run.proofs.Unique.{cuts-unique, graph-unique, answer-unique}
+use Rattle.file_graph.proofs.Unique.{cuts-unique, graph-unique}
+use Rattle.cfg_run.proofs.Unique.{answer-unique}
 use Rattle.cfg_run.proofs.laws.one_answer.Goals as goal
 
 pub returns : goal.returns

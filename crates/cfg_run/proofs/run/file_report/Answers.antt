@@ -2,7 +2,7 @@ use Rattle.std.proofs.Common.{ap}
 use Rattle.std.specs.Prelude.{Err}
 use Rattle.std.proofs.lemmas.Result.{err_from_is_err_and}
 use Rattle.cfg_io.specs.Fault.{Rose}
-use Rattle.cfg_run.specs.declared.refusal.Refusal.{Refusal}
+use Rattle.run_ends.specs.declared.reading.Unread.{Unread}
 use Rattle.cfg_run.proofs.Endings.{unread-true, fault-true, read-whole, if_err_map}
 use Rattle.cfg_run.proofs.run.file_report.Goals as goal
 
@@ -12,8 +12,9 @@ returns-in_err-bytes-clause-refused g c =
     let new = g.I.Input.rest c.read_file.new.input in
     let rose = Rose (g.I.Input.faults c.args.input.now) (g.I.Input.faults c.read_file.new.input) in
     let p = err_from_is_err_and c.from_residual.result c.from_residual.ensures.1 in
-    rw (p.1, p.2) (λ workers. unread-true c.args.path.now workers c.args.kind told new rose c.in_err-bytes.field-0.0 c.in_err-bytes.ensures.refused
-    (λ e. c.in_err-bytes.ensures.over_limit (ap (λ (r : Refusal). Err r) e)))
+    rw (p.1, p.2) (λ workers. unread-true c.args.path.now workers c.args.kind told new rose c.in_err-bytes.field-0.0
+    (λ e. c.in_err-bytes.ensures.read_fault (ap (λ (r : Unread). Err r) e))
+    (λ e. c.in_err-bytes.ensures.over_limit (ap (λ (r : Unread). Err r) e)))
 
 pub returns-clause-refused : goal.returns-clause-refused
 returns-clause-refused g c =

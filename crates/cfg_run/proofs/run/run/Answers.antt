@@ -5,7 +5,8 @@ use Rattle.cfg_words.specs.Request.{Asked, asked}
 use Rattle.cfg_run.specs.declared.status.Status.{Status}
 use Rattle.cfg_run.specs.Words.{asked_by}
 use Rattle.cfg_run.specs.Inner.{IsTrueOf}
-use Rattle.cfg_run.specs.Run.{Grows, Tells, IsDecided, HasRead, Gives}
+use Rattle.run_ends.specs.Told.{Grows, Tells}
+use Rattle.cfg_run.specs.Run.{IsDecided, HasRead, Gives}
 use Rattle.cfg_run.proofs.Endings.{decided-true, words-true, can-be-made, if_some_map}
 use Rattle.cfg_run.proofs.run.run.Goals as goal
 

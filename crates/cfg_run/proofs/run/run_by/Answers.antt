@@ -4,7 +4,8 @@ use Rattle.cfg_io.specs.Fault.{Rose}
 use Rattle.cfg_words.specs.Request.{Asked, asked}
 use Rattle.cfg_run.specs.declared.status.Status.{Status}
 use Rattle.cfg_run.specs.Lines.{refusal_line}
-use Rattle.cfg_run.specs.Run.{Grows, Tells, IsDecided, HasRead, Gives, IsLineOf}
+use Rattle.run_ends.specs.Told.{Grows, Tells}
+use Rattle.cfg_run.specs.Run.{IsDecided, HasRead, Gives, IsLineOf}
 use Rattle.cfg_run.proofs.Endings.{decided-true, read-refused, line-of, if_some_map}
 use Rattle.cfg_run.proofs.run.run_by.Goals as goal
 
