@@ -2,6 +2,8 @@
 
 ghost use Rattle.std.specs.Prelude.{◌≡◌, ◌≤◌, ℕ, List, Some, IfOk, IfErr};
 ghost use Rattle.cfg_words.specs.Request.{of_file, of_made};
+ghost use Rattle.file_graph.specs.File.{IsGraphedFile};
+ghost use Rattle.file_graph.specs.Survey.{IsFaultOf};
 ghost use Rattle.cfg_run.specs.Answer.{IsAnswer, text_answer};
 ghost use Rattle.cfg_run.specs.Text.{bytes_of};
 ghost use Rattle.cfg_run.specs.Inner.{GraphsFiles, IsRefusalOf};
@@ -26,7 +28,7 @@ pub fn report_of<F: Fn(Vec<u8>) -> Result<FileGraph, ElfError>>(
         → IsAnswer bytes.items (Some (of_file path workers kind)) (text_answer (bytes_of text))) }
     ensures refused { IfErr result (IsRefusalOf bytes.items) }
 {
-    let file = by(bytes)?;
+    let file = file_by(by, bytes)?;
     Ok(Text::Report(FileReport::new(file, kind)))
 }
 
@@ -43,9 +45,21 @@ pub fn summary_of<F: Fn(Vec<u8>) -> Result<FileGraph, ElfError>>(
         → IsAnswer bytes (Some (of_made n workers)) (text_answer (bytes_of text))) }
     ensures memory { IfErr result (λ refusal. refusal ≡ Refusal.Memory) }
 {
-    let file = by(big_file(alloc, n)?)?;
+    let file = file_by(by, big_file(alloc, n)?)?;
     let text = summary(alloc, n, file.graph())?;
     // The program ends soon, and to free a graph takes time.
     mem::forget(file);
     Ok(Text::Summary(text))
+}
+
+/// The file with these bytes and its graph, which `by` makes.
+fn file_by<F: Fn(Vec<u8>) -> Result<FileGraph, ElfError>>(
+    by: &F,
+    bytes: Vec<u8>,
+) -> Result<FileGraph, ElfError>
+    requires { GraphsFiles (F.pre by.now) (F.post by.now) }
+    ensures graph { IfOk result (IsGraphedFile bytes.items) }
+    ensures malformed { IfErr result (IsFaultOf bytes.items) }
+{
+    by(bytes)
 }

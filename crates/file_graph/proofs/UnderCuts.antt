@@ -24,12 +24,11 @@ use Rattle.table_trim.proofs.AllTables.{cuts-of-all}
 use Rattle.file_graph.specs.FileGraph.{cut_program, AreCutsOf, IsGraphUnder}
 
 -- The cuts of the tables that are reached where none is cut.
-pub cuts-of : (bytes other from : List ℕ) (before cuts : Counts) → other ≡ bytes → before ≡ map.empty → from ≡ seeds bytes
-    → AreCuts (extent_at other) (Reached (program_under other (cut_of before)) from) (cut_of cuts) → AreCutsOf bytes cuts
-cuts-of bytes other from before cuts same none all are =
-    subst (λ (b : List ℕ). AreCuts (extent_at b) (Reached (program_under b (cut_of map.empty)) (seeds bytes)) (cut_of cuts)) same
-    (subst (λ (c : Counts). AreCuts (extent_at other) (Reached (program_under other (cut_of c)) (seeds bytes)) (cut_of cuts)) none
-    (subst (λ (s : List ℕ). AreCuts (extent_at other) (Reached (program_under other (cut_of before)) s) (cut_of cuts)) all are))
+pub cuts-of : (bytes from : List ℕ) (before cuts : Counts) → before ≡ map.empty → from ≡ seeds bytes
+    → AreCuts (extent_at bytes) (Reached (program_under bytes (cut_of before)) from) (cut_of cuts) → AreCutsOf bytes cuts
+cuts-of bytes from before cuts none all are =
+    subst (λ (c : Counts). AreCuts (extent_at bytes) (Reached (program_under bytes (cut_of c)) (seeds bytes)) (cut_of cuts)) none
+    (subst (λ (s : List ℕ). AreCuts (extent_at bytes) (Reached (program_under bytes (cut_of before)) s) (cut_of cuts)) all are)
 
 -- The program of code with these bytes under these cuts.
 pub program-is : (bytes : List ℕ) (cuts : Counts) (code : FileCode) → code.bytes ≡ bytes → code.cuts ≡ cuts → program_of code ≡ cut_program bytes cuts
@@ -43,15 +42,14 @@ of-jumps bytes found jumps cuts same tables are =
     subst (λ (xs : List TableJump). AreCuts (extent_at bytes) (λ j. Contains (addresses_of xs) j) (cut_of cuts)) same (are bytes (subst (AreTablesOf bytes) (sym same) tables))
 
 -- The cuts that all tables give, where all are reached under them.
-pub cuts-of-reached : (bytes from : List ℕ) (code : FileCode) (likely : Counts) (state : BuilderState) (jumps : List TableJump)
-    → IsImage bytes → code.bytes ≡ bytes → code.cuts ≡ likely → from ≡ seeds bytes
+pub cuts-of-reached : (bytes from : List ℕ) (likely : Counts) (state : BuilderState) (jumps : List TableJump)
+    → IsImage bytes → from ≡ seeds bytes
     → AreAllTables bytes jumps → CutsFit bytes (cut_of likely) → AreCuts (extent_at bytes) (λ j. Contains (addresses_of jumps) j) (cut_of likely)
-    → IsClosed (program_of code) from state → All (λ (f : TableJump). IsEntered state.terminators f.jump) jumps → AreCutsOf bytes likely
-cuts-of-reached bytes from code likely state jumps accepted same under all tables fit are closed entered =
-    let here : IsClosed (program_under bytes (cut_of likely)) from state = subst (λ (p : InstructionMap). IsClosed p from state) (program-is bytes likely code same under) closed in
+    → IsClosed (cut_program bytes likely) from state → All (λ (f : TableJump). IsEntered state.terminators f.jump) jumps → AreCutsOf bytes likely
+cuts-of-reached bytes from likely state jumps accepted all tables fit are closed entered =
     subst (λ (s : List ℕ). AreCuts (extent_at bytes) (Reached (program_under bytes (cut_of map.empty)) s) (cut_of likely)) all
     (cuts-of-all bytes (cut_of likely) (cut_of map.empty) fit (λ j. map.get-empty nat_cmp j) from state
-    (program-lawful bytes accepted (cut_of likely) fit) here jumps tables entered are)
+    (program-lawful bytes accepted (cut_of likely) fit) closed jumps tables entered are)
 
 -- The graph of the program under the cuts.
 pub graph-under : (bytes from : List ℕ) (start : ℕ) (program : InstructionMap) (cuts : Counts) (graph : Graph)

@@ -7,7 +7,7 @@ ghost use Rattle.file_graph.specs.Survey.{AreSeedsOf};
 
 use crate::builder::Builder;
 use crate::memory::Memory;
-use crate::settle::{Settled, settle};
+use crate::settling::{Settled, settle};
 use cfg_model::Graph;
 use chain_index::{ChainIndex, ChainReaches};
 use code_view::{Code, Cuts};

@@ -2,7 +2,7 @@
 //!
 //! - `file`: a file with its graph, and the calls that make it, on one thread or by workers.
 //! - `survey`: what is told of a file before any of its program is followed.
-//! - `settle`: the cuts of the jump tables, and the closed state under them. `graph`: the graph that
+//! - `settling`: the cuts of the jump tables, and the closed state under them. `graph`: the graph that
 //!   is read off it.
 //! - `builder`: who does the parts of this: the caller's thread, or workers. `shown` is how the
 //!   caller's thread reads a graph off a state, and `sharing` what workers do of each part.
@@ -15,7 +15,7 @@ mod file;
 mod graph;
 mod laws;
 mod memory;
-mod settle;
+mod settling;
 mod sharing;
 mod shown;
 mod survey;
@@ -24,5 +24,5 @@ pub use builder::{Alone, Builder, Workers};
 pub use file::{FileGraph, file_graph, file_graph_by};
 pub use laws::one_graph_of_a_file;
 pub use memory::Memory;
-pub use settle::{Settled, settle};
+pub use settling::{Settled, settle};
 pub use survey::Survey;

@@ -11,7 +11,7 @@ returns-clause-done g c = λ path workers.
     let kind = c.args.kind in
     let file = c.in_ok-file.file in
     let asked = Some (of_file path workers kind) in
-    let is = (c.requires.1 c.args.bytes _ c.in_ok-file.ensures).0 in
+    let is = c.in_ok-file.ensures.graph in
     subst (λ (text : List ℕ). IsAnswer bytes asked (text_answer text)) (sym c.new.ensures)
     (subst (λ (b : List ℕ). IsAnswer bytes asked (text_answer (report_text kind (seed_name b) file.graph))) (sym is.bytes)
     (IsAnswer.done {graph = file.graph} is.accepted is.graph))

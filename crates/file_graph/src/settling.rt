@@ -1,14 +1,9 @@
 //! The cuts of a file's jump tables, and the closed state of its program under them.
 
-ghost use Rattle.std.specs.Prelude.{◌≡◌, ℕ, ◌<◌, length, None, All, IsTrue, IfOk};
-ghost use Rattle.std.specs.List.Sorted.{IsStrictlyIncreasing};
+ghost use Rattle.std.specs.Prelude.{◌≡◌, IfOk};
 ghost use Rattle.std.specs.FinMap as map;
-ghost use Rattle.elf_image.specs.Code.{is_code};
-ghost use Rattle.elf_image.specs.Faults.{first_fault};
-ghost use Rattle.elf_image.specs.Seeds as spec;
 ghost use Rattle.elf_symbols.specs.Seeds.{addresses_of};
 ghost use Rattle.cfg_model.specs.Builder.Kept.{IsClosed};
-ghost use Rattle.cfg_model.specs.Program.Reach.{AreSeeds};
 ghost use Rattle.code_view.specs.Cuts.{cut_of, CutsFit};
 ghost use Rattle.code_view.specs.FileCode.{program_of};
 ghost use Rattle.file_graph.specs.FileGraph.{cut_program, AreCutsOf};
@@ -54,31 +49,9 @@ pub fn settle<B: Builder>(
     ensures closed { IfOk result (λ settled. IsClosed (cut_program uncut.now.bytes settled.cuts)
         (addresses_of seeds.now) settled.state.maps) }
 {
-    settle_from(alloc, by, uncut, seeds.addresses())
-}
-
-/// What [`settle`] gives, from the addresses of the seeds.
-fn settle_from<B: Builder>(
-    alloc: Global,
-    by: &B,
-    uncut: &Code,
-    seeds: &[u64],
-) -> Result<Settled, Memory>
-    requires build { B.ready by.now }
-    requires accepted { first_fault uncut.now.bytes ≡ None }
-    requires uncut { uncut.now.cuts ≡ map.empty }
-    requires all { seeds.now ≡ spec.seeds uncut.now.bytes }
-    requires rising { IsStrictlyIncreasing seeds.now }
-    requires some { 0 < length seeds.now }
-    requires code { All (λ a. IsTrue (is_code uncut.now.bytes a)) seeds.now }
-    ensures cuts { IfOk result (λ settled. AreCutsOf uncut.now.bytes settled.cuts) }
-    ensures fits { IfOk result (λ settled. CutsFit uncut.now.bytes (cut_of settled.cuts)) }
-    ensures closed { IfOk result (λ settled. IsClosed (cut_program uncut.now.bytes settled.cuts)
-        seeds.now settled.state.maps) }
-{
     let tables = by.tables(uncut)?;
     let likely = cuts_of(alloc, &tables)?;
-    let state = by.state(&uncut.under(&likely), seeds)?;
+    let state = state_under(by, uncut, &likely, seeds)?;
     if all_entered(&state, &tables) {
         return Ok(Settled {
             cuts: likely,
@@ -95,19 +68,17 @@ fn settle_by_reached<B: Builder>(
     uncut: &Code,
     likely: &Cuts,
     state: State,
-    seeds: &[u64],
+    seeds: &Seeds,
 ) -> Result<Settled, Memory>
     requires build { B.ready by.now }
     requires uncut { uncut.now.cuts ≡ map.empty }
-    requires all { seeds.now ≡ spec.seeds uncut.now.bytes }
-    requires rising { IsStrictlyIncreasing seeds.now }
-    requires some { 0 < length seeds.now }
-    requires code { All (λ a. IsTrue (is_code uncut.now.bytes a)) seeds.now }
-    requires closed { IsClosed (cut_program uncut.now.bytes likely.now) seeds.now state.maps }
+    requires seeds { AreSeedsOf uncut.now.bytes seeds.now }
+    requires closed { IsClosed (cut_program uncut.now.bytes likely.now) (addresses_of seeds.now)
+        state.maps }
     ensures cuts { IfOk result (λ settled. AreCutsOf uncut.now.bytes settled.cuts) }
     ensures fits { IfOk result (λ settled. CutsFit uncut.now.bytes (cut_of settled.cuts)) }
     ensures closed { IfOk result (λ settled. IsClosed (cut_program uncut.now.bytes settled.cuts)
-        seeds.now settled.state.maps) }
+        (addresses_of seeds.now) settled.state.maps) }
 {
     let state = uncut_state(by, uncut, likely, state, seeds)?;
     let cuts = by.cuts(uncut, &state)?;
@@ -115,8 +86,25 @@ fn settle_by_reached<B: Builder>(
         return Ok(Settled { cuts, state });
     }
     drop(state);
-    let state = by.state(&uncut.under(&cuts), seeds)?;
+    let state = state_under(by, uncut, &cuts, seeds)?;
     Ok(Settled { cuts, state })
+}
+
+/// The closed state of the program under cuts.
+fn state_under<B: Builder>(
+    by: &B,
+    uncut: &Code,
+    cuts: &Cuts,
+    seeds: &Seeds,
+) -> Result<State, Memory>
+    requires build { B.ready by.now }
+    requires fits { CutsFit uncut.now.bytes (cut_of cuts.now) }
+    requires seeds { AreSeedsOf uncut.now.bytes seeds.now }
+    ensures { IfOk result (λ state. IsClosed (cut_program uncut.now.bytes cuts.now)
+        (addresses_of seeds.now) state.maps) }
+{
+    let code = uncut.under(cuts);
+    by.state(&code, seeds.addresses())
 }
 
 /// The closed state of the program `uncut`, which has no cuts. If there are no likely cuts this is
@@ -126,17 +114,19 @@ fn uncut_state<B: Builder>(
     uncut: &Code,
     likely: &Cuts,
     state: State,
-    seeds: &[u64],
+    seeds: &Seeds,
 ) -> Result<State, Memory>
     requires build { B.ready by.now }
     requires uncut { uncut.now.cuts ≡ map.empty }
-    requires seeds { AreSeeds (program_of uncut.now) seeds.now }
-    requires closed { IsClosed (cut_program uncut.now.bytes likely.now) seeds.now state.maps }
-    ensures { IfOk result (λ state. IsClosed (program_of uncut.now) seeds.now state.maps) }
+    requires seeds { AreSeedsOf uncut.now.bytes seeds.now }
+    requires closed { IsClosed (cut_program uncut.now.bytes likely.now) (addresses_of seeds.now)
+        state.maps }
+    ensures { IfOk result (λ state. IsClosed (program_of uncut.now) (addresses_of seeds.now)
+        state.maps) }
 {
     if likely.is_empty() {
         return Ok(state);
     }
     drop(state);
-    by.state(uncut, seeds)
+    by.state(uncut, seeds.addresses())
 }
