@@ -11,6 +11,6 @@ pub record GraphedFile : Type 0 where
 
 -- It is the file with these bytes, which have no fault, and with the graph of the file.
 pub record IsGraphedFile (bytes : List ℕ) (file : GraphedFile) : Type 0 where
-  pub bytes : file.bytes ≡ bytes
+  pub same : file.bytes ≡ bytes
   pub accepted : first_fault bytes ≡ None
   pub graph : IsGraphOf bytes file.graph

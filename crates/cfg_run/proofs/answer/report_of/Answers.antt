@@ -13,5 +13,5 @@ returns-clause-done g c = λ path workers.
     let asked = Some (of_file path workers kind) in
     let is = c.in_ok-file.ensures.graph in
     subst (λ (text : List ℕ). IsAnswer bytes asked (text_answer text)) (sym c.new.ensures)
-    (subst (λ (b : List ℕ). IsAnswer bytes asked (text_answer (report_text kind (seed_name b) file.graph))) (sym is.bytes)
+    (subst (λ (b : List ℕ). IsAnswer bytes asked (text_answer (report_text kind (seed_name b) file.graph))) (sym is.same)
     (IsAnswer.done {graph = file.graph} is.accepted is.graph))

@@ -3,7 +3,7 @@ use Rattle.cfg_words.specs.declared.asked.Request.{Request}
 use Rattle.cfg_words.specs.Request.{asked, of_file}
 use Rattle.cfg_run.specs.Run.{OpenedFor}
 use Rattle.cfg_run.proofs.Endings.{if_some_map}
-use Rattle.cfg_run.proofs.run.text_for.Goals as goal
+use Rattle.cfg_run.proofs.whole_run.text_for.Goals as goal
 
 pub returns-in-File-clause-opened : goal.returns-in-File-clause-opened
 returns-in-File-clause-opened g c =

@@ -4,7 +4,7 @@ use Rattle.std.proofs.lemmas.Result.{err_from_is_err_and}
 use Rattle.cfg_io.specs.Fault.{Rose}
 use Rattle.run_ends.specs.declared.reading.Unread.{Unread}
 use Rattle.cfg_run.proofs.Endings.{unread-true, fault-true, read-whole, if_err_map}
-use Rattle.cfg_run.proofs.run.file_report.Goals as goal
+use Rattle.cfg_run.proofs.whole_run.file_report.Goals as goal
 
 pub returns-in_err-bytes-clause-refused : goal.returns-in_err-bytes-clause-refused
 returns-in_err-bytes-clause-refused g c =

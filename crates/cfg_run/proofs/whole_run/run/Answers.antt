@@ -8,7 +8,7 @@ use Rattle.cfg_run.specs.Inner.{IsTrueOf}
 use Rattle.run_ends.specs.Told.{Grows, Tells}
 use Rattle.cfg_run.specs.Run.{IsDecided, HasRead, Gives}
 use Rattle.cfg_run.proofs.Endings.{decided-true, words-true, can-be-made, if_some_map}
-use Rattle.cfg_run.proofs.run.run.Goals as goal
+use Rattle.cfg_run.proofs.whole_run.run.Goals as goal
 
 pub returns-in-Err-clause-answer : goal.returns-in-Err-clause-answer
 returns-in-Err-clause-answer g c =

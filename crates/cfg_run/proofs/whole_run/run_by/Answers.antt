@@ -7,7 +7,7 @@ use Rattle.cfg_run.specs.Lines.{refusal_line}
 use Rattle.run_ends.specs.Told.{Grows, Tells}
 use Rattle.cfg_run.specs.Run.{IsDecided, HasRead, Gives, IsLineOf}
 use Rattle.cfg_run.proofs.Endings.{decided-true, read-refused, line-of, if_some_map}
-use Rattle.cfg_run.proofs.run.run_by.Goals as goal
+use Rattle.cfg_run.proofs.whole_run.run_by.Goals as goal
 
 pub returns-in-Err-clause-answer : goal.returns-in-Err-clause-answer
 returns-in-Err-clause-answer g c =
