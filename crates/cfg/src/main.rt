@@ -1,35 +1,8 @@
-//! `cfg FILE`: the control-flow graph of a RISC-V executable.
-//!
-//! - `run`: a whole run over any input and any sinks, and what is proved of it.
-//! - `reading`: the bytes of the file. `answer`: from these to the report.
-//! - `survey`: what is told of a file first. `graph`: its graph, under the cuts of its jump tables,
-//!   and `shown`: that which a closed state shows. `builder`: who builds it. `sharing`: what several
-//!   threads do of it.
-//! - `text`: the text of an answer, written piece by piece.
-//! - `safe`: a run where neither the input nor standard output can fail.
-//! - `status`, `refusal`: how a run ends, and the line that tells it.
+//! `cfg FILE`: the control-flow graph of a RISC-V executable. What a run does is `cfg_run`.
 #![tactic(auto)]
 
-mod answer;
-mod builder;
-mod graph;
-mod laws;
-mod reading;
-mod refusal;
-mod run;
-mod safe;
-mod sharing;
-mod shown;
-mod status;
-mod survey;
-#[cfg(test)]
-mod tests;
-mod text;
-
-use crate::refusal::Refusal;
-use crate::run::run;
-use crate::status::Status;
 use cfg_io::{FileInput, StdSink};
+use cfg_run::{Refusal, run};
 use crew::OpenGate;
 use std::env;
 use std::io::{self, ErrorKind};

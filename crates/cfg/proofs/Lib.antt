@@ -1,4 +1,0 @@
-pub mod Pieces
-pub mod UnderCuts
-pub mod Endings
-pub mod Unique

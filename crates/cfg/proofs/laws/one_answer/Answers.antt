@@ -1,5 +1,0 @@
-use Rattle.cfg.proofs.Unique.{cuts-unique, graph-unique, answer-unique}
-use Rattle.cfg.proofs.laws.one_answer.Goals as goal
-
-pub returns : goal.returns
-returns c = record { cuts = cuts-unique; graph = graph-unique; answer = answer-unique }

@@ -1,0 +1,202 @@
+-- How a run ends: what each refusal leaves, by its kind.
+use Rattle.std.proofs.Common.{cond, ◌≡◌, ℕ, ◌<◌, ◌≤◌, List, [], ◌++◌, length, Option, Some, None, refl, sym, ap, subst, arith, length-append, append-nil, ◌∙◌}
+use Rattle.std.specs.Prelude.{◌≢◌, IfSome, IfErr, nat_lt, nat_le, ◌&&◌, Result, Ok, Err, codes, Bool, true, false}
+use Rattle.std.specs.Option.{option_and_then}
+use Rattle.std.proofs.lemmas.Bool.{cond-true, lt-ltb, leb-true}
+use Rattle.std.proofs.lemmas.Option.{cond_some, same_Some, none-some}
+use Rattle.elf_image.specs.declared.fault.ElfError.{ElfError}
+use Rattle.elf_image.specs.declared.fault.ElfError.TheVariants as errors
+use Rattle.elf_image.specs.declared.fault.Fault.{Fault}
+use Rattle.elf_image.specs.declared.fault.Fault.TheVariants.{TooLarge}
+use Rattle.elf_image.specs.FaultTests.{is_too_large}
+use Rattle.elf_image.specs.Faults.{first_fault, first_among, has_fault}
+use Rattle.cfg_io.specs.Told.{Appends, Takes, TakesCount}
+use Rattle.graph_report.specs.declared.kind.ReportKind.{ReportKind}
+use Rattle.cfg_words.specs.Command.{is_taken, text_of}
+use Rattle.cfg_words.specs.Value.{number_of, kept_within, number_within, workers_of, report_kind_of}
+use Rattle.cfg_words.specs.Request.{Asked, of_file, file_request, make_request, request_with, request_of}
+use Rattle.cfg_words.specs.declared.error.WordsError.{WordsError}
+use Rattle.cfg_words.specs.declared.error.WordsError.TheVariants as words
+use Rattle.cfg_run.specs.declared.refusal.Refusal.{Refusal}
+use Rattle.cfg_run.specs.declared.refusal.Refusal.TheVariants as refusals
+use Rattle.cfg_run.specs.Answer.{IsAnswer, usage_answer, malformed_answer}
+use Rattle.run_ends.specs.declared.reading.Unread.{Unread}
+use Rattle.run_ends.specs.declared.reading.Unread.TheVariants as unread
+use Rattle.cfg_run.specs.Refusal.{status_of, refusal_of, refusal_of_words, refusal_of_unread}
+use Rattle.file_graph.specs.Survey.{IsFaultOf}
+use Rattle.cfg_run.specs.Words.{IsForFile, CanBeMade}
+use Rattle.cfg_run.specs.Lines.{refusal_line}
+use Rattle.cfg_run.specs.Inner.{IsRefusalOf, IsTrueOf, IsMalformed}
+use Rattle.run_ends.specs.Told.{Grows}
+use Rattle.cfg_run.specs.Run.{IsDecided, HasRead, Gives, IsLineOf}
+
+-- Nothing was appended.
+pub appends-nothing : (old : Option (List ℕ)) → Appends old [] old
+appends-nothing None = refl
+appends-nothing (Some had) = ap (λ xs. Some xs) (sym (append-nil had))
+
+-- ---- reading
+
+-- A file of more bytes than the limit is too large.
+too-large : (bytes : List ℕ) → 67108864 < length bytes → first_fault bytes ≡ Some TooLarge
+unfolding first_fault first_among has_fault is_too_large
+too-large bytes more = cond-true (nat_lt 67108864 (length bytes)) _ _ (lt-ltb 67108864 (length bytes) more)
+
+taken-more : (bytes : List ℕ) (new : Option (List ℕ)) → TakesCount (Some bytes) 67108865 new → 67108864 < length bytes
+taken-more bytes None (taken, takes, count) = absurd (cc)
+taken-more bytes (Some left) (taken, takes, count) =
+    let same : bytes ≡ taken ++ left = cc in
+    omega (arith, ap length same, length-append taken left, count)
+
+-- What reading refuses is true of the file that is asked for.
+module _ (path : List ℕ) (workers : ℕ) (kind : ReportKind) where
+  told-too-large : (told new : Option (List ℕ)) → TakesCount told 67108865 new → IfSome told (λ bytes. IsAnswer bytes (Some (of_file path workers kind)) (malformed_answer TooLarge))
+  told-too-large None new takes = tt
+  told-too-large (Some bytes) new takes = IsAnswer.malformed (too-large bytes (taken-more bytes new takes))
+
+  pub unread-true : (told new : Option (List ℕ)) (rose : Type 0) (e : Unread) → (e ≡ unread.ReadFault → rose)
+      → (e ≡ unread.TooLarge → TakesCount told 67108865 new) → IsTrueOf (Some (of_file path workers kind)) told rose (refusal_of_unread e)
+  unread-true told new rose unread.ReadFault failed takes = (tt, failed refl)
+  unread-true told new rose unread.TooLarge failed takes = (tt, told-too-large told new (takes refl))
+  unread-true told new rose unread.Memory failed takes = tt
+
+  -- So is what the bytes that were read refuse.
+  fault-of : (bytes : List ℕ) (rose : Type 0) (r : Refusal) → IsRefusalOf bytes r → IsTrueOf (Some (of_file path workers kind)) (Some bytes) rose r
+  fault-of bytes rose refusals.Usage is = absurd is
+  fault-of bytes rose (refusals.Malformed fault) is = (tt, IsAnswer.malformed is)
+  fault-of bytes rose refusals.ReadFault is = absurd is
+  fault-of bytes rose refusals.WriteFault is = absurd is
+  fault-of bytes rose refusals.Memory is = tt
+
+  untold : (rose : Type 0) (bytes : List ℕ) (r : Refusal) → IsRefusalOf bytes r → IsTrueOf (Some (of_file path workers kind)) None rose r
+  untold rose bytes refusals.Usage is = absurd is
+  untold rose bytes (refusals.Malformed fault) is = (tt, tt)
+  untold rose bytes refusals.ReadFault is = absurd is
+  untold rose bytes refusals.WriteFault is = absurd is
+  untold rose bytes refusals.Memory is = tt
+
+  pub fault-true : (told : Option (List ℕ)) (bytes : List ℕ) (rose : Type 0) (r : Refusal) → IfSome told (λ b. b ≡ bytes) → IsRefusalOf bytes r
+      → IsTrueOf (Some (of_file path workers kind)) told rose r
+  fault-true None bytes rose r same is = untold rose bytes r is
+  fault-true (Some b) bytes rose r same is =
+      subst (λ (x : List ℕ). IsTrueOf (Some (of_file path workers kind)) (Some x) rose r) (sym same) (fault-of bytes rose r is)
+
+-- What making the graph refuses is true of the bytes.
+pub refusal-of : (bytes : List ℕ) (e : ElfError) → IsFaultOf bytes e → IsRefusalOf bytes (refusal_of e)
+refusal-of bytes (errors.Malformed fault) is = is
+refusal-of bytes errors.Memory is = tt
+
+-- A file that was not read and is no malformed one was not too large.
+pub not-too-large : (e : Unread) → ¬ IsMalformed (refusal_of_unread e) → e ≢ unread.TooLarge
+not-too-large unread.ReadFault no = λ same. absurd (cc)
+not-too-large unread.TooLarge no = λ same. no tt
+not-too-large unread.Memory no = λ same. absurd (cc)
+
+-- ---- refusing
+
+pub decided-true : (asked : Option Asked) (told : Option (List ℕ)) (rose : Type 0) (r : Refusal) (old : Option (List ℕ)) (Error : List ℕ → Type 0)
+    → IsTrueOf asked told rose r → Error (refusal_line r) → IfSome told (λ bytes. IsDecided (status_of r) → Gives bytes asked (status_of r) (Grows old old) Error)
+decided-true asked None rose r old Error is line = tt
+decided-true asked (Some bytes) rose refusals.Usage old Error is line = λ _. record {
+  answer = usage_answer;
+  is_answer = subst (λ (a : Option Asked). IsAnswer bytes a usage_answer) (sym is) IsAnswer.usage;
+  status = refl;
+  output = appends-nothing old;
+  error = line;
+}
+decided-true asked (Some bytes) rose (refusals.Malformed fault) old Error is line = λ _. record {
+  answer = malformed_answer fault;
+  is_answer = is.1;
+  status = refl;
+  output = appends-nothing old;
+  error = line;
+}
+decided-true asked (Some bytes) rose refusals.ReadFault old Error is line = λ no. absurd no
+decided-true asked (Some bytes) rose refusals.WriteFault old Error is line = λ no. absurd no
+decided-true asked (Some bytes) rose refusals.Memory old Error is line = λ no. absurd no
+
+-- The line of a refusal is that of its status.
+pub line-of : (r : Refusal) → IsLineOf (status_of r) (refusal_line r)
+line-of refusals.Usage = refl
+line-of (refusals.Malformed fault) = (fault, refl)
+line-of refusals.ReadFault = refl
+line-of refusals.WriteFault = refl
+line-of refusals.Memory = refl
+
+-- A refused file was read where it is malformed.
+pub read-refused : (asked : Option Asked) (told : Option (List ℕ)) (rose : Type 0) (r : Refusal) → IsTrueOf asked told rose r → HasRead asked (status_of r) → IsForFile asked × IsMalformed r
+read-refused asked told rose refusals.Usage is read = absurd read
+read-refused asked told rose (refusals.Malformed fault) is read = (read, tt)
+read-refused asked told rose refusals.ReadFault is read = absurd read
+read-refused asked told rose refusals.WriteFault is read = absurd is
+read-refused asked told rose refusals.Memory is read = absurd read
+
+pub if_some_map : {A : Type 0} {P Q : A → Type 0} (o : Option A) → ((x : A) → P x → Q x) → IfSome o P → IfSome o Q
+if_some_map None f p = tt
+if_some_map (Some x) f p = f x p
+
+pub if_err_map : {T E : Type 0} {P Q : E → Type 0} (r : Result T E) → ((e : E) → P e → Q e) → IfErr r P → IfErr r Q
+if_err_map (Ok x) f p = tt
+if_err_map (Err e) f p = f e p
+
+-- What was read to the end is all that was there.
+pub read-whole : (old new : Option (List ℕ)) (bytes : List ℕ) → Takes old bytes new → IfSome new (λ left. left ≡ []) → IfSome old (λ b. b ≡ bytes)
+read-whole None new bytes takes ends = tt
+read-whole (Some b) None bytes takes ends = absurd (cc)
+read-whole (Some b) (Some left) bytes takes ends =
+    let same : b ≡ bytes ++ left = same_Some b (bytes ++ left) takes in
+    same ∙ ap (λ xs. bytes ++ xs) ends ∙ append-nil bytes
+
+-- Words that make no request ask for nothing, or memory ran out.
+pub words-true : (asked : Option Asked) (told : Option (List ℕ)) (rose : Type 0) (e : WordsError) → (e ≡ words.Usage → asked ≡ None) → IsTrueOf asked told rose (refusal_of_words e)
+words-true asked told rose words.Usage none = none refl
+words-true asked told rose words.Memory none = tt
+
+-- ---- the size of a made program
+
+sized : (o : Option Asked) (a : Asked) → o ≡ Some a → IfSome o CanBeMade → CanBeMade a
+sized None a is all = absurd (none-some a is)
+sized (Some x) a is all = subst CanBeMade (same_Some x a is) all
+
+both : (a b : Bool) → (a && b) ≡ true → (a ≡ true) × (b ≡ true)
+both true b is = (refl, is)
+both false b is = absurd (cc)
+
+within : (n least most : ℕ) (kept : ℕ) → kept_within least most n ≡ Some kept → (least ≤ kept) × (kept ≤ most)
+within n least most kept is =
+    let parts = cond_some (nat_le least n && nat_le n most) n kept is in
+    let tests = both (nat_le least n) (nat_le n most) parts.0 in
+    let low : least ≤ n = leb-true least n tests.0 in
+    let high : n ≤ most = leb-true n most tests.1 in
+    (omega (arith, parts.1), omega (arith, parts.1))
+
+number : (o : Option ℕ) (kept : ℕ) → option_and_then (kept_within 4 100000) o ≡ Some kept → (4 ≤ kept) × (kept ≤ 100000)
+number None kept is = absurd (none-some kept is)
+number (Some n) kept is = within n 4 100000 kept is
+
+file : (path : List ℕ) (workers : Option ℕ) (kind : Option ReportKind) → IfSome (file_request path workers kind) CanBeMade
+file path (Some w) (Some k) = tt
+file path (Some w) None = tt
+file path None k = tt
+
+make : (o workers : Option ℕ) → ((n : ℕ) → o ≡ Some n → (4 ≤ n) × (n ≤ 100000)) → IfSome (make_request o workers) CanBeMade
+make (Some n) (Some w) within = within n refl
+make (Some n) None within = tt
+make None w within = tt
+
+request : (workers report made path : Option (List ℕ)) → IfSome (request_with workers report made path) CanBeMade
+request workers report None (Some path) = file path (workers_of workers) (report_kind_of report)
+request workers None (Some n) None = make (number_within 4 100000 n) (workers_of workers) (number (number_of n))
+request workers report None None = tt
+request workers (Some word) (Some n) None = tt
+request workers report (Some n) (Some path) = tt
+
+taken : (b : Bool) (o : Option Asked) → IfSome o CanBeMade → IfSome (cond b o None) CanBeMade
+taken true o all = all
+taken false o all = tt
+
+-- What words ask for can be made.
+pub can-be-made : (words : List (List ℕ)) (a : Asked) → request_of words ≡ Some a → CanBeMade a
+can-be-made words a is =
+    sized (request_of words) a is
+    (taken (is_taken words) _ (request (text_of words (codes "workers")) (text_of words (codes "report")) (text_of words (codes "make")) (text_of words (codes "file"))))

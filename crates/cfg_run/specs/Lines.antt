@@ -1,0 +1,27 @@
+-- The one line that each refusal puts on standard error.
+use Rattle.std.specs.Prelude.{ℕ, List, [], codes}
+use Rattle.elf_image.specs.FaultNames.{fault_name}
+use Rattle.run_ends.specs.Line.{failure_line}
+use Rattle.cfg_run.specs.declared.refusal.Refusal.{Refusal}
+use Rattle.cfg_run.specs.declared.refusal.Refusal.TheVariants.{Usage, Malformed, ReadFault}
+use Rattle.cfg_run.specs.declared.refusal.Refusal.TheVariants.{WriteFault, Memory}
+
+-- What the line says after the program's name.
+abbrev pub text_of : Refusal → List ℕ
+text_of Usage = codes "usage: cfg [--workers N] [--report KIND] FILE | cfg [--workers N] --make N"
+text_of (Malformed fault) = codes "malformed: "
+text_of ReadFault = codes "read fault"
+text_of WriteFault = codes "write fault"
+text_of Memory = codes "out of memory"
+
+-- The name of the fault of a malformed file.
+abbrev pub detail_of : Refusal → List ℕ
+detail_of Usage = []
+detail_of (Malformed fault) = fault_name fault
+detail_of ReadFault = []
+detail_of WriteFault = []
+detail_of Memory = []
+
+-- The whole line.
+abbrev pub refusal_line : Refusal → List ℕ
+refusal_line refusal = failure_line (codes "cfg") (text_of refusal) (detail_of refusal)

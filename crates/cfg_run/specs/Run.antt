@@ -1,0 +1,66 @@
+-- What a run may leave behind.
+use Rattle.std.specs.Prelude.{◌≡◌, ℕ, ◌⊎◌, List, [], Option, Some, None, Bool}
+use Rattle.elf_image.specs.declared.fault.Fault.{Fault}
+use Rattle.cfg_io.specs.Told.{AppendsPrefix}
+use Rattle.cfg_io.specs.Opened.{Opened, Nothing, Something, told_path}
+use Rattle.cfg_words.specs.Request.{Asked, of_file, of_made}
+use Rattle.cfg_run.specs.declared.status.Status.{Status}
+use Rattle.cfg_run.specs.declared.status.Status.TheVariants as statuses
+use Rattle.cfg_run.specs.declared.refusal.Refusal.TheVariants as refusals
+use Rattle.cfg_run.specs.Lines.{refusal_line}
+use Rattle.cfg_run.specs.Words.{IsForFile}
+use Rattle.cfg_run.specs.Answer.{Answer, IsAnswer}
+
+-- The words and the bytes decided the status: nothing failed, and memory sufficed.
+abbrev pub IsDecided : Status → Type 0
+IsDecided statuses.Done = Unit {0}
+IsDecided statuses.Usage = Unit {0}
+IsDecided statuses.Malformed = Unit {0}
+IsDecided statuses.ReadFault = ⊥
+IsDecided statuses.WriteFault = ⊥
+IsDecided statuses.Memory = ⊥
+
+-- A file is asked for, and the status says that it was read.
+abbrev pub HasRead : Option Asked → Status → Type 0
+HasRead asked statuses.Done = IsForFile asked
+HasRead asked statuses.Usage = ⊥
+HasRead asked statuses.Malformed = IsForFile asked
+HasRead asked statuses.ReadFault = ⊥
+HasRead asked statuses.WriteFault = IsForFile asked
+HasRead asked statuses.Memory = ⊥
+
+-- A run that ended in this way gave the answer: its status is the answer's, and standard output and
+-- standard error took the texts of it.
+pub record Gives
+    (bytes : List ℕ) (asked : Option Asked) (end : Status)
+    (Output Error : List ℕ → Type 0) : Type 0 where
+  pub answer : Answer
+  pub is_answer : IsAnswer bytes asked answer
+  pub status : end ≡ answer.status
+  pub output : Output answer.output
+  pub error : Error answer.error
+
+-- A run whose writing failed: standard output grew by a part, from its front, of the text.
+pub record GivesPart (bytes : List ℕ) (asked : Option Asked)
+    (old new : Option (List ℕ)) : Type 0 where
+  pub answer : Answer
+  pub is_answer : IsAnswer bytes asked answer
+  pub status : answer.status ≡ statuses.Done
+  pub output : AppendsPrefix old answer.output new
+
+-- The line that a status puts on standard error. Which fault a malformed file has, the answer says.
+abbrev pub IsLineOf : Status → List ℕ → Type 0
+IsLineOf statuses.Done text = text ≡ []
+IsLineOf statuses.Usage text = text ≡ refusal_line refusals.Usage
+IsLineOf statuses.Malformed text = (fault : Fault)
+    × (text ≡ refusal_line (refusals.Malformed fault))
+IsLineOf statuses.ReadFault text = text ≡ refusal_line refusals.ReadFault
+IsLineOf statuses.WriteFault text = text ≡ refusal_line refusals.WriteFault
+IsLineOf statuses.Memory text = text ≡ refusal_line refusals.Memory
+
+-- Nothing was opened, or the file that is asked for by its path.
+abbrev pub OpenedFor : Option Asked → Bool → Opened → Type 0
+OpenedFor None tells opened = opened ≡ Nothing
+OpenedFor (Some (of_file path workers kind)) tells opened = (opened ≡ Nothing)
+    ⊎ (opened ≡ Something (told_path tells path))
+OpenedFor (Some (of_made n workers)) tells opened = opened ≡ Nothing

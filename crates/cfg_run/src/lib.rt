@@ -1,0 +1,24 @@
+//! One whole run of the program `cfg`: from its words and the bytes of a file to its report, its
+//! line on standard error and its exit status.
+//!
+//! - `whole_run`: a whole run over any input and any sinks, and what is proved of it.
+//! - `answer`: from the bytes of a file to the text of an answer, and `text`: writing that text.
+//! - `safe`: a run in which neither the input nor standard output can fail.
+//! - `status`, `refusal`: how a run ends, and the line that tells why it failed.
+//! - `laws`: that a run has one answer.
+#![tactic(auto)]
+
+mod answer;
+mod laws;
+mod refusal;
+mod safe;
+mod status;
+mod text;
+mod whole_run;
+
+pub use laws::one_answer;
+pub use refusal::Refusal;
+pub use run_ends::FILE_LIMIT;
+pub use safe::run_safely;
+pub use status::Status;
+pub use whole_run::{run, run_one};

@@ -1,0 +1,84 @@
+//! The text of an answer, and writing it.
+
+ghost use Rattle.std.specs.Prelude.{◌≡◌, OnOk, IsErrOf};
+ghost use Rattle.elf_image.specs.Seeds.{seed_name};
+ghost use Rattle.cfg_io.specs.Fault.{Rose};
+ghost use Rattle.cfg_io.specs.Told.{Appends, AppendsPrefix};
+ghost use Rattle.graph_report.specs.Report.{report_text};
+ghost use Rattle.cfg_run.specs.Text.{bytes_of};
+
+use cfg_io::{Sink, write_whole};
+use file_graph::FileGraph;
+use graph_report::{ReportKind, ReportPieces};
+use run_ends::{Unwritten, write_pieces};
+use std::alloc::Global;
+use std::marker::Model;
+
+/// What a report is made of: the file with its graph, and which part of it is shown. Contracts see
+/// it as the report's text, which is made only while it is written.
+#[derive(Drop)]
+pub struct FileReport {
+    file: FileGraph,
+    kind: ReportKind,
+}
+
+impl Model for FileReport {
+    ghost use Rattle.std.specs.Prelude.{ℕ, List};
+    ghost use Rattle.elf_image.specs.Seeds.{seed_name};
+    ghost use Rattle.graph_report.specs.Report.{report_text};
+
+    ghost Value = { List ℕ };
+
+    ghost view = { λ r. report_text r.kind (seed_name r.file.bytes) r.file.graph };
+}
+
+impl FileReport {
+    /// The report of a kind of this file's graph.
+    pub fn new(file: FileGraph, kind: ReportKind) -> Self
+        ensures { result ≡ report_text kind (seed_name file.bytes) file.graph }
+    {
+        FileReport { file, kind }
+    }
+
+    /// Writes it piece by piece. The memory of the pieces is taken before the first byte is
+    /// written.
+    fn write<O: Sink>(&self, alloc: Global, out: &mut O) -> Result<(), Unwritten>
+        ensures whole { OnOk result (Appends (O.written out.old) self.now (O.written out.new)) }
+        ensures prefix { IsErrOf result Unwritten.Failed
+            → AppendsPrefix (O.written out.old) self.now (O.written out.new) }
+        ensures failed { IsErrOf result Unwritten.Failed
+            → Rose (O.faults out.old) (O.faults out.new) }
+        ensures untouched { IsErrOf result Unwritten.Memory
+            → O.written out.new ≡ O.written out.old }
+    {
+        let file = &self.file;
+        let pieces = ReportPieces::new(alloc, file.image(), file.seeds(), file.graph(), self.kind)?;
+        Ok(write_pieces(pieces, out)?)
+    }
+}
+
+/// The text of an answer: a report, which is made while it is written, or a summary.
+#[derive(Drop)]
+pub enum Text {
+    Report(FileReport),
+    Summary(Vec<u8>),
+}
+
+impl Text {
+    /// Writes it.
+    pub fn write<O: Sink>(&self, alloc: Global, out: &mut O) -> Result<(), Unwritten>
+        ensures whole { OnOk result
+            (Appends (O.written out.old) (bytes_of self.now) (O.written out.new)) }
+        ensures prefix { IsErrOf result Unwritten.Failed
+            → AppendsPrefix (O.written out.old) (bytes_of self.now) (O.written out.new) }
+        ensures failed { IsErrOf result Unwritten.Failed
+            → Rose (O.faults out.old) (O.faults out.new) }
+        ensures untouched { IsErrOf result Unwritten.Memory
+            → O.written out.new ≡ O.written out.old }
+    {
+        match self {
+            Text::Report(report) => report.write(alloc, out),
+            Text::Summary(bytes) => Ok(write_whole(out, bytes)?),
+        }
+    }
+}

@@ -1,0 +1,316 @@
+//! One whole run of the program, over any input and any two sinks.
+
+ghost use Rattle.std.specs.Prelude.{◌≡◌, ◌≢◌, ℕ, ◌+◌, ◌≤◌, ◌<◌, ◌⊎◌, List, [], Some};
+ghost use Rattle.std.specs.Prelude.{None, length, string_bytes, IfSome, IfOk, IfErr};
+ghost use Rattle.std.specs.Thread.{IsSync};
+ghost use Rattle.cfg_io.specs.Fault.{Rose};
+ghost use Rattle.cfg_io.specs.Opened.{Nothing};
+ghost use Rattle.cfg_io.specs.Told.{TakesCount, TakesAtMost};
+ghost use Rattle.cfg_words.specs.Request.{asked, of_file};
+ghost use Rattle.cfg_run.specs.Words.{asked_by, IsForFile, CanBeMade};
+ghost use Rattle.cfg_run.specs.Answer.{IsAnswer, text_answer};
+ghost use Rattle.cfg_run.specs.Refusal.{status_of};
+ghost use Rattle.cfg_run.specs.Lines.{refusal_line};
+ghost use Rattle.cfg_run.specs.Text.{bytes_of};
+ghost use Rattle.cfg_run.specs.Inner.{AnswersFile, GraphsFiles};
+ghost use Rattle.cfg_run.specs.Inner.{IsTrueOf, IsOfFile, IsFaultless};
+ghost use Rattle.run_ends.specs.Told.{Grows, Tells};
+ghost use Rattle.cfg_run.specs.Run.{IsDecided, HasRead};
+ghost use Rattle.cfg_run.specs.Run.{Gives, GivesPart, IsLineOf, OpenedFor};
+
+use crate::answer::{report_of, summary_of};
+use crate::refusal::Refusal;
+use crate::status::Status;
+use crate::text::Text;
+use cfg_io::{Input, Sink};
+use cfg_words::{Request, request};
+use crew::Gate;
+use elf_image::ElfError;
+use file_graph::{FileGraph, file_graph, file_graph_by};
+use graph_report::ReportKind;
+use run_ends::{FILE_LIMIT, Unwritten, read_file};
+use std::alloc::Global;
+use std::marker::Sync;
+use std::mem;
+use std::sync::Wait;
+use std::thread::Threads;
+
+/// Runs the program: reads the file that `words` ask for from `input`, writes the report of its
+/// control-flow graph to `out`, and tells on `err` why it did not. Of a made program, for which
+/// nothing is read, it writes the summary.
+///
+/// The clause `answer` is what the program is for: where the words and the bytes decide the end of
+/// a run, its status, standard output and standard error are exactly those of the answer to them.
+/// By
+/// `complete` they do wherever neither the input nor standard output failed in this run and memory
+/// sufficed. The other clauses say what holds where something failed.
+///
+/// From two workers on, threads share the work: with two seeds or more they build the closed state
+/// on a board that they share, and pass the gate before each operation. The run may wait then. For
+/// one worker it calls [`run_one`].
+pub fn run<R: Threads + Wait + Sync, I: Input, O: Sink, E: Sink, G: Gate>(
+    rt: &R,
+    alloc: Global,
+    words: &[String],
+    input: &mut I,
+    out: &mut O,
+    err: &mut E,
+    gate: &G,
+) -> Status
+    requires { I.opened input.old ≡ Nothing }
+
+    ensures answer { IfSome (I.rest input.old) (λ bytes. IsDecided result
+        → Gives bytes (asked_by words.now) result (Grows (O.written out.old) (O.written out.new))
+        (Tells (E.written err.old) (E.written err.new)
+        (Rose (E.faults err.old) (E.faults err.new)))) }
+    ensures complete { ¬ Rose (I.faults input.old) (I.faults input.new)
+        → ¬ Rose (O.faults out.old) (O.faults out.new)
+        → IsDecided result ⊎ (result ≡ Status.Memory) }
+
+    // When each other status comes. Want of memory alone is free.
+    ensures usage { result ≡ Status.Usage → asked_by words.now ≡ None }
+    ensures refused_words { asked_by words.now ≡ None → (result ≡ Status.Usage)
+        ⊎ (result ≡ Status.Memory) }
+    ensures malformed { result ≡ Status.Malformed → IsForFile (asked_by words.now) }
+    ensures read_fault { result ≡ Status.ReadFault → IsForFile (asked_by words.now)
+        × Rose (I.faults input.old) (I.faults input.new) }
+    ensures write_fault { result ≡ Status.WriteFault → Rose (O.faults out.old) (O.faults out.new) }
+
+    // What else standard output holds, and what standard error does.
+    ensures cut_off { IfSome (I.rest input.old) (λ bytes. result ≡ Status.WriteFault
+        → GivesPart bytes (asked_by words.now) (O.written out.old) (O.written out.new)) }
+    ensures silent { result ≢ Status.Done → result ≢ Status.WriteFault
+        → O.written out.new ≡ O.written out.old }
+    ensures error_line { (text : List ℕ) × IsLineOf result text
+        × Tells (E.written err.old) (E.written err.new)
+        (Rose (E.faults err.old) (E.faults err.new)) text }
+
+    // What was done to the input.
+    ensures opened { OpenedFor (asked_by words.now) (I.tells_path input.old) (I.opened input.new) }
+    ensures untouched { ¬ IsForFile (asked_by words.now) → (I.rest input.new ≡ I.rest input.old)
+        × (I.faults input.new ≡ I.faults input.old) }
+    ensures read_to_end { IfSome (I.rest input.old) (λ bytes. length bytes ≤ FILE_LIMIT
+        → HasRead (asked_by words.now) result → I.rest input.new ≡ Some []) }
+    ensures too_large { IfSome (I.rest input.old) (λ bytes. FILE_LIMIT < length bytes
+        → HasRead (asked_by words.now) result
+        → TakesCount (I.rest input.old) (FILE_LIMIT + 1) (I.rest input.new)) }
+    ensures within_limit { result ≢ Status.Malformed
+        → TakesAtMost (I.rest input.old) FILE_LIMIT (I.rest input.new) }
+{
+    let request = match request(alloc, words) {
+        Ok(request) => request,
+        Err(e) => return refuse(Refusal::from(e), err),
+    };
+    let count = workers_of(&request);
+    if 2 <= count && count <= 64 {
+        let by = |bytes: Vec<u8>| -> Result<FileGraph, ElfError>
+            requires { IsSync R.row × IsSync G.row × (2 ≤ count) × (count ≤ 64) }
+            ensures { AnswersFile bytes.items result }
+        { file_graph_by(rt, alloc, bytes, count, gate) };
+        return run_by(alloc, &by, &request, input, out, err);
+    }
+    run_one(alloc, &request, input, out, err)
+}
+
+/// Answers a request on the caller's thread: it starts none, waits for nobody and returns.
+///
+/// Its clauses are those of [`run`], with the request in place of the words.
+pub fn run_one<I: Input, O: Sink, E: Sink>(
+    alloc: Global,
+    request: &Request,
+    input: &mut I,
+    out: &mut O,
+    err: &mut E,
+) -> Status
+    requires closed { I.opened input.old ≡ Nothing }
+    requires size { CanBeMade (asked request.now) }
+
+    ensures answer { IfSome (I.rest input.old) (λ bytes. IsDecided result
+        → Gives bytes (Some (asked request.now)) result
+        (Grows (O.written out.old) (O.written out.new))
+        (Tells (E.written err.old) (E.written err.new)
+        (Rose (E.faults err.old) (E.faults err.new)))) }
+    ensures complete { ¬ Rose (I.faults input.old) (I.faults input.new)
+        → ¬ Rose (O.faults out.old) (O.faults out.new)
+        → IsDecided result ⊎ (result ≡ Status.Memory) }
+
+    ensures no_usage { result ≢ Status.Usage }
+    ensures malformed { result ≡ Status.Malformed → IsForFile (Some (asked request.now)) }
+    ensures read_fault { result ≡ Status.ReadFault → IsForFile (Some (asked request.now))
+        × Rose (I.faults input.old) (I.faults input.new) }
+    ensures write_fault { result ≡ Status.WriteFault → Rose (O.faults out.old) (O.faults out.new) }
+
+    ensures cut_off { IfSome (I.rest input.old) (λ bytes. result ≡ Status.WriteFault
+        → GivesPart bytes (Some (asked request.now)) (O.written out.old) (O.written out.new)) }
+    ensures silent { result ≢ Status.Done → result ≢ Status.WriteFault
+        → O.written out.new ≡ O.written out.old }
+    ensures error_line { (text : List ℕ) × IsLineOf result text
+        × Tells (E.written err.old) (E.written err.new)
+        (Rose (E.faults err.old) (E.faults err.new)) text }
+
+    ensures opened { OpenedFor (Some (asked request.now)) (I.tells_path input.old)
+        (I.opened input.new) }
+    ensures untouched { ¬ IsForFile (Some (asked request.now))
+        → (I.rest input.new ≡ I.rest input.old) × (I.faults input.new ≡ I.faults input.old) }
+    ensures read_to_end { IfSome (I.rest input.old) (λ bytes. length bytes ≤ FILE_LIMIT
+        → HasRead (Some (asked request.now)) result → I.rest input.new ≡ Some []) }
+    ensures too_large { IfSome (I.rest input.old) (λ bytes. FILE_LIMIT < length bytes
+        → HasRead (Some (asked request.now)) result
+        → TakesCount (I.rest input.old) (FILE_LIMIT + 1) (I.rest input.new)) }
+    ensures within_limit { result ≢ Status.Malformed
+        → TakesAtMost (I.rest input.old) FILE_LIMIT (I.rest input.new) }
+{
+    let by = |bytes: Vec<u8>| -> Result<FileGraph, ElfError>
+        ensures { AnswersFile bytes.items result }
+    { file_graph(alloc, bytes) };
+    run_by(alloc, &by, request, input, out, err)
+}
+
+// Answers a request with the file and graph that `by` makes of bytes. Its clauses are those of `run_one`.
+fn run_by<F: Fn(Vec<u8>) -> Result<FileGraph, ElfError>, I: Input, O: Sink, E: Sink>(
+    alloc: Global,
+    by: &F,
+    request: &Request,
+    input: &mut I,
+    out: &mut O,
+    err: &mut E,
+) -> Status
+    requires graphs { GraphsFiles (F.pre by.now) (F.post by.now) }
+    requires closed { I.opened input.old ≡ Nothing }
+    requires size { CanBeMade (asked request.now) }
+
+    ensures answer { IfSome (I.rest input.old) (λ bytes. IsDecided result
+        → Gives bytes (Some (asked request.now)) result
+        (Grows (O.written out.old) (O.written out.new))
+        (Tells (E.written err.old) (E.written err.new)
+        (Rose (E.faults err.old) (E.faults err.new)))) }
+    ensures complete { ¬ Rose (I.faults input.old) (I.faults input.new)
+        → ¬ Rose (O.faults out.old) (O.faults out.new)
+        → IsDecided result ⊎ (result ≡ Status.Memory) }
+
+    ensures no_usage { result ≢ Status.Usage }
+    ensures malformed { result ≡ Status.Malformed → IsForFile (Some (asked request.now)) }
+    ensures read_fault { result ≡ Status.ReadFault → IsForFile (Some (asked request.now))
+        × Rose (I.faults input.old) (I.faults input.new) }
+    ensures write_fault { result ≡ Status.WriteFault → Rose (O.faults out.old) (O.faults out.new) }
+
+    ensures cut_off { IfSome (I.rest input.old) (λ bytes. result ≡ Status.WriteFault
+        → GivesPart bytes (Some (asked request.now)) (O.written out.old) (O.written out.new)) }
+    ensures silent { result ≢ Status.Done → result ≢ Status.WriteFault
+        → O.written out.new ≡ O.written out.old }
+    ensures error_line { (text : List ℕ) × IsLineOf result text
+        × Tells (E.written err.old) (E.written err.new)
+        (Rose (E.faults err.old) (E.faults err.new)) text }
+
+    ensures opened { OpenedFor (Some (asked request.now)) (I.tells_path input.old)
+        (I.opened input.new) }
+    ensures untouched { ¬ IsForFile (Some (asked request.now))
+        → (I.rest input.new ≡ I.rest input.old) × (I.faults input.new ≡ I.faults input.old) }
+    ensures read_to_end { IfSome (I.rest input.old) (λ bytes. length bytes ≤ FILE_LIMIT
+        → HasRead (Some (asked request.now)) result → I.rest input.new ≡ Some []) }
+    ensures too_large { IfSome (I.rest input.old) (λ bytes. FILE_LIMIT < length bytes
+        → HasRead (Some (asked request.now)) result
+        → TakesCount (I.rest input.old) (FILE_LIMIT + 1) (I.rest input.new)) }
+    ensures within_limit { result ≢ Status.Malformed
+        → TakesAtMost (I.rest input.old) FILE_LIMIT (I.rest input.new) }
+{
+    let text = match text_for(alloc, by, request, input) {
+        Ok(text) => text,
+        Err(refusal) => return refuse(refusal, err),
+    };
+    let written = text.write(alloc, out);
+    // The program ends soon, and to free a graph takes time.
+    mem::forget(text);
+    match written {
+        Ok(()) => Status::Done,
+        Err(Unwritten::Failed) => refuse(Refusal::WriteFault, err),
+        Err(Unwritten::Memory) => refuse(Refusal::Memory, err),
+    }
+}
+
+// How many workers are asked for.
+fn workers_of(request: &Request) -> u32 {
+    match request {
+        Request::File { workers, .. } => *workers,
+        Request::Make { workers, .. } => *workers,
+    }
+}
+
+// Ends a run that writes no whole text.
+fn refuse<E: Sink>(refusal: Refusal, err: &mut E) -> Status
+    ensures status { result ≡ status_of refusal }
+    ensures line { Tells (E.written err.old) (E.written err.new)
+        (Rose (E.faults err.old) (E.faults err.new)) (refusal_line refusal) }
+{
+    refusal.tell(err);
+    refusal.status()
+}
+
+// The text that is asked for: a report, or a summary.
+fn text_for<F: Fn(Vec<u8>) -> Result<FileGraph, ElfError>, I: Input>(
+    alloc: Global,
+    by: &F,
+    request: &Request,
+    input: &mut I,
+) -> Result<Text, Refusal>
+    requires graphs { GraphsFiles (F.pre by.now) (F.post by.now) }
+    requires closed { I.opened input.old ≡ Nothing }
+    requires size { CanBeMade (asked request.now) }
+
+    ensures done { IfOk result (λ text. IfSome (I.rest input.old)
+        (λ bytes. IsAnswer bytes (Some (asked request.now)) (text_answer (bytes_of text)))) }
+    ensures refused { IfErr result (IsTrueOf (Some (asked request.now)) (I.rest input.old)
+        (Rose (I.faults input.old) (I.faults input.new))) }
+
+    ensures opened { OpenedFor (Some (asked request.now)) (I.tells_path input.old)
+        (I.opened input.new) }
+    ensures untouched { ¬ IsForFile (Some (asked request.now))
+        → (I.rest input.new ≡ I.rest input.old) × (I.faults input.new ≡ I.faults input.old) }
+    ensures read_to_end { IfSome (I.rest input.old) (λ bytes. length bytes ≤ FILE_LIMIT
+        → IsForFile (Some (asked request.now)) → IsOfFile result → I.rest input.new ≡ Some []) }
+    ensures too_large { IfSome (I.rest input.old) (λ bytes. FILE_LIMIT < length bytes
+        → IsForFile (Some (asked request.now)) → IsOfFile result
+        → TakesCount (I.rest input.old) (FILE_LIMIT + 1) (I.rest input.new)) }
+    ensures within_limit { IsFaultless result
+        → TakesAtMost (I.rest input.old) FILE_LIMIT (I.rest input.new) }
+{
+    match request {
+        Request::File {
+            path,
+            workers: _,
+            kind,
+        } => file_report(alloc, by, path.as_str(), *kind, input),
+        Request::Make { n, workers: _ } => summary_of(alloc, by, *n),
+    }
+}
+
+// The report of the file at a path.
+fn file_report<F: Fn(Vec<u8>) -> Result<FileGraph, ElfError>, I: Input>(
+    alloc: Global,
+    by: &F,
+    path: &str,
+    kind: ReportKind,
+    input: &mut I,
+) -> Result<Text, Refusal>
+    requires graphs { GraphsFiles (F.pre by.now) (F.post by.now) }
+    requires closed { I.opened input.old ≡ Nothing }
+
+    ensures done { IfOk result (λ text. IfSome (I.rest input.old) (λ bytes. (workers : ℕ)
+        → IsAnswer bytes (Some (of_file path.now workers kind)) (text_answer (bytes_of text)))) }
+    ensures refused { IfErr result (λ refusal. (workers : ℕ)
+        → IsTrueOf (Some (of_file path.now workers kind)) (I.rest input.old)
+        (Rose (I.faults input.old) (I.faults input.new)) refusal) }
+
+    ensures opened { (workers : ℕ)
+        → OpenedFor (Some (of_file path.now workers kind)) (I.tells_path input.old)
+        (I.opened input.new) }
+    ensures read_to_end { IfSome (I.rest input.old) (λ bytes. length bytes ≤ FILE_LIMIT
+        → IsOfFile result → I.rest input.new ≡ Some []) }
+    ensures too_large { IfSome (I.rest input.old) (λ bytes. FILE_LIMIT < length bytes
+        → IsOfFile result → TakesCount (I.rest input.old) (FILE_LIMIT + 1) (I.rest input.new)) }
+    ensures within_limit { IsFaultless result
+        → TakesAtMost (I.rest input.old) FILE_LIMIT (I.rest input.new) }
+{
+    let bytes = read_file(alloc, path, input)?;
+    report_of(by, bytes, kind)
+}

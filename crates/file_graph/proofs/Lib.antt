@@ -1,0 +1,3 @@
+pub mod UnderCuts
+pub mod Accepted
+pub mod Unique

@@ -1,0 +1,5 @@
+pub mod FileGraph
+pub mod Survey
+pub mod File
+pub mod Laws
+pub mod Inner

@@ -1,0 +1,158 @@
+//! A file with its graph.
+
+ghost use Rattle.std.specs.Prelude.{◌≡◌, ◌≤◌, IfOk, IfErr};
+ghost use Rattle.std.specs.FinMap as map;
+ghost use Rattle.std.specs.Thread.{IsSync};
+ghost use Rattle.cfg_model.specs.Program.Reach.{AreSeeds};
+ghost use Rattle.cfg_model.specs.Builder.Kept.{IsClosed};
+ghost use Rattle.code_view.specs.FileCode.{program_of};
+ghost use Rattle.finaliser.specs.Closed.{IsClosedFromSome};
+ghost use Rattle.table_trim.specs.Tables.{AreAllTables};
+ghost use Rattle.file_graph.specs.FileGraph.{IsGraphOf};
+ghost use Rattle.file_graph.specs.File.{IsGraphedFile};
+ghost use Rattle.file_graph.specs.Survey.{AreSeedsOf, IsFaultOf};
+ghost use Rattle.file_graph.specs.Inner.{AnswersCuts, AnswersGraph, AnswersSurvey};
+
+use crate::builder::{Alone, Builder, Workers};
+use crate::graph::{Shown, graph_of};
+use crate::memory::Memory;
+use crate::sharing::{cuts_with, graph_with, state_with, survey_with, tables_with};
+use crate::survey::Survey;
+use cfg_model::Graph;
+use code_view::{Code, Cuts};
+use core_state::State;
+use crew::Gate;
+use elf_image::{ElfError, Image};
+use elf_symbols::Seeds;
+use std::alloc::Global;
+use std::marker::{Model, Sync};
+use std::sync::Wait;
+use std::thread::Threads;
+use table_trim::TableJump;
+
+/// A file with its seeds and its graph: the seeds and their names are those of the file, and the
+/// graph is the one graph that the file has.
+///
+/// It also keeps the closed state that the graph was read off. To free that takes time, which a
+/// program that ends soon saves if it forgets the whole (`mem::forget`).
+#[derive(Drop)]
+pub struct FileGraph {
+    image: Image,
+    seeds: Seeds,
+    graph: Graph,
+    state: State,
+}
+
+impl Model for FileGraph {
+    ghost use Rattle.file_graph.specs.File.{GraphedFile};
+    ghost use Rattle.file_graph.specs.FileGraph.{IsGraphOf};
+    ghost use Rattle.file_graph.specs.Survey.{AreSeedsOf};
+
+    ghost Value = { GraphedFile };
+
+    ghost view = { λ f. record { bytes = f.image; graph = f.graph } };
+
+    ghost invariant = { λ f. AreSeedsOf f.image f.seeds × IsGraphOf f.image f.graph };
+}
+
+impl FileGraph {
+    /// The file.
+    pub fn image(&self) -> &Image
+        ensures { result.now ≡ self.now.bytes }
+    {
+        &self.image
+    }
+
+    /// The seeds of the file, with their names.
+    pub fn seeds(&self) -> &Seeds
+        ensures { AreSeedsOf self.now.bytes result.now }
+    {
+        &self.seeds
+    }
+
+    /// The graph of the file.
+    pub fn graph(&self) -> &Graph
+        ensures graph { result.now ≡ self.now.graph }
+        ensures of_file { IsGraphOf self.now.bytes result.now }
+    {
+        &self.graph
+    }
+}
+
+/// The file with these bytes and its graph, made on the caller's thread, which starts no other and
+/// waits for nobody.
+///
+/// [`ElfError::Malformed`] names the first fault of the file.
+pub fn file_graph(alloc: Global, bytes: Vec<u8>) -> Result<FileGraph, ElfError>
+    ensures graph { IfOk result (IsGraphedFile bytes.items) }
+    ensures malformed { IfErr result (IsFaultOf bytes.items) }
+{
+    graphed(alloc, &Alone { alloc }, bytes)
+}
+
+/// The file with these bytes and its graph, made by so many workers. One thread more reads the
+/// seeds meanwhile. With two seeds or more, workers build the closed state on a board that they
+/// share, and pass the gate before each operation; the call may wait then.
+///
+/// [`ElfError::Malformed`] names the first fault of the file.
+pub fn file_graph_by<R: Threads + Wait + Sync, G: Gate>(
+    rt: &R,
+    alloc: Global,
+    bytes: Vec<u8>,
+    workers: u32,
+    gate: &G,
+) -> Result<FileGraph, ElfError>
+    requires least { 2 ≤ workers }
+    requires most { workers ≤ 64 }
+    ensures graph { IfOk result (IsGraphedFile bytes.items) }
+    ensures malformed { IfErr result (IsFaultOf bytes.items) }
+{
+    let survey = |image: &Image| -> Result<Survey, ElfError>
+        requires { IsSync R.row × (1 ≤ workers) × (workers ≤ 64) }
+        ensures { AnswersSurvey image.now result }
+    { survey_with(rt, alloc, image, workers) };
+    let tables = |code: &Code| -> Result<Vec<TableJump>, Memory>
+        requires { IsSync R.row × (1 ≤ workers) }
+        ensures { IfOk result (λ jumps. AreAllTables code.now.bytes jumps.items) }
+    { tables_with(rt, alloc, code, workers) };
+    let state = |code: &Code, seeds: &[u64]| -> Result<State, Memory>
+        requires { IsSync R.row × IsSync G.row × (2 ≤ workers) × (workers ≤ 64)
+            × AreSeeds (program_of code.now) seeds.now }
+        ensures { IfOk result (λ state. IsClosed (program_of code.now) seeds.now state.maps) }
+    { state_with(rt, alloc, code, seeds, workers, gate) };
+    let cuts = |code: &Code, state: &State| -> Result<Cuts, Memory>
+        requires { IsSync R.row × (1 ≤ workers) × (code.now.cuts ≡ map.empty)
+            × IsClosedFromSome (program_of code.now) state.now.maps }
+        ensures { AnswersCuts code.now state.now.maps result }
+    { cuts_with(rt, alloc, code, state, workers) };
+    let graph = |code: &Code, seeds: &[u64], state: &State, entry: u64| -> Result<Graph, Memory>
+        requires { IsSync R.row × (1 ≤ workers) × (workers ≤ 64)
+            × IsClosed (program_of code.now) seeds.now state.now.maps }
+        ensures { AnswersGraph (program_of code.now) seeds.now entry result }
+    { graph_with(rt, alloc, code, seeds, state, entry, workers) };
+    let by = Workers {
+        survey,
+        tables,
+        state,
+        cuts,
+        graph,
+    };
+    graphed(alloc, &by, bytes)
+}
+
+/// The file with these bytes and its graph: parse, survey, graph. `by` does the parts.
+fn graphed<B: Builder>(alloc: Global, by: &B, bytes: Vec<u8>) -> Result<FileGraph, ElfError>
+    requires { B.ready by.now }
+    ensures graph { IfOk result (IsGraphedFile bytes.items) }
+    ensures malformed { IfErr result (IsFaultOf bytes.items) }
+{
+    let image = Image::parse(alloc, bytes)?;
+    let Survey { seeds, reaches } = by.survey(&image)?;
+    let Shown { graph, state } = graph_of(alloc, by, &image, reaches, &seeds)?;
+    Ok(FileGraph {
+        image,
+        seeds,
+        graph,
+        state,
+    })
+}

@@ -1,0 +1,15 @@
+//! The ends of a run that reads one file and writes one text: reading the file, writing the text,
+//! and the line that tells why a run failed.
+//!
+//! - `reading`: all bytes of the file at a path, up to a limit.
+//! - `writing`: a text, whole or piece by piece.
+//! - `line`: the line on standard error.
+#![tactic(auto)]
+
+mod line;
+mod reading;
+mod writing;
+
+pub use line::tell;
+pub use reading::{FILE_LIMIT, Unread, read_file};
+pub use writing::{Unwritten, write_pieces};

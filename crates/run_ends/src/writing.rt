@@ -1,0 +1,50 @@
+//! Writing a text, whole or piece by piece.
+
+ghost use Rattle.std.specs.Prelude.{◌≡◌, ◌≤◌, OnOk, OnErr};
+ghost use Rattle.cfg_io.specs.Fault.{Rose};
+ghost use Rattle.cfg_io.specs.Told.{Appends, AppendsPrefix};
+ghost use Rattle.run_ends.specs.declared.writing.Unwritten.TheVariants as unwritten;
+
+use cfg_io::{Failed, Sink, write_whole};
+use graph_report::{Memory, ReportPieces};
+
+/// Why a text was not written whole.
+#[derive(Clone, Copy, Debug, PartialEq, Eq)]
+pub enum Unwritten {
+    /// A write failed. A part of the text went out.
+    Failed,
+    /// Memory ran out, before the first byte was written.
+    Memory,
+}
+
+impl From<Failed> for Unwritten {
+    ghost from_gives = { λ _ e. e ≡ unwritten.Failed };
+
+    fn from(_: Failed) -> Self {
+        Unwritten::Failed
+    }
+}
+
+impl From<Memory> for Unwritten {
+    ghost from_gives = { λ _ e. e ≡ unwritten.Memory };
+
+    fn from(_: Memory) -> Self {
+        Unwritten::Memory
+    }
+}
+
+/// Writes all that these pieces have to give, each before the next one is made. It takes no memory.
+///
+/// [`Failed`]: a write failed. The bytes before it were appended, and not all of them.
+pub fn write_pieces<O: Sink>(mut pieces: ReportPieces, out: &mut O) -> Result<(), Failed>
+    ensures whole { OnOk result (Appends (O.written out.old) pieces.entry (O.written out.new)) }
+    ensures prefix { OnErr result
+        (AppendsPrefix (O.written out.old) pieces.entry (O.written out.new)) }
+    ensures failed { OnErr result (Rose (O.faults out.old) (O.faults out.new)) }
+    ensures never_falls { O.faults out.old ≤ O.faults out.new }
+{
+    while let Some(piece) = pieces.next_piece() {
+        write_whole(out, piece)?;
+    }
+    Ok(())
+}
