@@ -254,7 +254,11 @@ impl Gate for Counts {
         self.from_deques
             .fetch_add(tally.from_deques, Ordering::SeqCst);
         self.made.fetch_add(tally.made, Ordering::SeqCst);
-        let kept = tally.kept.saturating_sub(tally.put);
+        // A name that is put off was lost three times, and is put without having been kept.
+        let kept = tally
+            .kept
+            .saturating_add(tally.lost / 3)
+            .saturating_sub(tally.put);
         let taken = tally.from_kept.saturating_add(tally.from_deques);
         if tally.from_kept > kept || tally.made > taken || tally.lost > tally.tries {
             self.odd.store(1, Ordering::SeqCst);
