@@ -1,7 +1,7 @@
 //! A small program whose instructions lie in the first shard and in the last one, and what its
 //! tests assert of a state before a change.
 
-ghost use Rattle.std.specs.Prelude.{◌≡◌, Some};
+ghost use Rattle.std.specs.Prelude.{◌≡◌, Some, None};
 ghost use Rattle.std.specs.Option.{option_map};
 ghost use Rattle.cfg_model.specs.Program.Instructions.{IsLawful};
 ghost use Rattle.cfg_model.specs.Builder.State.{IsStart, IsEntered, near_at};
@@ -85,7 +85,7 @@ impl Chains for Program {
 
 /// Asserts that `s` is a start.
 pub(crate) fn assert_start(rt: &impl Abort, state: &State, s: u64)
-    ensures { IsStart state.now.starts s }
+    ensures { IsStart state.now.maps.starts s }
 {
     let mark = state.start(s);
     assert!(rt; mark.is_some());
@@ -93,7 +93,7 @@ pub(crate) fn assert_start(rt: &impl Abort, state: &State, s: u64)
 
 /// Asserts that no block is known to end at `k`.
 pub(crate) fn assert_no_end(rt: &impl Abort, state: &State, k: u64)
-    ensures { near_at state.now.ends k ≡ None }
+    ensures { near_at state.now.maps.ends k ≡ None }
 {
     let near = state.near(k);
     assert!(rt; near.is_none());
@@ -101,7 +101,7 @@ pub(crate) fn assert_no_end(rt: &impl Abort, state: &State, k: u64)
 
 /// Asserts that the block from `s` is known to end at `k`.
 pub(crate) fn assert_near(rt: &impl Abort, state: &State, k: u64, s: u64)
-    ensures { near_at state.now.ends k ≡ Some s }
+    ensures { near_at state.now.maps.ends k ≡ Some s }
 {
     let near = state.near(k);
     assert!(rt; near == Some(s));
@@ -109,7 +109,7 @@ pub(crate) fn assert_near(rt: &impl Abort, state: &State, k: u64, s: u64)
 
 /// Asserts that the terminator `k` is entered.
 pub(crate) fn assert_entered(rt: &impl Abort, state: &State, k: u64)
-    ensures { IsEntered state.now.terminators k }
+    ensures { IsEntered state.now.maps.terminators k }
 {
     let done = state.done(k);
     assert!(rt; done.is_some());
