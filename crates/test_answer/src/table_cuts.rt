@@ -1,6 +1,6 @@
 //! Two tables that overlap: how many entries are kept of each, and the tables of all code.
 
-ghost use Rattle.std.specs.Prelude.{◌≡◌, ℕ, List, IsSome, IfOk};
+ghost use Rattle.std.specs.Prelude.{◌≡◌, ℕ, ◌≤◌, List, IsSome, IfOk};
 ghost use Rattle.std.specs.FinMap as map;
 ghost use Rattle.cfg_model.specs.Builder.Kept.{IsClosed};
 ghost use Rattle.code_view.specs.Cuts.{cut_of, CutsFit};
