@@ -9,6 +9,3 @@ mod symbols;
 
 pub use file::row_file;
 pub use memory::Memory;
-
-#[cfg(test)]
-mod tests;

@@ -11,8 +11,6 @@
 mod asked;
 mod error;
 mod parse;
-#[cfg(test)]
-mod tests;
 mod value;
 mod words;
 

@@ -16,8 +16,6 @@ pub mod outline;
 mod part;
 pub mod sharing;
 pub mod status;
-#[cfg(test)]
-mod tests;
 
 pub use memory::Memory;
 pub use outline::{Outline, blocks_and_edges};

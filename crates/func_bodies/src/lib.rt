@@ -20,8 +20,6 @@ mod plan_sharing;
 pub mod sharing;
 pub mod tail_sharing;
 pub mod tails;
-#[cfg(test)]
-mod tests;
 
 pub use listing::functions;
 pub use memory::Memory;

@@ -19,8 +19,6 @@ mod memory;
 mod name;
 mod page;
 mod pieces;
-#[cfg(test)]
-mod tests;
 mod whole;
 
 pub use kind::ReportKind;

@@ -15,8 +15,6 @@ mod bases;
 mod everywhere;
 mod jumps;
 mod sharing;
-#[cfg(test)]
-mod tests;
 mod trim;
 
 pub use everywhere::{all_entered, all_tables};

@@ -1,19 +1,20 @@
 //! The report of a graph whose parts are known from outside.
 
-use super::*;
 use cfg_model::{
     Addresses, Block, Blocks, Edge, EdgeKind, Edges, EndKind, Function, Functions, Graph,
 };
 use elf_image::Image;
 use elf_symbols::seeds;
+use graph_report::{ReportKind, ReportPieces, report, summary};
 use std::alloc::{AllocError, Global};
-use std::test::*;
+use std::process::Abort;
+use std::test::Fail;
 
 /// A file of six instructions, each of four bytes: a jump to the next one, a return, a jump by 12
 /// bytes, a return, `ebreak` and a return. The four instructions behind the first are functions
 /// with names: a dash, an `a` and a `b` with a space or a backslash between them, and the byte 80
 /// (hexadecimal).
-const NAMED_FILE: [u8; 480] = [
+static NAMED_FILE: [u8; 480] = [
     0x7F, 0x45, 0x4C, 0x46, 2, 1, 1, 0, 0, 0, 0, 0, 0, 0, 0, 0, 2, 0, 0xF3, 0, 1, 0, 0, 0, 0, 0, 1,
     0, 0, 0, 0, 0, 0, 0, 0, 0, 0, 0, 0, 0, 0xE0, 0, 0, 0, 0, 0, 0, 0, 0, 0, 0, 0, 0x40, 0, 0, 0, 0,
     0, 0x40, 0, 4, 0, 0, 0, 0x6F, 0, 0x40, 0, 0x67, 0x80, 0, 0, 0x6F, 0, 0xC0, 0, 0x67, 0x80, 0, 0,
@@ -34,7 +35,7 @@ const NAMED_FILE: [u8; 480] = [
 ];
 
 /// The blocks of that file: start, end, and what they end with.
-const NAMED_BLOCKS: [(u64, u64, EndKind); 6] = [
+static NAMED_BLOCKS: [(u64, u64, EndKind); 6] = [
     (0x10000, 0x10004, EndKind::Jump),
     (0x10004, 0x10008, EndKind::Return),
     (0x10008, 0x1000c, EndKind::Jump),
@@ -44,13 +45,13 @@ const NAMED_BLOCKS: [(u64, u64, EndKind); 6] = [
 ];
 
 /// The edges of that file.
-const NAMED_EDGES: [(u64, u64, EdgeKind); 2] = [
+static NAMED_EDGES: [(u64, u64, EdgeKind); 2] = [
     (0x10000, 0x10004, EdgeKind::Tail),
     (0x10008, 0x10014, EdgeKind::Jump),
 ];
 
 /// The functions of that file: entry, whether it may return, and the blocks of its body.
-const NAMED_FUNCTIONS: [(u64, bool, &[u64]); 5] = [
+static NAMED_FUNCTIONS: [(u64, bool, &[u64]); 5] = [
     (0x10000, true, &[0x10000]),
     (0x10004, true, &[0x10004]),
     (0x10008, true, &[0x10008, 0x10014]),
@@ -91,6 +92,32 @@ const EDGES: &str = "\
     edge 0000000000010000 0000000000010004 tail\n\
     edge 0000000000010008 0000000000010014 jump\n";
 
+/// A text of these parts and the last line.
+fn text_of(alloc: Global, parts: &[&str]) -> Result<String, AllocError> {
+    let mut text = String::new(alloc);
+    for part in parts {
+        text.push_str(part)?;
+    }
+    text.push_str("end\n")?;
+    Ok(text)
+}
+
+/// The report of a graph in this file is this text.
+fn prints(
+    rt: &(impl Abort + AllocGlobal),
+    file: &[u8],
+    graph: &Graph,
+    kind: ReportKind,
+    want: &str,
+) -> Result<(), Fail> {
+    let alloc = rt.alloc();
+    let image = Image::parse(alloc, Vec::from_slice(alloc, file)?)?;
+    let seeds = seeds(alloc, &image)?;
+    let text = report(alloc, &image, &seeds, graph, kind)?;
+    assert_eq!(rt; text.as_slice(), want.as_bytes());
+    Ok(())
+}
+
 /// The graph with these blocks and edges, and no functions.
 fn graph_of(
     alloc: Global,
@@ -124,7 +151,7 @@ fn graph_of(
 /// The graph of the file with names.
 fn named_graph(alloc: Global) -> Result<Graph, AllocError> {
     let mut functions = Vec::new(alloc);
-    for (entry, returns, body) in NAMED_FUNCTIONS {
+    for &(entry, returns, body) in NAMED_FUNCTIONS.iter() {
         functions.push(Function {
             entry,
             returns,
@@ -146,17 +173,10 @@ fn reports_of_each_kind(rt: HostRuntime) -> Result<(), Fail> {
         (ReportKind::Blocks, &[HEADING, BLOCKS]),
         (ReportKind::Edges, &[HEADING, EDGES]),
     ];
-    let image = Image::parse(rt.alloc(), Vec::from_slice(rt.alloc(), &NAMED_FILE)?)?;
-    let seeds = seeds(rt.alloc(), &image)?;
     let graph = named_graph(rt.alloc())?;
     for (kind, parts) in kinds {
-        let mut want = Vec::new(rt.alloc());
-        for part in parts {
-            want.extend_from_slice(part.as_bytes())?;
-        }
-        want.extend_from_slice(b"end\n")?;
-        let text = report(rt.alloc(), &image, &seeds, &graph, kind)?;
-        assert_eq!(rt; text.as_slice(), want.as_slice(), "{kind:?}");
+        let want = text_of(rt.alloc(), parts)?;
+        prints(&rt, &NAMED_FILE, &graph, kind, want.as_str())?;
     }
     Ok(())
 }
@@ -176,28 +196,51 @@ fn summary_of_counts(rt: HostRuntime) -> Result<(), Fail> {
     Ok(())
 }
 
-#[test]
-fn pieces_of_a_long_report(rt: HostRuntime) -> Result<(), Fail> {
-    let mut rows = Vec::new(rt.alloc());
-    let mut want = String::from_str(rt.alloc(), HEADING)?;
-    want.push_str("blocks 240\n")?;
-    for _ in 0..40 {
+/// How often the blocks of that file stand in a long report.
+const TIMES: usize = 40;
+
+/// A graph of so many blocks that its report has three pieces.
+fn long_graph(alloc: Global) -> Result<Graph, AllocError> {
+    let mut rows = Vec::new(alloc);
+    for _ in 0..TIMES {
         rows.extend_from_slice(&NAMED_BLOCKS)?;
-        want.push_str(BLOCKS.strip_prefix("blocks 6\n").unwrap_or(""))?;
     }
-    want.push_str("end\n")?;
-    let image = Image::parse(rt.alloc(), Vec::from_slice(rt.alloc(), &NAMED_FILE)?)?;
-    let seeds = seeds(rt.alloc(), &image)?;
-    let graph = graph_of(rt.alloc(), &rows, &[])?;
-    let mut pieces = ReportPieces::new(rt.alloc(), &image, &seeds, &graph, ReportKind::Blocks)?;
-    let mut left = want.as_bytes();
-    for count in [4096, 4096, 2899] {
+    graph_of(alloc, &rows, &[])
+}
+
+/// The text of its report of blocks.
+fn long_text(alloc: Global) -> Result<String, AllocError> {
+    let mut text = String::from_str(alloc, HEADING)?;
+    text.push_str("blocks 240\n")?;
+    let lines = BLOCKS.strip_prefix("blocks 6\n").unwrap_or("");
+    for _ in 0..TIMES {
+        text.push_str(lines)?;
+    }
+    text.push_str("end\n")?;
+    Ok(text)
+}
+
+/// The pieces are this text, in parts of these sizes.
+fn are_pieces(rt: &impl Abort, pieces: &mut ReportPieces, text: &[u8], counts: &[usize]) {
+    let mut left = text;
+    for &count in counts {
         assert!(rt; pieces.next_piece() == left.get(..count));
         left = left.get(count..).unwrap_or(b"");
     }
     assert!(rt; left.is_empty());
     assert!(rt; pieces.next_piece().is_none());
     assert!(rt; pieces.next_piece().is_none());
+}
+
+#[test]
+fn pieces_of_a_long_report(rt: HostRuntime) -> Result<(), Fail> {
+    let alloc = rt.alloc();
+    let graph = long_graph(alloc)?;
+    let image = Image::parse(alloc, Vec::from_slice(alloc, &NAMED_FILE)?)?;
+    let seeds = seeds(alloc, &image)?;
+    let mut pieces = ReportPieces::new(alloc, &image, &seeds, &graph, ReportKind::Blocks)?;
+    let text = long_text(alloc)?;
+    are_pieces(&rt, &mut pieces, text.as_bytes(), &[4096, 4096, 2899]);
     Ok(())
 }
 
@@ -221,72 +264,102 @@ fn file_with_name(alloc: Global, name: &[u8]) -> Result<Vec<u8>, AllocError> {
     Ok(file)
 }
 
-/// The graph with that function alone.
-fn graph_of_one(alloc: Global) -> Result<Graph, AllocError> {
+/// The graph with one function alone.
+fn graph_of_one(
+    alloc: Global,
+    entry: u64,
+    returns: bool,
+    body: &[u64],
+) -> Result<Graph, AllocError> {
     let mut functions = Vec::new(alloc);
     functions.push(Function {
-        entry: 0x10004,
-        returns: true,
-        body: Addresses::from_vec(Vec::new(alloc)),
+        entry,
+        returns,
+        body: Addresses::from_vec(Vec::from_slice(alloc, body)?),
     })?;
-    let graph = graph_of(alloc, &[], &[])?;
     Ok(Graph {
+        entry: 0x10000,
         functions: Functions::from_vec(functions),
-        ..graph
+        blocks: Blocks::from_vec(Vec::new(alloc)),
+        edges: Edges::from_vec(Vec::new(alloc)),
     })
+}
+
+/// A text that a name repeats, how often, and how it is printed.
+static NAMES: [(&[u8], usize, &str); 12] = [
+    (b"a", 1, "a"),
+    (b"a", 63, "a"),
+    (b"b", 64, "b"),
+    (b"c", 65, "c"),
+    (b"d", 129, "d"),
+    (b"\\", 70, "\\\\"),
+    (b" first", 1, "\\x20first"),
+    (b"mid\\dle", 1, "mid\\\\dle"),
+    (b"last\x7f", 1, "last\\x7f"),
+    (b"!~[]", 1, "!~[]"),
+    (
+        b"_ZNSt6vectorIiSaIiEE9push_backERKi",
+        3,
+        "_ZNSt6vectorIiSaIiEE9push_backERKi",
+    ),
+    (b"operator new[]\\\xff", 400, "operator\\x20new[]\\\\\\xff"),
+];
+
+/// The file whose function has this part, so often, for its name.
+fn file_with_parts(alloc: Global, part: &[u8], count: usize) -> Result<Vec<u8>, AllocError> {
+    let mut name = Vec::new(alloc);
+    for _ in 0..count {
+        name.extend_from_slice(part)?;
+    }
+    file_with_name(alloc, &name)
+}
+
+/// The report of that function.
+fn text_with_parts(alloc: Global, part: &str, count: usize) -> Result<String, AllocError> {
+    let mut text = String::from_str(alloc, HEADING)?;
+    text.push_str("functions 1\nfunction 0000000000010004 may-return 0 ")?;
+    for _ in 0..count {
+        text.push_str(part)?;
+    }
+    text.push_str("\nend\n")?;
+    Ok(text)
+}
+
+/// A name of so many parts is printed as so many of this text.
+fn prints_name(
+    rt: &(impl Abort + AllocGlobal),
+    part: &[u8],
+    count: usize,
+    text: &str,
+) -> Result<(), Fail> {
+    let graph = graph_of_one(rt.alloc(), 0x10004, true, &[])?;
+    let want = text_with_parts(rt.alloc(), text, count)?;
+    let file = file_with_parts(rt.alloc(), part, count)?;
+    prints(rt, &file, &graph, ReportKind::Functions, want.as_str())
 }
 
 #[test]
 fn names_of_all_lengths(rt: HostRuntime) -> Result<(), Fail> {
-    // a text that the name repeats, how often, and how it is printed
-    let rows: [(&[u8], usize, &str); 12] = [
-        (b"a", 1, "a"),
-        (b"a", 63, "a"),
-        (b"b", 64, "b"),
-        (b"c", 65, "c"),
-        (b"d", 129, "d"),
-        (b"\\", 70, "\\\\"),
-        (b" first", 1, "\\x20first"),
-        (b"mid\\dle", 1, "mid\\\\dle"),
-        (b"last\x7f", 1, "last\\x7f"),
-        (b"!~[]", 1, "!~[]"),
-        (
-            b"_ZNSt6vectorIiSaIiEE9push_backERKi",
-            3,
-            "_ZNSt6vectorIiSaIiEE9push_backERKi",
-        ),
-        (b"operator new[]\\\xff", 400, "operator\\x20new[]\\\\\\xff"),
-    ];
-    let graph = graph_of_one(rt.alloc())?;
-    for (part, count, text) in rows {
-        let mut name = Vec::new(rt.alloc());
-        let mut want = String::from_str(rt.alloc(), HEADING)?;
-        want.push_str("functions 1\nfunction 0000000000010004 may-return 0 ")?;
-        for _ in 0..count {
-            name.extend_from_slice(part)?;
-            want.push_str(text)?;
-        }
-        want.push_str("\nend\n")?;
-        let file = file_with_name(rt.alloc(), name.as_slice())?;
-        let image = Image::parse(rt.alloc(), file)?;
-        let seeds = seeds(rt.alloc(), &image)?;
-        let out = report(rt.alloc(), &image, &seeds, &graph, ReportKind::Functions)?;
-        assert_eq!(rt; out.as_slice(), want.as_bytes(), "{text}");
+    for &(part, count, text) in NAMES.iter() {
+        prints_name(&rt, part, count, text)?;
     }
     Ok(())
 }
 
+/// Blocks and edges of which an address or its upper half is the least or the greatest.
+static FAR_BLOCKS: [(u64, u64, EndKind); 3] = [
+    (0, 0xffff_ffff, EndKind::Fall),
+    (0x1_0000_0000, u64::MAX, EndKind::TableOpen),
+    (0x0123_4567_89ab_cdef, 0xfedc_ba98_7654_3210, EndKind::Stop),
+];
+
+static FAR_EDGES: [(u64, u64, EdgeKind); 2] = [
+    (u64::MAX, 0, EdgeKind::After),
+    (0xffff_ffff, 0x1_0000_0000, EdgeKind::Tail),
+];
+
 #[test]
 fn addresses_of_each_half(rt: HostRuntime) -> Result<(), Fail> {
-    let blocks = [
-        (0, 0xffff_ffff, EndKind::Fall),
-        (0x1_0000_0000, u64::MAX, EndKind::TableOpen),
-        (0x0123_4567_89ab_cdef, 0xfedc_ba98_7654_3210, EndKind::Stop),
-    ];
-    let edges = [
-        (u64::MAX, 0, EdgeKind::After),
-        (0xffff_ffff, 0x1_0000_0000, EdgeKind::Tail),
-    ];
     let want = "\
         cfg-report 2\n\
         entry 0000000000010000\n\
@@ -299,30 +372,12 @@ fn addresses_of_each_half(rt: HostRuntime) -> Result<(), Fail> {
         edge ffffffffffffffff 0000000000000000 after\n\
         edge 00000000ffffffff 0000000100000000 tail\n\
         end\n";
-    let image = Image::parse(rt.alloc(), Vec::from_slice(rt.alloc(), &NAMED_FILE)?)?;
-    let seeds = seeds(rt.alloc(), &image)?;
-    let graph = graph_of(rt.alloc(), &blocks, &edges)?;
-    let text = report(rt.alloc(), &image, &seeds, &graph, ReportKind::Graph)?;
-    assert_eq!(rt; text.as_slice(), want.as_bytes());
-    Ok(())
+    let graph = graph_of(rt.alloc(), &FAR_BLOCKS, &FAR_EDGES)?;
+    prints(&rt, &NAMED_FILE, &graph, ReportKind::Graph, want)
 }
 
 #[test]
 fn bodies_at_each_half(rt: HostRuntime) -> Result<(), Fail> {
-    let mut functions = Vec::new(rt.alloc());
-    functions.push(Function {
-        entry: 0x1_0000_0000,
-        returns: false,
-        body: Addresses::from_vec(Vec::from_slice(
-            rt.alloc(),
-            &[0, 0xffff_ffff, 0x1_0000_0000, u64::MAX],
-        )?),
-    })?;
-    let graph = Graph {
-        entry: u64::MAX,
-        functions: Functions::from_vec(functions),
-        ..graph_of(rt.alloc(), &[], &[])?
-    };
     let want = "\
         cfg-report 2\n\
         entry ffffffffffffffff\n\
@@ -333,9 +388,8 @@ fn bodies_at_each_half(rt: HostRuntime) -> Result<(), Fail> {
         in 0000000100000000\n\
         in ffffffffffffffff\n\
         end\n";
-    let image = Image::parse(rt.alloc(), Vec::from_slice(rt.alloc(), &NAMED_FILE)?)?;
-    let seeds = seeds(rt.alloc(), &image)?;
-    let text = report(rt.alloc(), &image, &seeds, &graph, ReportKind::Functions)?;
-    assert_eq!(rt; text.as_slice(), want.as_bytes());
-    Ok(())
+    let body = [0, 0xffff_ffff, 0x1_0000_0000, u64::MAX];
+    let mut graph = graph_of_one(rt.alloc(), 0x1_0000_0000, false, &body)?;
+    graph.entry = u64::MAX;
+    prints(&rt, &NAMED_FILE, &graph, ReportKind::Functions, want)
 }

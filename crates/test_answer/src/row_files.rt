@@ -3,11 +3,12 @@
 ghost use Rattle.std.specs.Prelude.{IsTrue};
 ghost use Rattle.cfg_vectors.specs.Rows.{IsRow};
 
-use super::*;
+use cfg_vectors::row_file;
+use std::process::Abort;
 use std::test::Fail;
 
 /// A row, a part, the length of their file, and the hash of its bytes.
-static CASES: [(u32, u32, usize, u64); 27] = [
+pub(crate) static FILES: [(u32, u32, usize, u64); 27] = [
     (1, 0, 264, 0xE532FABC1DF97F36),
     (5, 0, 528, 0x7293D68FBFD241F9),
     (5, 1, 448, 0x4EFE9D6B509BD2CB),
@@ -54,22 +55,22 @@ fn is_row(row: u32, part: u32) -> bool
     listed && parted
 }
 
-#[test]
-fn gives_every_row(rt: HostRuntime) -> Result<(), Fail> {
-    for &(row, part, len, sum) in CASES.iter() {
-        assert!(rt; is_row(row, part));
-        let file = row_file(rt.alloc(), row, part)?;
-        assert_eq!(rt; file.len(), len, "the length of row {row} part {part}");
-        assert_eq!(rt; hash(&file), sum, "the bytes of row {row} part {part}");
-    }
-    Ok(())
+/// The file of a row; a number that is none of a row fails the test.
+pub(crate) fn file_of(
+    rt: &(impl Abort + AllocGlobal),
+    row: u32,
+    part: u32,
+) -> Result<Vec<u8>, Fail> {
+    assert!(rt; is_row(row, part));
+    Ok(row_file(rt.alloc(), row, part)?)
 }
 
 #[test]
-fn takes_rows_by_number(rt: HostRuntime) -> Result<(), Fail> {
-    assert_eq!(rt; row_file(rt.alloc(), 1, 0)?.len(), 264);
-    assert_eq!(rt; row_file(rt.alloc(), 5, 3)?.len(), 448);
-    assert_eq!(rt; row_file(rt.alloc(), 16, 2)?.len(), 264);
-    assert_eq!(rt; row_file(rt.alloc(), 17, 0)?.len(), 456);
+fn gives_every_row(rt: HostRuntime) -> Result<(), Fail> {
+    for &(row, part, len, sum) in FILES.iter() {
+        let file = file_of(&rt, row, part)?;
+        assert_eq!(rt; file.len(), len, "the length of row {row} part {part}");
+        assert_eq!(rt; hash(&file), sum, "the bytes of row {row} part {part}");
+    }
     Ok(())
 }

@@ -1,0 +1,149 @@
+//! Rows 31, 35 and 36: an end that is split over and over, float instructions, and
+//! position-independent files.
+
+use crate::one_run::{prints, refuses};
+use crate::row_files::file_of;
+use crate::rows::reports;
+use cfg_run::Status;
+use std::alloc::{AllocError, Global};
+use std::process::Abort;
+use std::test::Fail;
+
+/// Where the code of a row's file stands.
+pub(crate) const CODE_AT: usize = 64;
+
+/// Where the type of a file stands in its header.
+const TYPE_AT: usize = 16;
+
+/// Writes the four bytes of a word to a place of a file.
+pub(crate) fn put_word(file: &mut [u8], at: usize, word: u32) {
+    for (place, byte) in file.iter_mut().skip(at).zip(word.to_le_bytes()) {
+        *place = byte;
+    }
+}
+
+/// Row 10's file, with three other words at the start of its code. No row of this page reaches the
+/// words after them.
+fn with_code(rt: &(impl Abort + AllocGlobal), words: [u32; 3]) -> Result<Vec<u8>, Fail> {
+    let mut bytes = file_of(rt, 10, 0)?;
+    let mut at = CODE_AT;
+    for word in words {
+        put_word(&mut bytes, at, word);
+        at = at.saturating_add(4);
+    }
+    Ok(bytes)
+}
+
+/// Row 1's file with some of its bytes replaced.
+fn edited(rt: &(impl Abort + AllocGlobal), edits: &[(usize, u8)]) -> Result<Vec<u8>, Fail> {
+    let mut bytes = file_of(rt, 1, 0)?;
+    for &(at, byte) in edits {
+        if let Some(place) = bytes.get_mut(at) {
+            *place = byte;
+        }
+    }
+    Ok(bytes)
+}
+
+/// The words of a row, and the sections of its report.
+static FLOAT: [([u32; 3], &str); 3] = [
+    (
+        [0x0001_3507, 0x02A5_7553, 0x0000_8067],
+        "\
+        functions 1\n\
+        function 0000000000010000 may-return 1 -\n\
+        in 0000000000010000\n\
+        blocks 1\n\
+        block 0000000000010000 000000000001000c return\n\
+        edges 0\n",
+    ),
+    (
+        [0x8082_2502, 0, 0],
+        "\
+        functions 1\n\
+        function 0000000000010000 may-return 1 -\n\
+        in 0000000000010000\n\
+        blocks 1\n\
+        block 0000000000010000 0000000000010004 return\n\
+        edges 0\n",
+    ),
+    (
+        [0x02A5_5553, 0, 0],
+        "\
+        functions 1\n\
+        function 0000000000010000 no-return 1 -\n\
+        in 0000000000010000\n\
+        blocks 1\n\
+        block 0000000000010000 0000000000010002 stop\n\
+        edges 0\n",
+    ),
+];
+
+#[test]
+fn float_rows(rt: HostRuntime) -> Result<(), Fail> {
+    for &(words, sections) in FLOAT.iter() {
+        reports(&rt, &with_code(&rt, words)?, sections)?;
+    }
+    Ok(())
+}
+
+#[test]
+fn position_independent_file(rt: HostRuntime) -> Result<(), Fail> {
+    let sections = "\
+        functions 1\n\
+        function 0000000000010000 may-return 1 -\n\
+        in 0000000000010000\n\
+        blocks 1\n\
+        block 0000000000010000 0000000000010004 return\n\
+        edges 0\n";
+    reports(&rt, &edited(&rt, &[(TYPE_AT, 3)])?, sections)
+}
+
+#[test]
+fn refused_types(rt: HostRuntime) -> Result<(), Fail> {
+    let interpreter = [(TYPE_AT, 3), (32, 0x48), (54, 0x38), (56, 1), (72, 3)];
+    let cases: [(&[(usize, u8)], &str); 2] = [
+        (&[(TYPE_AT, 1)], "cfg: malformed: Type\n"),
+        (&interpreter, "cfg: malformed: Interp\n"),
+    ];
+    for (edits, line) in cases {
+        refuses(&rt, &["F"], edited(&rt, edits)?, Status::Malformed, line)?;
+    }
+    Ok(())
+}
+
+/// Row 31: a function of one block at each of 301 halfwords, each of which goes on to the next.
+fn row_31_text(alloc: Global) -> Result<String, AllocError> {
+    let last: u64 = 0x10258;
+    let mut text = String::from_str(alloc, "cfg-report 2\nentry 0000000000010000\n")?;
+    writeln!(text, "functions 301")?;
+    for i in 0..301u64 {
+        let at = 0x10000 + 2 * i;
+        writeln!(text, "function {at:016x} may-return 1 s")?;
+        writeln!(text, "in {at:016x}")?;
+    }
+    writeln!(text, "blocks 301")?;
+    push_each(&mut text, "block")?;
+    let end = last + 2;
+    writeln!(text, "block {last:016x} {end:016x} return")?;
+    writeln!(text, "edges 300")?;
+    push_each(&mut text, "edge")?;
+    text.push_str("end\n")?;
+    Ok(text)
+}
+
+/// The line of each halfword but the last.
+fn push_each(text: &mut String, word: &str) -> Result<(), AllocError> {
+    for i in 0..300u64 {
+        let at = 0x10000 + 2 * i;
+        let after = at + 2;
+        writeln!(text, "{word} {at:016x} {after:016x} fall")?;
+    }
+    Ok(())
+}
+
+#[test]
+fn many_splits(rt: HostRuntime) -> Result<(), Fail> {
+    let text = row_31_text(rt.alloc())?;
+    prints(&rt, &["F"], file_of(&rt, 31, 0)?, text.as_str())
+}

@@ -1,0 +1,53 @@
+//! Tests of what leads from the closed state of a builder to the answer of a run: jump tables and
+//! their cuts, blocks and edges, functions, the text of a report, the words of a command line, and
+//! whole runs.
+//!
+//! They show what no contract says: that the definitions agree with worked examples and with another
+//! tool's files, what is printed byte by byte, that each call succeeds with ample memory, and that
+//! several threads give what one gives. The crate has no code of its own, so that the crates under
+//! test are not proved again for their tests.
+//!
+//! - `row_files`: the files of the worked rows. `outline_rows`: what worked programs consist of.
+//! - `table_cuts`, `outlines`, `function_lists`, `report_text`, `command_lines`: one crate each.
+//! - `one_run`, `rows`: a run of the program, and the report that it gives to the file of a row.
+//! - `rows_of_code`, `rows_of_tables`, `edited_rows`, `linked_file`: reports of whole files.
+//! - `asked_reports`, `refused_input`, `failing_calls`: words, refusals, and calls that fail.
+//! - `several_workers`, `yardstick`: workers against one thread, and against another builder.
+#![tactic(auto)]
+
+#[cfg(test)]
+mod asked_reports;
+#[cfg(test)]
+mod command_lines;
+#[cfg(test)]
+mod edited_rows;
+#[cfg(test)]
+mod failing_calls;
+#[cfg(test)]
+mod function_lists;
+#[cfg(test)]
+mod linked_file;
+#[cfg(test)]
+mod one_run;
+#[cfg(test)]
+mod outline_rows;
+#[cfg(test)]
+mod outlines;
+#[cfg(test)]
+mod refused_input;
+#[cfg(test)]
+mod report_text;
+#[cfg(test)]
+mod row_files;
+#[cfg(test)]
+mod rows;
+#[cfg(test)]
+mod rows_of_code;
+#[cfg(test)]
+mod rows_of_tables;
+#[cfg(test)]
+mod several_workers;
+#[cfg(test)]
+mod table_cuts;
+#[cfg(test)]
+mod yardstick;
