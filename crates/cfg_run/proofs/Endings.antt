@@ -88,9 +88,9 @@ refusal-of bytes errors.Memory is = tt
 
 -- A file that was not read and is no malformed one was not too large.
 pub not-too-large : (e : Unread) → ¬ IsMalformed (refusal_of_unread e) → e ≢ unread.TooLarge
-not-too-large unread.ReadFault no = λ same. absurd (cc)
-not-too-large unread.TooLarge no = λ same. no tt
-not-too-large unread.Memory no = λ same. absurd (cc)
+not-too-large unread.ReadFault other = λ same. absurd (cc)
+not-too-large unread.TooLarge other = λ same. other tt
+not-too-large unread.Memory other = λ same. absurd (cc)
 
 -- ---- refusing
 

@@ -58,13 +58,3 @@ graph-under bytes from start program cuts graph same all first is =
     subst (λ (p : InstructionMap). IsGraph p (seeds bytes) (entry bytes) graph) same
     (subst (λ (s : List ℕ). IsGraph program s (entry bytes) graph) all
     (subst (λ (a : ℕ). IsGraph program from a graph) first is))
-
--- A state that is closed under the program of code is closed under that of the file under the cuts.
-pub closed-under : (bytes from : List ℕ) (cuts : Counts) (code : FileCode) (state : BuilderState) → code.bytes ≡ bytes → code.cuts ≡ cuts
-    → IsClosed (program_of code) from state → IsClosed (cut_program bytes cuts) from state
-closed-under bytes from cuts code state same under closed =
-    subst (λ (p : InstructionMap). IsClosed p from state) (program-is bytes cuts code same under) closed
-
-pub if_ok_map : {T E : Type 0} {P Q : T → Type 0} (r : Result T E) → ((x : T) → P x → Q x) → IfOk r P → IfOk r Q
-if_ok_map (Ok x) f p = f x p
-if_ok_map (Err e) f p = tt

@@ -1,0 +1,57 @@
+"""bin/install, with a program in the place of cfg."""
+
+from __future__ import annotations
+
+import os
+import shutil
+import subprocess
+import tempfile
+import unittest
+from pathlib import Path
+
+import rows
+
+TOP = rows.TOOLS.parent
+
+
+class Install(unittest.TestCase):
+    def setUp(self) -> None:
+        folder = tempfile.TemporaryDirectory()
+        self.addCleanup(folder.cleanup)
+        self.top, self.prefix = Path(folder.name) / "a top", Path(folder.name) / "a prefix"
+        for name in ("bin", "docs", "tools"):
+            shutil.copytree(TOP / name, self.top / name, ignore=shutil.ignore_patterns("__pycache__"))
+
+    def install(self) -> "subprocess.CompletedProcess[str]":
+        command = ["sh", str(self.top / "bin" / "install"), str(self.prefix)]
+        return subprocess.run(command, capture_output=True, text=True, check=False)
+
+    def test_a_program_that_is_not_built_is_said(self) -> None:
+        ran = self.install()
+        self.assertEqual(ran.returncode, 1)
+        self.assertIn("not built yet", ran.stderr)
+        self.assertFalse(self.prefix.exists())
+
+    def test_program_scripts_and_pages_are_put_in_place(self) -> None:
+        program = self.top / "crates" / "cfg" / "out" / "cfg"
+        program.parent.mkdir(parents=True)
+        report = self.top / "one"
+        report.write_bytes(rows.report(1))
+        program.write_text(f"#!/bin/sh\nexec cat '{report}'\n")
+        program.chmod(0o755)
+        ran = self.install()
+        self.assertEqual((ran.returncode, ran.stderr), (0, ""))
+        for line in ran.stdout.splitlines():
+            if line.startswith(str(self.prefix)) and not line.endswith("is not on the PATH"):
+                self.assertTrue(Path(line).is_file(), line)
+        self.assertTrue((self.prefix / "share" / "man" / "man1" / "cfg.1").is_file())
+        elf = self.top / "one.elf"
+        elf.write_bytes(rows.elf(1))
+        environment = {name: value for name, value in os.environ.items() if name != "CFG"}
+        said = subprocess.run([self.prefix / "bin" / "cfg-summary", elf], capture_output=True, text=True, env=environment, check=False)
+        self.assertEqual((said.returncode, said.stderr), (0, ""))
+        self.assertIn("functions", said.stdout)
+
+
+if __name__ == "__main__":
+    unittest.main()
