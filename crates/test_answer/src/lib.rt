@@ -13,6 +13,7 @@
 //! - `rows_of_code`, `rows_of_tables`, `edited_rows`, `linked_file`: reports of whole files.
 //! - `asked_reports`, `refused_input`, `failing_calls`: words, refusals, and calls that fail.
 //! - `several_workers`, `yardstick`: workers against one thread, and against another builder.
+//! - `gated_runs`: runs whose workers gates hold: that they work at the same time, and steal.
 #![tactic(auto)]
 
 #[cfg(test)]
@@ -25,6 +26,8 @@ mod edited_rows;
 mod failing_calls;
 #[cfg(test)]
 mod function_lists;
+#[cfg(test)]
+mod gated_runs;
 #[cfg(test)]
 mod linked_file;
 #[cfg(test)]

@@ -5,22 +5,19 @@ ghost use Rattle.std.specs.Prelude.{◌≤◌};
 use alone::build_alone;
 use cfg_model::{Chains, Flow};
 use core_state::{State, WorkKind};
-use crew::{Gate, OpenGate, Tally, build, work};
+use crew::{Gate, OpenGate, build, work};
 use std::alloc::Global;
 use std::process::Abort;
 use std::sync::Wait;
-use std::sync::atomic::{AtomicU64, Ordering};
 use std::test::Fail;
 use std::thread::Threads;
+use test_gates::{Counts, Meeting, Robbery};
 use test_programs::{
     Sample, Slot, cut_table, row_6, row_8, row_9, row_10, row_12, row_17, table_jump,
 };
 
 /// The numbers of workers that are tried.
 const CREWS: [u32; 5] = [2, 3, 4, 8, 64];
-
-/// How often a gate looks whether a worker may go on.
-const TURNS: u64 = 200_000_000;
 
 /// More than there are of anything in a worked program.
 const MANY: u32 = 100;
@@ -145,75 +142,17 @@ fn all_crews_build_one_state(rt: HostRuntime) -> Result<(), Fail> {
     Ok(())
 }
 
-/// Holds the first call of each of two workers until the other one has called.
-#[derive(Drop)]
-struct Meeting {
-    zero: AtomicU64,
-    one: AtomicU64,
-    late: AtomicU64,
-}
-
-impl Gate for Meeting {
-    fn before(&self, worker: u32, _kind: WorkKind, _key: u64) {
-        let (mine, other) = if worker == 0 {
-            (&self.zero, &self.one)
-        } else {
-            (&self.one, &self.zero)
-        };
-        if mine.swap(1, Ordering::SeqCst) == 0 && !reaches(other, 1) {
-            self.late.store(1, Ordering::SeqCst);
-        }
-    }
-}
-
-/// Whether the word comes to have so many bits before the last turn.
-fn reaches(word: &AtomicU64, bits: u32) -> bool {
-    for _ in 0..TURNS {
-        if word.load(Ordering::SeqCst).count_ones() >= bits {
-            return true;
-        }
-    }
-    false
-}
-
 /// Row 26, its first part: two workers act in one run. A crew whose workers work one after the
 /// other, in either order, is late.
 #[test]
 fn two_workers_meet(rt: HostRuntime) -> Result<(), Fail> {
     let code = row_5(rt.alloc());
-    let gate = Meeting {
-        zero: AtomicU64::new(0),
-        one: AtomicU64::new(0),
-        late: AtomicU64::new(0),
-    };
+    let gate = Meeting::new();
     let state = build(&rt, rt.alloc(), &code, code.seeds(), 2, &gate)?;
-    assert_eq!(rt; gate.zero.load(Ordering::SeqCst), 1);
-    assert_eq!(rt; gate.one.load(Ordering::SeqCst), 1);
-    assert_eq!(rt; gate.late.load(Ordering::SeqCst), 0);
+    assert!(rt; gate.both_came());
     assert_eq!(rt; state.near(0), Some(0));
     assert_eq!(rt; state.near(4), Some(4));
     Ok(())
-}
-
-/// Holds the first call of worker 0 until worker 1 was about to follow the edges of three
-/// terminators.
-#[derive(Drop)]
-struct Robbery {
-    called: AtomicU64,
-    edges: AtomicU64,
-    late: AtomicU64,
-}
-
-impl Gate for Robbery {
-    fn before(&self, worker: u32, kind: WorkKind, key: u64) {
-        if worker == 0 {
-            if self.called.swap(1, Ordering::SeqCst) == 0 && !reaches(&self.edges, 3) {
-                self.late.store(1, Ordering::SeqCst);
-            }
-        } else if kind == WorkKind::Edges {
-            self.edges.fetch_or(1 << (key / 4 % 64), Ordering::SeqCst);
-        }
-    }
 }
 
 /// Row 26, its second part: the names of two seeds are put into the hand of worker 0 alone, which
@@ -222,48 +161,12 @@ impl Gate for Robbery {
 #[test]
 fn a_worker_steals(rt: HostRuntime) -> Result<(), Fail> {
     let code = four_returns(rt.alloc());
-    let gate = Robbery {
-        called: AtomicU64::new(0),
-        edges: AtomicU64::new(0),
-        late: AtomicU64::new(0),
-    };
+    let gate = Robbery::of_edges();
     let state = build(&rt, rt.alloc(), &code, code.seeds(), 2, &gate)?;
-    assert_eq!(rt; gate.late.load(Ordering::SeqCst), 0);
-    assert!(rt; gate.edges.load(Ordering::SeqCst).count_ones() >= 3);
+    assert!(rt; gate.took_place());
     let one = build_alone(rt.alloc(), &code, code.seeds())?;
     same_ends(&rt, &one, &state);
     Ok(())
-}
-
-/// Adds up what workers counted, and notes whether the counts of one do not fit together.
-#[derive(Drop)]
-struct Counts {
-    ended: AtomicU64,
-    put: AtomicU64,
-    from_deques: AtomicU64,
-    made: AtomicU64,
-    odd: AtomicU64,
-}
-
-impl Gate for Counts {
-    fn before(&self, _worker: u32, _kind: WorkKind, _key: u64) {}
-
-    fn ended(&self, worker: u32, tally: &Tally) {
-        self.ended.fetch_or(1 << (worker % 64), Ordering::SeqCst);
-        self.put.fetch_add(tally.put, Ordering::SeqCst);
-        self.from_deques
-            .fetch_add(tally.from_deques, Ordering::SeqCst);
-        self.made.fetch_add(tally.made, Ordering::SeqCst);
-        // A name that is put off was lost three times, and is put without having been kept.
-        let kept = tally
-            .kept
-            .saturating_add(tally.lost / 3)
-            .saturating_sub(tally.put);
-        let taken = tally.from_kept.saturating_add(tally.from_deques);
-        if tally.from_kept > kept || tally.made > taken || tally.lost > tally.tries {
-            self.odd.store(1, Ordering::SeqCst);
-        }
-    }
 }
 
 /// Each worker gives what it counted, once. Names are taken no more often than they were put, and no
@@ -272,27 +175,13 @@ impl Gate for Counts {
 fn workers_count(rt: HostRuntime) -> Result<(), Fail> {
     let code = four_returns(rt.alloc());
     for workers in CREWS {
-        let gate = Counts {
-            ended: AtomicU64::new(0),
-            put: AtomicU64::new(0),
-            from_deques: AtomicU64::new(0),
-            made: AtomicU64::new(0),
-            odd: AtomicU64::new(0),
-        };
+        let gate = Counts::new();
         build(&rt, rt.alloc(), &code, code.seeds(), workers, &gate)?;
-        let ended = gate.ended.load(Ordering::SeqCst).count_ones();
-        assert_eq!(rt; ended, workers);
-        assert_eq!(rt; gate.odd.load(Ordering::SeqCst), 0);
-        let put = gate.put.load(Ordering::SeqCst);
-        let put = put.saturating_add(4);
-        assert!(rt;
-            gate.from_deques.load(Ordering::SeqCst) <= put,
-            "a name was never put"
-        );
-        assert!(rt;
-            gate.made.load(Ordering::SeqCst) >= 8,
-            "work was not counted"
-        );
+        assert_eq!(rt; gate.ended(), workers);
+        assert!(rt; gate.fit());
+        let put = gate.put().saturating_add(4);
+        assert!(rt; gate.from_deques() <= put, "a name was never put");
+        assert!(rt; gate.made() >= 8, "work was not counted");
     }
     Ok(())
 }
