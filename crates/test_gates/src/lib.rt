@@ -112,10 +112,10 @@ impl Robbery {
         Robbery::wanting(Wanted::Below(bound))
     }
 
-    /// Whether worker 1 did so while worker 0 was held, and stolen work was counted.
+    /// Whether worker 1 did so before worker 0 could go on, if that came at all, and stolen work was
+    /// counted.
     pub fn took_place(&self) -> bool {
-        self.called.load(Ordering::SeqCst) == 1
-            && self.late.load(Ordering::SeqCst) == 0
+        self.late.load(Ordering::SeqCst) == 0
             && self.robbed.load(Ordering::SeqCst).count_ones() >= 3
             && self.stolen.load(Ordering::SeqCst) >= 1
     }
