@@ -14,13 +14,14 @@ file.
 
 from __future__ import annotations
 
-import argparse
 import contextlib
 import os
 import re
 import subprocess
 import sys
-from typing import BinaryIO, Callable, Dict, Iterator, List, NamedTuple, NoReturn, Optional, Set, Tuple, Union
+from typing import BinaryIO, Callable, Dict, Iterable, Iterator, List, NamedTuple, NoReturn, Optional, Set, Tuple, Union
+
+import names
 
 TOP = os.path.dirname(os.path.dirname(os.path.abspath(__file__)))
 FIRST_LINE = b"cfg-report 2\n"
@@ -131,7 +132,7 @@ def address(value: int) -> str:
 
 def function_name(entry: int, name: Optional[bytes]) -> str:
     """What to call a function: its name, or its address."""
-    return f"{entry:x}" if name is None else name_field(name)
+    return f"{entry:x}" if name is None else names.shown(name_field(name))
 
 
 def _shown(line: bytes) -> str:
@@ -341,17 +342,25 @@ def read(stream: BinaryIO) -> Iterator[Item]:
 
 
 class Report:
-    """A whole report. What its kind leaves out is empty."""
+    """A whole report, of its parts. What its kind leaves out is empty."""
 
-    def __init__(self, stream: BinaryIO) -> None:
+    def __init__(self, items: Iterable[Item]) -> None:
         self.entry = 0
         self.kind = ""
         self.functions: List[Function] = []
         self.blocks: Dict[int, Block] = {}
         self.edges: List[Edge] = []
         self.edges_from: Dict[int, List[Edge]] = {}
-        for item in read(stream):
+        for item in items:
             self._keep(item)
+
+    def items(self) -> Iterator[Item]:
+        """All that the report has, in its order."""
+        yield Heading(self.entry)
+        yield from self.functions
+        yield from self.blocks.values()
+        yield from self.edges
+        yield End(self.kind)
 
     def _keep(self, item: Item) -> None:
         if isinstance(item, Edge):
@@ -400,12 +409,12 @@ def find_function(functions: List[Function], wanted: str) -> Function:
 
 def _is_named(function: Function, wanted: str) -> bool:
     name = function.name
-    return name is not None and wanted in (name_field(name), name.decode("utf-8", "replace"))
+    return name is not None and wanted in (name_field(name), name.decode("utf-8", "replace"), names.shown(name_field(name)))
 
 
 def load(stream: BinaryIO) -> Report:
     """A whole report."""
-    return Report(stream)
+    return Report(read(stream))
 
 
 def _unknown_places(report: Report) -> Iterator[str]:
@@ -556,18 +565,11 @@ def load_path(path: str) -> Report:
         return load(stream)
 
 
-def command(description: str) -> argparse.ArgumentParser:
-    """The words of a script, the first of which says what report to read."""
-    parser = argparse.ArgumentParser(description=description)
-    what = "a report, - for standard input, or an ELF file to run cfg on"
-    parser.add_argument("report", metavar="REPORT_OR_ELF", help=what)
-    return parser
-
-
 def main() -> int:
-    parser = command("Checks a report of cfg.")
-    path = parser.parse_args().report
-    report = load_path(path)
+    import reading
+    parser = reading.command("Checks a report of cfg.")
+    words = parser.parse_args()
+    report = reading.report(words, words.report, whole=False)
     wrong = list(report.problems())
     counts = f"{len(report.functions)} functions, {len(report.blocks)} blocks, {len(report.edges)} edges"
     print(f"a report of kind {report.kind}, entry {report.entry:x}: {counts}")
@@ -578,4 +580,6 @@ def main() -> int:
 
 
 if __name__ == "__main__":
-    run(main)
+    # The other modules know this one by its name, and so would have other classes than these.
+    import cfg_report
+    cfg_report.run(cfg_report.main)
