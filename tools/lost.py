@@ -5,7 +5,6 @@ from __future__ import annotations
 import bisect
 from typing import Dict, Iterable, List, NamedTuple, Optional, Tuple
 
-from cfg_report import Block
 from elf_file import Elf, Symbol, gaps, joined, size_of
 
 Range = Tuple[int, int]
@@ -28,9 +27,9 @@ class Lost(NamedTuple):
 class LostCode:
     """All code that is not reached. What belongs to no symbol is in `outside`; each byte counts once."""
 
-    def __init__(self, elf: Elf, blocks: Iterable[Block]) -> None:
+    def __init__(self, elf: Elf, reached: Iterable[Range]) -> None:
         self.elf = elf
-        self.missed = gaps(elf.code, joined([(block.start, block.end) for block in blocks]))
+        self.missed = gaps(elf.code, joined(list(reached)))
         self.size = size_of(self.missed)
         self._by_symbol: Dict[Symbol, List[Range]] = {}
         self.outside: List[Range] = []

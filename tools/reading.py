@@ -3,14 +3,16 @@
 from __future__ import annotations
 
 import argparse
-from typing import Iterator, Optional
+import re
+from typing import BinaryIO, Iterator, Optional
 
 import cfg_report
 import names
-from cfg_report import Block, Heading, Item, Report, ReportError
+from cfg_report import Block, Heading, Item, Reader, Report, ReportError
 from changed_graph import rebuilt, with_edges
 from elf_file import Elf
 from matching import Matching
+from progress import Progress
 from unsure import Unsure
 
 REPORT_HELP = "a report, - for standard input, or an ELF file to run cfg on"
@@ -37,6 +39,13 @@ def add_elf(parser: argparse.ArgumentParser, what: str) -> None:
     parser.add_argument("--elf", help=f"the ELF file that the report is of, {what}")
 
 
+def address(text: str) -> int:
+    """An address that is given in hexadecimal digits."""
+    if not re.fullmatch(r"(0x)?[0-9a-fA-F]{1,16}", text):
+        raise ReportError(f"`{text}` is no address in hexadecimal digits")
+    return int(text, 16)
+
+
 def the_elf(words: argparse.Namespace) -> Optional[Elf]:
     """The ELF file that is given, or that stands in the place of the report."""
     path = words.elf or (words.report if cfg_report.is_elf(words.report) else None)
@@ -50,20 +59,21 @@ def items(words: argparse.Namespace, path: str, elf: Optional[Elf] = None) -> It
     if words.edges or getattr(words, "sure", False):
         yield from report(words, path, elf, whole=False).items()
         return
-    with cfg_report.naming(path), cfg_report.opened(path) as stream:
-        yield from _matching(cfg_report.read(stream), elf)
+    with cfg_report.opened(path) as stream:
+        yield from _matching(stream, elf)
 
 
-def _matching(found: Iterator[Item], elf: Optional[Elf]) -> Iterator[Item]:
-    if elf is None:
-        yield from found
-        return
-    matching = Matching(elf)
-    for item in found:
-        if isinstance(item, Block):
+def _matching(stream: BinaryIO, elf: Optional[Elf]) -> Iterator[Item]:
+    """The parts of the report of a stream. Where that is a long one, it is said how far it is read."""
+    matching = Matching(elf) if elf else None
+    reader = Reader(stream)
+    progress = Progress(lambda: f"{reader.line} lines of the report are read")
+    for item in reader.items():
+        if matching is not None and isinstance(item, Block):
             matching.block(item)
-        elif isinstance(item, Heading):
+        elif matching is not None and isinstance(item, Heading):
             matching.entry(item.entry)
+        progress.step()
         yield item
 
 
@@ -72,7 +82,7 @@ def report(words: argparse.Namespace, path: str, elf: Optional[Elf] = None, whol
     and fit together."""
     names.demangle(words.demangle)
     with cfg_report.naming(path), cfg_report.opened(path) as stream:
-        found = Report(_matching(cfg_report.read(stream), elf))
+        found = Report(_matching(stream, elf))
         if whole or words.edges or getattr(words, "sure", False):
             found.want("graph")
             for problem in found.problems():
