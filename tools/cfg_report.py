@@ -1,9 +1,11 @@
 #!/usr/bin/env python3
 """Reads the reports of `cfg`, of every kind, and checks them as it reads.
 
-    tools/cfg_report.py REPORT_OR_ELF
+    tools/cfg_report.py [--elf ELF [--tables]] [--sure] REPORT_OR_ELF
 
-says what kind of report it is, how much is in it, and what is wrong with it, if anything is.
+says what kind of report it is, how much is in it, and what is wrong with it, if anything is. With `--tables` it lists
+the jump tables: the address of each, the size of its entries, and by number which of them lead to which address; where
+that is outside the function symbol that holds the jump, it says so.
 
 For other scripts there are two ways to read. `read(stream)` gives the heading, each function, block and edge, and the
 end of a report one by one, and keeps none of them, so that a report of any size can be read. `load(stream)` keeps all
@@ -567,10 +569,21 @@ def load_path(path: str) -> Report:
 
 def main() -> int:
     import reading
-    parser = reading.command("Checks a report of cfg.")
+    from tables import described_tables
+    parser = reading.command("Checks a report of cfg.", sure=True)
+    reading.add_elf(parser, "for --tables")
+    parser.add_argument("--tables", action="store_true", help="list jump tables, and which entries lead to which address")
     words = parser.parse_args()
-    report = reading.report(words, words.report, whole=False)
-    wrong = list(report.problems())
+    elf = reading.the_elf(words)
+    if words.tables and elf is None:
+        parser.error("--tables needs --elf")
+    report = reading.report(words, words.report, elf, whole=words.tables)
+    if words.tables:
+        assert elf is not None
+        for line in described_tables(elf, report):
+            print(line)
+        return 0
+    wrong = [] if words.edges or words.sure else list(report.problems())
     counts = f"{len(report.functions)} functions, {len(report.blocks)} blocks, {len(report.edges)} edges"
     print(f"a report of kind {report.kind}, entry {report.entry:x}: {counts}")
     for problem in wrong[:50]:

@@ -196,6 +196,8 @@ def _short(one: Instruction) -> Optional[str]:
         if one.rs1 == 0:
             return f"li {rd},{one.immediate}" if one.rd else "nop" if not one.immediate else None
         return f"mv {rd},{rs1}" if one.immediate == 0 else None
+    if one.name == "add" and one.rs1 == 0:
+        return f"mv {rd},{NAMES[one.rs2]}"
     if one.name == "jal" and one.rd < 2:
         return f"{'jal' if one.rd else 'j'} {one.target:x}"
     if one.name == "jalr" and one.rd < 2 and one.immediate == 0:
@@ -281,7 +283,7 @@ def _arithmetic(half: int, rd: int, short: int) -> Optional[int]:
         return _i(0x13, 5, rd, rd, short & 63 | kind << 10)
     if kind == 2:
         return _i(0x13, 7, rd, rd, short)
-    rs2, which = 8 + (half >> 2 & 7), half >> 12 & 1, 
+    rs2, which = 8 + (half >> 2 & 7), half >> 12 & 1
     forms = {(0, 0): (0x33, 0, 32), (0, 1): (0x33, 4, 0), (0, 2): (0x33, 6, 0), (0, 3): (0x33, 7, 0), (1, 0): (0x3B, 0, 32), (1, 1): (0x3B, 0, 0)}
     form = forms.get((which, half >> 5 & 3))
     return _r(*form, rd, rd, rs2) if form else None

@@ -11,6 +11,7 @@ from typing import Dict, Iterable, Iterator, List, NamedTuple, Optional, Tuple
 from cfg_report import TABLE_KINDS, Block, Report
 from elf_file import Elf
 from instructions import Instruction, signed
+from unsure import Unsure
 from values import INSTRUCTION, Code, Place, Setter, Values
 
 MOST_ENTRIES = 1024
@@ -165,7 +166,7 @@ class Tables:
 
     def _bound(self, block: Block) -> Optional[int]:
         """How many entries the bound test before a block allows."""
-        for before in (edge.source for edge in self.code.report.edges if edge.to == block.start and edge.kind == "fall"):
+        for before in self.values.before(block.start, "fall"):
             instructions = self.code.of(self.code.report.blocks[before])
             if len(instructions) < 2 or instructions[-1].name not in ("bltu", "bgeu"):
                 continue
@@ -176,12 +177,22 @@ class Tables:
         return None
 
 
-def described(tables: Iterable[Table], elf: Elf, unsure: "Dict[int, Tuple[int, ...]]") -> Iterator[str]:
-    """Lines that tell of tables: where they are, and which entries lead to which address. `unsure` has the targets, by the
-    start of a block, that are not sure."""
-    for table in tables:
-        jump = f"the jump at {table.jump:x} in {elf.place(table.jump)}"
-        yield f"table {table.address:x} of {jump}: {table.block.kind}, {len(table.targets)} entries of {table.size} bytes"
+def described_tables(elf: Elf, report: Report) -> Iterator[str]:
+    """Lines that tell of the jump tables of a report: where they are, and which entries lead to which address."""
+    unsure = Unsure(elf).see_all(report.items())
+    code = Code(elf, report)
+    found = Tables(code).found
+    for block in report.blocks.values():
+        if block.kind not in TABLE_KINDS:
+            continue
+        table, last = found.get(block.start), code.last(block)
+        jump = last.address if last else block.start
+        if table is None:
+            yield f"table of the jump at {jump:x} in {elf.place(jump)}: {block.kind}, not worked out"
+            continue
+        what = f"{block.kind}, {len(table.targets)} entries of {table.size} bytes"
+        yield f"table {table.address:x} of the jump at {jump:x} in {elf.place(jump)}: {what}"
+        outside = {edge.to for edge in report.edges_from.get(block.start, []) if unsure.is_unsure(edge)}
         for target, places in sorted(table.places().items(), key=lambda item: item[1]):
-            what = ", not sure: outside the symbol" if target in unsure.get(table.block.start, ()) else ""
-            yield f"    {target:x} {elf.place(target)}: {numbers(places)}{what}"
+            mark = ", not sure: outside the symbol" if target in outside else ""
+            yield f"    {target:x} {elf.place(target)}: {numbers(places)}{mark}"

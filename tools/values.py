@@ -72,6 +72,10 @@ class Values:
             if edge.kind != "call":
                 self._before.setdefault(edge.to, []).append((edge.source, edge.kind))
 
+    def before(self, start: int, kind: str) -> List[int]:
+        """The blocks from which an edge of a kind leads to a block."""
+        return [source for source, found in self._before.get(start, []) if found == kind]
+
     def setters(self, register: int, place: Place) -> Optional[List[Setter]]:
         """All that may have set a register that is looked at before an instruction, or None where the ways are too many,
         or where one begins nowhere that the graph knows."""
