@@ -74,7 +74,7 @@ class Run:
 @contextlib.contextmanager
 def opened(path: Optional[str], command: List[str], what: str) -> Iterator[Run]:
     """The trace of a file, of standard input for `-`, or of a command of qemu, which is started, and logs what is asked for
-    into a pipe."""
+    into a pipe. What the program prints goes to standard error."""
     if not command:
         if path is None:
             raise ReportError("there is no trace: name a file, or a command of qemu behind --")
@@ -88,7 +88,8 @@ def opened(path: Optional[str], command: List[str], what: str) -> Iterator[Run]:
         pipe = os.path.join(folder, "trace")
         os.mkfifo(pipe)
         end = os.open(pipe, os.O_RDONLY | os.O_NONBLOCK)
-        with subprocess.Popen([command[0], "-d", what, "-D", pipe, *command[1:]]) as process, _begun(end, process) as stream:
+        words = [command[0], "-d", what, "-D", pipe, *command[1:]]
+        with subprocess.Popen(words, stdout=sys.stderr) as process, _begun(end, process) as stream:
             run = Run(stream)
             yield run
             run.status = process.wait()
