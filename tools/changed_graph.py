@@ -12,7 +12,7 @@ from __future__ import annotations
 import bisect
 import re
 import sys
-from typing import Dict, Iterable, Iterator, List, NamedTuple, Optional, Set, Tuple
+from typing import Dict, Iterable, List, NamedTuple, Optional, Set
 
 from cfg_report import EDGE_KINDS, LEAVES_FUNCTION, TABLE_KINDS, Block, Edge, Function, Report, ReportError
 

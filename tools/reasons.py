@@ -2,10 +2,9 @@
 
 from __future__ import annotations
 
-from typing import List, NamedTuple, Optional, Set, Tuple
+from typing import List, NamedTuple, Optional, Tuple
 
-from cfg_report import Block, Report
-from elf_file import Elf
+from cfg_report import Block
 from instructions import ARGUMENTS, NAMES, Instruction, signed
 from tables import Use, use_of_table
 from unsure import Unsure
@@ -126,7 +125,7 @@ class Reasons:
         what = "through a register that is set in several ways"
         return Why(what, f"{NAMES[register]}: " + "; ".join(sorted({reason.what.replace("through ", "") for reason in reasons})))
 
-    def _all_setters(self, register: int, place: Place) -> Optional[List[Tuple[int, Setter]]]:  # type: ignore[override]
+    def _all_setters(self, register: int, place: Place) -> Optional[List[Tuple[int, Setter]]]:
         """What sets a register, copies followed back to what they are of, each with the register that it sets."""
         found: List[Tuple[int, Setter]] = []
         left, seen = [(register, place)], set()

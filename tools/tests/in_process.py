@@ -8,7 +8,6 @@ import sys
 from typing import Dict, List, Tuple
 from unittest import mock
 
-import rows
 import names
 from cfg_report import ReportError
 from test_tools import InFolder, script

@@ -4,7 +4,6 @@ from __future__ import annotations
 
 import unittest
 
-import rows
 import small
 from in_process import InProcess
 

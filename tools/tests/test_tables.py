@@ -5,7 +5,6 @@ from __future__ import annotations
 import json
 import unittest
 
-import rows
 import small
 from in_process import InProcess
 from small import CODE, READ_ONLY, Part

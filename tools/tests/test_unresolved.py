@@ -5,7 +5,6 @@ from __future__ import annotations
 import unittest
 from typing import Sequence
 
-import rows
 import small
 from in_process import InProcess
 from small import CODE, READ_ONLY, WRITABLE, Part
