@@ -113,8 +113,7 @@ class Reasons:
             return self._why_table(use, place, last)
         constant = self.values.constant(register, place)
         if constant is not None:
-            where = "" if self.elf.is_code(constant) else ", where no code is"
-            return Why("to a fixed address that is not set right before the jump", f"{constant:x} in {NAMES[register]}{where}")
+            return self._why_constant(constant)
         setters = self._all_setters(register, place)
         if setters is None:
             return Why("through a register; where it is set was not followed to its end", NAMES[register])
@@ -158,7 +157,14 @@ class Reasons:
             return Why("through the result of a call" if own in (10, 11) else "through a register that a call has left", f"{name}, the call at {at}")
         if one.is_load:
             return self._why_load(one, setter.place)
+        made = self.values.made(setter)
+        if made is not None:
+            return self._why_constant(made)
         return Why("through a register that is calculated", f"{one.text} at {one.address:x}")
+
+    def _why_constant(self, constant: int) -> Why:
+        where = "" if self.elf.is_code(constant) else ", where no code is"
+        return Why("to a fixed address that is not set right before the jump", f"{constant:x}{where}")
 
     def _why_load(self, load: Instruction, place: Place) -> Why:
         address = self.values.constant(load.rs1, place)
