@@ -35,7 +35,7 @@ class Parts(InProcess):
         said = "\n".join(self.lines("draw", path, "f", "--around", "10028"))
         self.assertIn('label="f, 7 of 30 blocks, may return"', said)
         self.assertIn('b10038 [label="10038 ...", shape=plaintext', said)
-        self.assertIn("no block of f has the address 20000", self.run_main("draw", path, "f", "--around", "20000")[2])
+        self.assertIn("no block of the function has the address 20000", self.run_main("draw", path, "f", "--around", "20000")[2])
 
     def test_no_instructions(self) -> None:
         elf = self.elf(6)
