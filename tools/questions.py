@@ -150,7 +150,7 @@ class Questions:
             if block.kind == "stop":
                 found.append(f"stops at {start:x}")
             elif block.kind in ("call", "icall") and all(edge.kind == "call" for edge in edges):
-                callee = f"{self.name(edges[0].to)}, which does not return" if edges else "what is not known, with no code behind"
+                callee = f"{self.name(edges[0].to)}, which does not return" if edges else "what is not known"
                 found.append(f"calls {callee}, at {start:x}")
             for edge in edges:
                 if edge.kind != "call" and edge.to in self.functions and edge.to != function.entry:

@@ -62,7 +62,7 @@ INSTRUCTION = "instruction"
 
 
 class Values:
-    """What registers hold, by the graph of a report and the instructions of its file. Edges that are not sure are left out."""
+    """What registers hold, by the graph of a report and the instructions of its file, along the edges that are sure."""
 
     def __init__(self, code: Code) -> None:
         self.code, self.report = code, code.report
