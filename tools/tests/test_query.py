@@ -106,6 +106,12 @@ class Edges(InFolder):
         self.assertEqual(self.run_main("diff_reports", path, path, "--edges", known, known)[0], 0)
         self.assertEqual(self.run_main("diff_reports", path, path, "--edges", known, self.file("none", b""))[0], 1)
 
+    def test_open_ends(self) -> None:
+        report = self.file("report", small.report("10000 may-return f: 10000 10004", "10000 10004 icall, 10004 10008 return", "10000 10004 after"))
+        elf = self.file("elf", small.elf([small.Part(".text", small.CODE, 0x10000, small.code("000580E7 00008067"))], [("f", 0x10000, 8)]))
+        said = self.said("unresolved", "--last", "0", elf, report, "--edges", self.file("edges", b"10000 10000\n"))
+        self.assertEqual(said[0], "10000 icall in f: through an argument of the function (a1); known otherwise: 1 ways on")
+
     def test_into_a_block(self) -> None:
         path = self.file("report", small.report("10000 may-return f: 10000, 10010 may-return g: 10010", "10000 10004 unknown, 10010 10020 return"))
         items = [json.loads(line) for line in self.said("to_json", path, "--edges", self.file("edges", b"10000 10018\n10000 10014\n"))]
