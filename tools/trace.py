@@ -25,10 +25,12 @@ _PLAIN = re.compile(rb"(?:0x)?([0-9a-fA-F]+)\s*")
 
 
 class Step(NamedTuple):
-    """An address that was executed. `length` is the instruction's in bytes, where the trace tells it."""
+    """An address that was executed. `length` is the instruction's in bytes, where the trace tells it. With `is_part` it is
+    where a part begins that runs straight on, of which the trace has no more."""
 
     address: int
     length: int
+    is_part: bool = False
 
 
 class Trace:
@@ -52,15 +54,18 @@ class Trace:
             if moved is None:
                 moved = step.address - self._entry
                 moved = moved if moved % 4096 == 0 else 0
-            yield Step(step.address - moved, step.length)
+            yield step._replace(address=step.address - moved)
 
 
 def _step(line: bytes) -> Optional[Step]:
     found = _TRANSLATED.match(line)
     if found:
         return Step(int(found[1], 16), len(found[2].replace(b" ", b"")) // 2)
-    found = _RUN.match(line) or _PLAIN.fullmatch(line)
-    return Step(int(found[1], 16), 0) if found else None
+    found = _PLAIN.fullmatch(line)
+    if found:
+        return Step(int(found[1], 16), 0)
+    found = _RUN.match(line)
+    return Step(int(found[1], 16), 0, True) if found else None
 
 
 class Run:

@@ -2,14 +2,18 @@
 
 from __future__ import annotations
 
+import contextlib
+import io
 import json
 import os
 import random
 import sys
 import unittest
 from typing import Dict, List, Set
+from unittest import mock
 
 import small
+import progress as progress_module
 from body import Body
 from test_tools import InFolder
 
@@ -158,6 +162,11 @@ class Coverage(InFolder):
         trace = self.file("trace", b"10000\n10004\n10008\n10000\n")
         self.assertEqual(self.said("coverage", "--trace", trace, report)[:2], self.SAID[:2])
 
+    def test_parts_that_run_straight_on(self) -> None:
+        report = self.file("report", small.report(*self.REPORT))
+        log = "".join(f"Trace 0: 0x7f00 [00000000/{at:016x}/00000000/00000000] f\n" for at in (0x10000, 0x10008, 0x10000))
+        self.assertEqual(self.said("coverage", "--trace", self.file("log", log.encode()), report)[:2], self.SAID[:2])
+
     def test_moved(self) -> None:
         report = self.file("report", small.report(*self.REPORT))
         log = "".join(f"0x{at + 0x4000000000:016x}:  00000013          nop\n" for at in (0x10000, 0x10004, 0x10008, 0x20000))
@@ -173,6 +182,16 @@ class Coverage(InFolder):
         self.assertEqual(done.stdout.splitlines(), ["the program ended with status 3", *self.SAID])
         done = self.run_process("coverage", report, "--", str(self.folder / "nothing"))
         self.assertEqual(done.returncode, 2)
+
+
+class Progress(unittest.TestCase):
+    def test_said(self) -> None:
+        error = io.StringIO()
+        with mock.patch.object(sys, "argv", ["tool"]), contextlib.redirect_stderr(error), mock.patch("time.monotonic", side_effect=[0, 1, 5, 5, 6, 14, 14]):
+            progress = progress_module.Progress(lambda: "half")
+            for _ in range(4):
+                progress.step()
+        self.assertEqual(error.getvalue(), "tool: half\ntool: half\n")
 
 
 class Names(InFolder):
