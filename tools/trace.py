@@ -11,6 +11,7 @@ import contextlib
 import os
 import re
 import select
+import signal
 import subprocess
 import sys
 import tempfile
@@ -93,11 +94,21 @@ def opened(path: Optional[str], command: List[str], what: str) -> Iterator[Run]:
         pipe = os.path.join(folder, "trace")
         os.mkfifo(pipe)
         end = os.open(pipe, os.O_RDONLY | os.O_NONBLOCK)
-        words = [command[0], "-d", what, "-D", pipe, *command[1:]]
-        with subprocess.Popen(words, stdout=sys.stderr) as process, _begun(end, process) as stream:
-            run = Run(stream)
-            yield run
-            run.status = process.wait()
+        # Ctrl-C ends the program alone, which may be one that never ends, and then what it has run is told.
+        before = signal.signal(signal.SIGINT, lambda *_: None)
+        try:
+            with subprocess.Popen(_traced(command, what, pipe), stdout=sys.stderr) as process, _begun(end, process) as stream:
+                run = Run(stream)
+                yield run
+                run.status = process.wait()
+        finally:
+            signal.signal(signal.SIGINT, before)
+
+
+def _traced(command: List[str], what: str, pipe: str) -> List[str]:
+    """The command with the words for a log, behind qemu, in front of which others may stand, as `timeout 5`."""
+    after = next((place for place, word in enumerate(command, 1) if "qemu" in os.path.basename(word)), 1)
+    return [*command[:after], "-d", what, "-D", pipe, *command[after:]]
 
 
 def _begun(end: int, process: "subprocess.Popen[bytes]") -> BinaryIO:
