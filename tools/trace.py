@@ -15,10 +15,12 @@ import signal
 import subprocess
 import sys
 import tempfile
-from typing import BinaryIO, Iterator, List, NamedTuple, Optional
+from typing import BinaryIO, Dict, Iterator, List, NamedTuple, Optional
 
 from cfg_report import ReportError
 from progress import Progress
+
+MOST_KNOWN = 1 << 18
 
 _TRANSLATED = re.compile(rb"0x([0-9a-f]+):\s+((?:[0-9a-f]{4} ?)+)\s")
 _RUN = re.compile(rb"Trace .*?\[[0-9a-f]+/([0-9a-f]+)/")
@@ -40,22 +42,32 @@ class Trace:
 
     def __init__(self, stream: BinaryIO, entry: int) -> None:
         self._stream, self._entry = stream, entry
+        self._moved: Optional[int] = None
         self.lines = 0
 
     def steps(self) -> Iterator[Step]:
         progress = Progress(lambda: f"{self.lines} lines of the trace are read")
-        moved: Optional[int] = None
-        for line in self._stream:
-            self.lines += 1
+        # A loop writes the same lines again and again.
+        known: Dict[bytes, Optional[Step]] = {}
+        for self.lines, line in enumerate(self._stream, 1):
             if self.lines % 4096 == 0:
                 progress.step()
-            step = _step(line)
-            if step is None:
-                continue
-            if moved is None:
-                moved = step.address - self._entry
-                moved = moved if moved % 4096 == 0 else 0
-            yield step._replace(address=step.address - moved)
+                if len(known) > MOST_KNOWN:
+                    known.clear()
+            if line not in known:
+                known[line] = self._placed(_step(line))
+            step = known[line]
+            if step is not None:
+                yield step
+
+    def _placed(self, step: Optional[Step]) -> Optional[Step]:
+        """The step where the file has it."""
+        if step is None:
+            return None
+        if self._moved is None:
+            moved = step.address - self._entry
+            self._moved = moved if moved % 4096 == 0 else 0
+        return step._replace(address=step.address - self._moved)
 
 
 def _step(line: bytes) -> Optional[Step]:
