@@ -168,7 +168,7 @@ class Reasons:
 
     def _why_constant(self, constant: int) -> Why:
         where = "" if self.elf.is_code(constant) else ", where no code is"
-        return Why("to a fixed address that is not set right before the jump", f"{constant:x}{where}")
+        return Why("to a fixed address, but not right behind its AUIPC or LUI", f"{constant:x}{where}")
 
     def _why_load(self, load: Instruction, place: Place) -> Why:
         address = self.values.constant(load.rs1, place)
