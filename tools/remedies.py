@@ -6,6 +6,7 @@ import bisect
 from typing import Dict, Iterable, List, Optional, Tuple
 
 from cfg_report import Block, Report, ReportError
+from elf_file import joined, size_of
 from elf_memory import Memory
 from frames import frames, landing_pads
 from pointers import array_entries, pointers_in_data
@@ -41,13 +42,12 @@ def apart(addresses: Iterable[int], reached: Ranges) -> List[int]:
     return [address for address in dict.fromkeys(addresses) if not is_reached(address)]
 
 
-def what_to_try(path: str, reached: Ranges) -> str:
-    """One line: which sources name addresses of code that is not reached, and how many each."""
+def what_to_try(path: str, reached: Ranges, has_open_ends: bool) -> str:
+    """Which sources name addresses of code that is not reached, and how many each, as the end of a line."""
     found = {source: len(apart(addresses, reached)) for source, addresses in starts(Memory(path)).items()}
-    named = [f"{source} ({count:,} addresses that are not reached)" for source, count in found.items() if count]
-    if not named:
-        return "to reach more, try tools/add_entries with --switches, or with --trace and a run of the program"
-    return f"to reach more, try tools/add_entries with {', '.join(named)}, --switches"
+    named = [f"{source} ({count:,} not reached)" for source, count in found.items() if count]
+    named += ["--switches", "--trace FILE"] if has_open_ends else []
+    return f"; to reach more: tools/add_entries {' '.join(named)}" if named else ""
 
 
 class Remedies:
@@ -56,8 +56,11 @@ class Remedies:
     def __init__(self, path: str, report: Report) -> None:
         elf = Memory(path)
         self._reached = Reached(elf, report)
-        self._switches: Dict[int, Switch] = {switch.block.start: switch for switch in Switches(self._reached, {}).found()}
-        self._pointers = any(self._reached.begins(address) and not self._reached.state(address) for address in pointers_in_data(elf))
+        self._values = Switches(self._reached, {})
+        self._switches: Dict[int, Switch] = {switch.block.start: switch for switch in self._values.found()}
+        reached = joined([(block.start, block.end) for block in report.blocks.values()])
+        self._is_all = size_of(reached) >= sum(section.size for section in elf.code)
+        self._pointers = any(map(self._reached.begins, apart(pointers_in_data(elf), reached)))
 
     def of(self, block: Block) -> Optional[str]:
         """The source of entries that brings what a block leads to into the report, if one does."""
@@ -65,6 +68,6 @@ class Remedies:
         if switch is not None:
             count = len({case for case in switch.cases if not self._reached.state(case)})
             return f"--switches, {count} cases that are not reached" if count else None
-        if block.kind not in ("unknown", "icall"):
+        if self._is_all or block.kind not in ("unknown", "icall") or self._values.is_fixed(block):
             return None
         return "--pointers, --trace" if self._pointers else "--trace"

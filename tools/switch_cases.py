@@ -89,6 +89,12 @@ class Switches:
             if cases:
                 yield Switch(block, jump, table, width, bound, tuple(cases))
 
+    def is_fixed(self, block: Block) -> bool:
+        """Whether a block ends at a known address, by an instruction that names it or through a register."""
+        listed = self._instructions(block.start)
+        insn = listed[-1][1]
+        return insn.name != "jalr" or not self.value(block.start, len(listed) - 1, insn.rs1).terms
+
     # ---- what a register holds
 
     def _instructions(self, start: int) -> List[Tuple[int, Insn]]:
