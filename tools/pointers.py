@@ -4,9 +4,8 @@ from __future__ import annotations
 
 import array
 import sys
-from typing import Dict, Iterator, List, Set, Tuple
+from typing import Dict, Iterable, Iterator, List, Set, Tuple
 
-from cfg_report import Block
 from decoding import CALLER_SAVED, LOAD_SIZES, STORES, Insn
 from elf_memory import ALLOC, FINI_ARRAY, INIT_ARRAY, NOBITS, PREINIT_ARRAY, PROGBITS, Memory, Section
 from reached import APART, Reached
@@ -87,11 +86,16 @@ class MadeAddresses:
         for block in reached.report.blocks.values():
             if (block.start, block.end) not in self._done:
                 self._done.add((block.start, block.end))
-                self._read(reached, block)
+                self.read_listed(reached.instructions(block))
 
-    def _read(self, reached: Reached, block: Block) -> None:
+    def read_listed(self, listed: Iterable[Tuple[int, Insn]]) -> None:
+        """Reads instructions in the order of their addresses."""
         known: Dict[int, int] = {}
-        for at, insn in reached.instructions(block):
+        behind = -1
+        for at, insn in listed:
+            if at != behind:
+                known.clear()
+            behind = at + insn.length
             name = insn.name
             if name in LOAD_SIZES or name in STORES:
                 if insn.rs1 in known:

@@ -9,7 +9,7 @@ from decoding import UNKNOWN, Insn, decode
 from elf_memory import Memory
 
 APART, START, INSIDE = 0, 1, 2
-LONGEST_TRIAL = 400
+LONGEST_TRIAL = 20_000
 # How far back code is read to see whether an address begins a function, in half words.
 FARTHEST = 2000
 
@@ -81,31 +81,31 @@ class Reached:
         return at != address and self.elf.half(at) in (None, 0)
 
     def trial(self, address: int) -> Optional[List[Tuple[int, Insn]]]:
-        """The instructions that control may come to from an address and that are not reached yet, some hundreds at the
+        """The instructions that control may come to from an address and that are not reached yet, some thousands at the
         most; or None where they do not read as code: there is one that is not known, or they leave the code, or they
-        get into the middle of one that is reached. What stands behind a call may be no code."""
+        get into the middle of one that is reached. What is called, and what stands behind a call, may be no code."""
         found: Dict[int, Insn] = {}
         left: List[Tuple[int, bool]] = [(address, False)]
         while left and len(found) < LONGEST_TRIAL:
-            at, is_behind_call = left.pop()
+            at, is_apart = left.pop()
             if at in found or self.state(at) == START:
                 continue
             insn = self.insn(at)
             if insn.name == UNKNOWN or not self.elf.is_code(at) or self.overlaps(at) or at - 2 in found and found[at - 2].length == 4:
-                if is_behind_call:
+                if is_apart:
                     continue
                 return None
             found[at] = insn
-            left += self._onward(at, insn, is_behind_call)
+            left += self._onward(at, insn, is_apart)
         return sorted(found.items())
 
-    def _onward(self, at: int, insn: Insn, is_behind_call: bool) -> Iterator[Tuple[int, bool]]:
-        """Where control goes from an instruction, and whether that is known only if a call returns."""
+    def _onward(self, at: int, insn: Insn, is_apart: bool) -> Iterator[Tuple[int, bool]]:
+        """Where control goes from an instruction, and whether it comes there only by a call or behind one."""
         is_call = insn.name in ("jal", "jalr") and insn.rd != 0
         if insn.name.startswith("b") or insn.name == "jal":
-            yield at + insn.imm, is_behind_call
+            yield at + insn.imm, is_apart or is_call
         if insn.goes_on:
-            yield at + insn.length, is_behind_call or is_call
+            yield at + insn.length, is_apart or is_call
 
     def begins(self, address: int) -> bool:
         """Whether a function may begin at an address: what stands before it, read from the last known instruction on, meets
@@ -162,6 +162,19 @@ class Reached:
                 last = at, insn
             at += insn.length
         return last if at == address else None
+
+    def gaps(self) -> Iterator[Tuple[int, int]]:
+        """The ranges of code in which nothing is reached. They may shrink while this goes on."""
+        for section in self.elf.code:
+            marks, place, end = self._marks[section.index], 0, section.size // 2
+            while place < end:
+                start = marks.find(APART, place, end)
+                if start < 0:
+                    break
+                place = start
+                while place < end and marks[place] == APART:
+                    place += 1
+                yield section.address + 2 * start, section.address + 2 * place
 
     def keep(self, found: List[Tuple[int, Insn]]) -> None:
         """Marks instructions as reached."""

@@ -260,7 +260,7 @@ class Data(WithFile):
 
     def test_where_functions_do_not_begin(self) -> None:
         # In the middle of straight code that is not reached; and where only a branch leads.
-        halves = RETURN + NOP * 3 + RETURN + branch(0, A0, 0, 6) + NOP + RETURN
+        halves = RETURN + [0x0505] * 3 + RETURN + branch(0, A0, 0, 6) + NOP + RETURN
         path = self.elf_file([code(halves), *symbols(2, ["main"], [0x1000A]), Part(".rodata", address=DATA_AT, data=words(0x10006, 0, 0x10010))])
         self.assertEqual(self.added(path, "--pointers"), {})
         self.assertIn("no code by the look of it", self.said_last[0])
