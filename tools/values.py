@@ -6,7 +6,7 @@ from typing import Callable, Dict, Iterator, List, NamedTuple, Optional, Set, Tu
 
 from cfg_report import Block, Edge, Report
 from elf_file import Elf
-from instructions import KEPT_BY_CALLS, Instruction, decode, signed
+from instructions import ARGUMENTS, KEPT_BY_CALLS, Instruction, decode, signed
 from unsure import Unsure
 
 # How many blocks are looked at for one register, how many copies are followed, and how many may set one constant.
@@ -120,9 +120,12 @@ class Values:
     def _in_block(self, register: int, at: Place) -> Optional[Setter]:
         block = self.report.blocks[at.block]
         instructions = self.code.of(block)
-        is_after = at.number == len(instructions) and block.kind in ("call", "icall")
-        if is_after and register not in KEPT_BY_CALLS:
-            return Setter(CALL, Place(at.block, at.number), instructions[-1] if instructions else None)
+        if at.number == len(instructions) and block.kind in ("call", "icall"):
+            last = instructions[-1] if instructions else None
+            # Behind x5 returns a routine that saves registers for a function, and keeps its arguments.
+            is_kept = register in KEPT_BY_CALLS or last is not None and last.rd == 5 and register in ARGUMENTS
+            if not is_kept:
+                return Setter(CALL, Place(at.block, at.number), last)
         for number in range(at.number - 1, -1, -1):
             if instructions[number].written == register:
                 return Setter(INSTRUCTION, Place(at.block, number), instructions[number])

@@ -72,6 +72,13 @@ class Reasons(Files):
         said = self.unresolved(small.code("00500793 00050663 00053783 000780E7", RET), report)
         self.assertEqual(said[0], "1000c icall in f+0xc: through a pointer in memory (ld a5,0(a0) at 10008)")
 
+    def test_behind_calls(self) -> None:
+        # A call of g, and then jr a1; by x1 it may have set a1, by x5 it is a routine that saves registers.
+        report = small.report("10000 may-return f: 10000 10004, 10008 may-return g: 10008", "10000 10004 call, 10004 10008 unknown, 10008 1000c return",
+                              "10000 10004 after, 10000 10008 call")
+        for word, why in (("008000EF", "through the result of a call (a1, the call at 10000)"), ("008002EF", "through an argument of the function (a1)")):
+            self.assertEqual(self.unresolved(small.code(word, "00058067 00008067"), report)[0], f"10004 unknown in f+0x4: {why}")
+
     def test_several_ways(self) -> None:
         # mv a5,a1 ; beqz a0,+8 ; ld a5,0(a0) ; jr a5
         report = small.report("10000 may-return f: 10000 10008 1000c", "10000 10008 branch, 10008 1000c fall, 1000c 10010 unknown",
