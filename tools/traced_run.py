@@ -109,7 +109,8 @@ def opened(path: Optional[str], command: List[str], what: str) -> Iterator[Run]:
         # Ctrl-C ends the program alone, which may be one that never ends, and then what it has run is told.
         before = signal.signal(signal.SIGINT, lambda *_: None)
         try:
-            with subprocess.Popen(_traced(command, what, pipe), stdout=sys.stderr) as process, _begun(end, process) as stream:
+            started = subprocess.Popen(_traced(command, what, pipe), stdout=sys.stderr)
+            with started as process, _begun(end, process) as stream:
                 run = Run(stream)
                 yield run
                 run.status = process.wait()
