@@ -12,7 +12,7 @@ from __future__ import annotations
 import bisect
 import re
 import sys
-from typing import Dict, Iterable, Iterator, List, NamedTuple, Optional, Set, Tuple
+from typing import Dict, Iterable, List, NamedTuple, Optional, Set
 
 from cfg_report import EDGE_KINDS, LEAVES_FUNCTION, TABLE_KINDS, Block, Edge, Function, Report, ReportError
 
@@ -79,7 +79,8 @@ def with_edges(report: Report, path: str) -> Report:
         added.add(Edge(block.start, one.to, one.kind or _kind(block, one.to, entries)))
     if missing:
         some = ", ".join(f"{place:x}" for place in sorted(missing)[:4]) + (", .." if len(missing) > 4 else "")
-        print(f"{path}: {len(missing)} places are in no block, and edges to or from them are left out: {some}", file=sys.stderr)
+        what = f"{len(missing)} places are in no block, and edges to or from them are left out"
+        print(f"{path}: {what}: {some}", file=sys.stderr)
     called = {edge.to for edge in added if edge.kind == "call"}
     return rebuilt(report, added | set(report.edges), called)
 

@@ -74,7 +74,8 @@ def _table() -> Dict[int, List[Row]]:
         rows.append(_row(name, int(opcode, 16), *fields, operands))
     for name, number in _ATOMIC.items():
         for width, funct3 in (("w", "2"), ("d", "3")):
-            row = _row(f"{name}.{width}", 0x2F, funct3, "-", "0" if name == "lr" else "-", "d,(s)" if name == "lr" else "d,t,(s)")
+            rs2, operands = ("0", "d,(s)") if name == "lr" else ("-", "d,t,(s)")
+            row = _row(f"{name}.{width}", 0x2F, funct3, "-", rs2, operands)
             rows.append(row._replace(mask=row.mask | 0xF8000000, match=row.match | number << 27))
     for place, precision in enumerate("sd"):
         for item in _FLOAT_ROWS.strip().replace("\n", "|").split("|"):
@@ -135,9 +136,9 @@ class Instruction(NamedTuple):
         if opcode in (0x37, 0x17):
             return signed(word & 0xFFFFF000, 32)
         if opcode == 0x6F:
-            return signed(word >> 31 << 20 | (word >> 12 & 255) << 12 | (word >> 20 & 1) << 11 | (word >> 21 & 1023) << 1, 21)
+            return signed(_bits(word, (21, 10, 1), (20, 1, 11), (12, 8, 12), (31, 1, 20)), 21)
         if opcode == 0x63:
-            return signed(word >> 31 << 12 | (word >> 7 & 1) << 11 | (word >> 25 & 63) << 5 | (word >> 8 & 15) << 1, 13)
+            return signed(_bits(word, (8, 4, 1), (25, 6, 5), (7, 1, 11), (31, 1, 12)), 13)
         if opcode in (0x23, 0x27):
             return signed((word >> 25) << 5 | word >> 7 & 31, 12)
         return word >> 20 & 63 if "h" in self.row.operands else signed(word >> 20, 12)
@@ -211,7 +212,7 @@ def _short(one: Instruction) -> Optional[str]:
 
 
 def _bits(half: int, *places: Tuple[int, int, int]) -> int:
-    """The number that parts of a halfword make up: each its lowest bit, how many bits, and where they go."""
+    """The number that parts of another make up: each its lowest bit, how many bits, and where they go."""
     return sum((half >> low & (1 << count) - 1) << to for low, count, to in places)
 
 
@@ -228,11 +229,11 @@ def _r(opcode: int, funct3: int, funct7: int, rd: int, rs1: int, rs2: int) -> in
 
 
 def _from_jump(rd: int, to: int) -> int:
-    return (to >> 20 & 1) << 31 | (to >> 1 & 1023) << 21 | (to >> 11 & 1) << 20 | (to >> 12 & 255) << 12 | rd << 7 | 0x6F
+    return _bits(to, (1, 10, 21), (11, 1, 20), (12, 8, 12), (20, 1, 31)) | rd << 7 | 0x6F
 
 
 def _from_branch(funct3: int, rs1: int, to: int) -> int:
-    return (to >> 12 & 1) << 31 | (to >> 5 & 63) << 25 | rs1 << 15 | funct3 << 12 | (to >> 1 & 15) << 8 | (to >> 11 & 1) << 7 | 0x63
+    return _bits(to, (1, 4, 8), (5, 6, 25), (11, 1, 7), (12, 1, 31)) | rs1 << 15 | funct3 << 12 | 0x63
 
 
 def expanded(half: int) -> Optional[int]:
@@ -283,10 +284,10 @@ def _arithmetic(half: int, rd: int, short: int) -> Optional[int]:
         return _i(0x13, 5, rd, rd, short & 63 | kind << 10)
     if kind == 2:
         return _i(0x13, 7, rd, rd, short)
-    rs2, which = 8 + (half >> 2 & 7), half >> 12 & 1
-    forms = {(0, 0): (0x33, 0, 32), (0, 1): (0x33, 4, 0), (0, 2): (0x33, 6, 0), (0, 3): (0x33, 7, 0), (1, 0): (0x3B, 0, 32), (1, 1): (0x3B, 0, 0)}
-    form = forms.get((which, half >> 5 & 3))
-    return _r(*form, rd, rd, rs2) if form else None
+    # By bits 12, 6 and 5: sub, xor, or, and, subw, addw.
+    forms = ((0x33, 0, 32), (0x33, 4, 0), (0x33, 6, 0), (0x33, 7, 0), (0x3B, 0, 32), (0x3B, 0, 0))
+    which = _bits(half, (5, 2, 0), (12, 1, 2))
+    return _r(*forms[which], rd, rd, 8 + (half >> 2 & 7)) if which < len(forms) else None
 
 
 def _quadrant_2(half: int, kind: int) -> Optional[int]:

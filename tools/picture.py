@@ -8,6 +8,7 @@ import shutil
 import subprocess
 import sys
 import tempfile
+import textwrap
 import time
 from typing import Iterable, Optional, Tuple
 
@@ -26,6 +27,12 @@ def quoted(text: str) -> str:
 def left_lines(lines: Iterable[str]) -> str:
     """Lines of a label, each of them at the left."""
     return '"' + "".join(quoted(line)[1:-1] + "\\l" for line in lines) + '"'
+
+
+def wrapped(text: str, width: int) -> str:
+    """A text as a Graphviz string, in lines of so many characters where it has spaces."""
+    lines = textwrap.wrap(text, width, break_long_words=False, break_on_hyphens=False) or [""]
+    return '"' + "\\n".join(quoted(line)[1:-1] for line in lines) + '"'
 
 
 def graph(name: str, settings: Iterable[str], lines: Iterable[str]) -> str:

@@ -27,7 +27,8 @@ class FunctionParts:
         self.edges: List[Edge] = []
         self.unsure = Unsure(elf)
         self._times: Counts[str] = Counter()
-        self._address = int(wanted, 16) if re.fullmatch(r"(0x)?[0-9a-fA-F]{1,16}", wanted) else None
+        # -1 where the function is not wanted by an address: no block begins at or before it.
+        self._address = int(wanted, 16) if re.fullmatch(r"(0x)?[0-9a-fA-F]{1,16}", wanted) else -1
         self._near, self._holders = -1, []  # type: ignore[var-annotated]
         self._is_inside = False
         self._reached: List[Tuple[int, int]] = []
@@ -36,9 +37,13 @@ class FunctionParts:
         for item in items:
             self.unsure.see(item)
             self._add(item)
-        if self._is_inside and not any(block.start <= self._address < block.end for block in self.blocks.values()):  # type: ignore[operator]
+        if self._is_inside and self.block_at(self._address) is None:
             raise ReportError(f"no function has the name or the address {self.wanted}, and no block has that address")
         return self
+
+    def block_at(self, address: int) -> Optional[int]:
+        """The start of the block that has an address, the last of several."""
+        return max((start for start, block in self.blocks.items() if start <= address < block.end), default=None)
 
     def _add(self, item: cfg_report.Item) -> None:
         if isinstance(item, Function):
@@ -56,7 +61,7 @@ class FunctionParts:
 
     def _add_function(self, function: Function) -> None:
         """Keeps a function; its blocks only where it may be the one that is wanted."""
-        before = max((start for start in function.blocks if self._address is not None and start <= self._address), default=-1)
+        before = max((start for start in function.blocks if start <= self._address), default=-1)
         if before > self._near:
             self._near, self._holders = before, []
         if before == self._near and before >= 0:
@@ -81,7 +86,6 @@ class FunctionParts:
             if not self._holders:
                 raise
             # The function that begins nearest before the address, where several have the block.
-            assert self._address is not None
             self.function = max(self._holders, key=lambda one: (one.entry <= self._address, one.entry))
             self._is_inside = True
         self.body = set(self.function.blocks)
@@ -101,9 +105,9 @@ class FunctionParts:
 
     def keep_around(self, address: int, depth: int) -> None:
         """Keeps the blocks that are so many edges away at most, in either direction, from the block at an address."""
-        start = max((one for one, block in self.blocks.items() if one <= address < block.end), default=None)
+        start = self.block_at(address)
         if start is None:
-            raise ReportError(f"no block of {self.names[self.function.entry]} has the address {address:x}")  # type: ignore[union-attr]
+            raise ReportError(f"no block of the function has the address {address:x}")
         beside: Dict[int, Set[int]] = {}
         for edge in self.edges:
             if edge.kind != "call" and edge.to in self.body:

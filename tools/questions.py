@@ -9,7 +9,7 @@ from body import Body
 from cfg_report import Block, Edge, Function, Report, ReportError, address, function_name
 from changed_graph import Places
 from elf_file import Elf
-from trace import Trace
+from traced_run import Trace
 
 OPEN_KINDS = ("icall", "unknown", "table-open", "table-cut")
 
@@ -61,22 +61,25 @@ class Questions:
     def callees(self, wanted: str) -> Iterator[Answer]:
         function = self.function(wanted)
         for edge in self.ways_out(function):
-            text = f"{self.name(edge.to)} at {edge.to:x}, {edge.kind} from the block at {edge.source:x}"
-            yield Answer(text, {"function": self.name(edge.to), "entry": address(edge.to), "kind": edge.kind, "block": address(edge.source)})
+            yield self._way(edge.to, edge)
         for start in function.blocks:
             kind = self.report.blocks[start].kind
             if kind in ("icall", "unknown"):
-                known = " (besides those above)" if self.report.edges_from.get(start) and kind == "unknown" else ""
-                yield Answer(f"not known{known}: {kind} from the block at {start:x}", {"function": None, "kind": kind, "block": address(start)})
+                fields = {"function": None, "kind": kind, "block": address(start)}
+                yield Answer(f"not known: {kind} from the block at {start:x}", fields)
 
     def callers(self, wanted: str) -> Iterator[Answer]:
         entry = self.function(wanted).entry
         for function in self.report.functions:
             for edge in self.ways_out(function):
                 if edge.to == entry:
-                    name = self.name(function.entry)
-                    yield Answer(f"{name} at {function.entry:x}, {edge.kind} from the block at {edge.source:x}",
-                                 {"function": name, "entry": address(function.entry), "kind": edge.kind, "block": address(edge.source)})
+                    yield self._way(function.entry, edge)
+
+    def _way(self, entry: int, edge: Edge) -> Answer:
+        """A function that an edge leads to, or comes from."""
+        name = self.name(entry)
+        fields = {"function": name, "entry": address(entry), "kind": edge.kind, "block": address(edge.source)}
+        return Answer(f"{name} at {entry:x}, {edge.kind} from the block at {edge.source:x}", fields)
 
     def where(self, at: int) -> Iterator[Answer]:
         block = self.places.of(at)
@@ -86,9 +89,10 @@ class Questions:
             return
         for function in self.homes[block.start]:
             name = self.name(function.entry)
-            yield Answer(f"{at:x} is in {name} at {function.entry:x}, in the block from {block.start:x} to {block.end:x}, which ends with {block.kind}",
-                         {"address": address(at), "function": name, "entry": address(function.entry), "block": address(block.start),
-                          "end": address(block.end), "kind": block.kind})
+            where = f"in the block from {block.start:x} to {block.end:x}, which ends with {block.kind}"
+            yield Answer(f"{at:x} is in {name} at {function.entry:x}, {where}",
+                         {"address": address(at), "function": name, "entry": address(function.entry),
+                          "block": address(block.start), "end": address(block.end), "kind": block.kind})
 
     def reach(self, wanted: str, target: Optional[str], backwards: bool) -> Iterator[Answer]:
         """The functions that one reaches, or that reach it; or the shortest way from one to another."""
@@ -119,24 +123,24 @@ class Questions:
             chain.insert(0, at)
             at = before[at]
         names = [self.name(entry) for entry in chain]
-        text = " -> ".join(names) if chain else f"no way from {self.name(start)} to {self.name(end)}" + self._open(before.keys())
+        none = f"no way from {self.name(start)} to {self.name(end)}"
+        text = " -> ".join(names) if chain else none + self._open(before.keys())
         yield Answer(text, {"reaches": bool(chain), "way": names, "entries": [address(entry) for entry in chain]})
 
     def _open(self, entries: Any) -> str:
         """What may hide a way: how many functions that are reached go on through a register."""
-        count = sum(any(self.report.blocks[start].kind in ("icall", "unknown") for start in self.functions[entry].blocks) for entry in entries)
+        is_open = {start for start, block in self.report.blocks.items() if block.kind in ("icall", "unknown")}
+        count = sum(not is_open.isdisjoint(self.functions[entry].blocks) for entry in entries)
         return f" is known; {count} functions on the way call or jump through a register" if count else ""
 
     def no_return(self, wanted: Optional[str]) -> Iterator[Answer]:
         functions = [self.function(wanted)] if wanted else [one for one in self.report.functions if not one.may_return]
         for function in functions:
             name = self.name(function.entry)
-            if function.may_return:
-                yield Answer(f"{name} at {function.entry:x} may return", {"function": name, "entry": address(function.entry), "may_return": True})
-                continue
-            why = self._why_not(function)
-            yield Answer(f"{name} at {function.entry:x}: {'; '.join(why)}",
-                         {"function": name, "entry": address(function.entry), "may_return": False, "why": why})
+            fields = {"function": name, "entry": address(function.entry), "may_return": function.may_return}
+            why = [] if function.may_return else self._why_not(function)
+            text = f": {'; '.join(why)}" if why else " may return"
+            yield Answer(f"{name} at {function.entry:x}{text}", {**fields, **({"why": why} if why else {})})
 
     def _why_not(self, function: Function) -> List[str]:
         """How the ways of a function end that does not return."""
@@ -146,16 +150,15 @@ class Questions:
             if block.kind == "stop":
                 found.append(f"stops at {start:x}")
             elif block.kind in ("call", "icall") and all(edge.kind == "call" for edge in edges):
-                callee = f"{self.name(edges[0].to)}, which does not return" if edges else "through a register, and no code is behind"
+                callee = f"{self.name(edges[0].to)}, which does not return" if edges else "what is not known"
                 found.append(f"calls {callee}, at {start:x}")
             for edge in edges:
                 if edge.kind != "call" and edge.to in self.functions and edge.to != function.entry:
                     found.append(f"goes on to {self.name(edge.to)}, which does not return, at {start:x}")
         body = Body(self.report, function)
         for loop in body.loops():
-            out = {to for start in loop.blocks for to in body.onward[start]} - loop.blocks
-            leaves = any(edge.kind != "call" and edge.to not in loop.blocks for start in loop.blocks for edge in self.report.edges_from.get(start, []))
-            if loop.depth == 0 and not out and not leaves:
+            edges = [edge for start in loop.blocks for edge in self.report.edges_from.get(start, [])]
+            if loop.depth == 0 and all(edge.kind == "call" or edge.to in loop.blocks for edge in edges):
                 found.append(f"loops for ever at {min(loop.entries):x}")
         return found[:6] + ([f"and {len(found) - 6} more"] if len(found) > 6 else [])
 
@@ -208,8 +211,9 @@ class Questions:
                     found.add((block.start, step.address))
         for start, to in sorted(found):
             block = self.report.blocks[start]
-            yield Answer(f"{start:x} {to:x}  # {block.kind} in {self.name(self.homes[start][0].entry)}, to {self._place(to)}",
-                         {"from": address(start), "to": address(to), "block_kind": block.kind})
+            what = f"{block.kind} in {self.name(self.homes[start][0].entry)}, to {self._place(to)}"
+            fields = {"from": address(start), "to": address(to), "block_kind": block.kind}
+            yield Answer(f"{start:x} {to:x}  # {what}", fields)
 
     def _place(self, at: int) -> str:
         block = self.places.of(at)
@@ -218,8 +222,8 @@ class Questions:
         return self.name(self.homes[block.start][0].entry) if block else "in no block"
 
     def _end(self, at: int) -> Tuple[Optional[Block], range]:
-        """The block whose way on is not known to which control goes straight on from an address, if it does; and the addresses
-        behind that one up to its end."""
+        """The block whose way on is not known to which control goes straight on from an address, if it does; and the
+        addresses behind that one up to its end."""
         block = self.places.of(at)
         if block is not None and block.start != at and not block.start < at < block.end:
             block = None

@@ -2,10 +2,9 @@
 
 from __future__ import annotations
 
-from typing import List, NamedTuple, Optional, Set, Tuple
+from typing import List, NamedTuple, Optional, Tuple
 
-from cfg_report import Block, Report
-from elf_file import Elf
+from cfg_report import Block
 from instructions import ARGUMENTS, NAMES, Instruction, signed
 from tables import Use, use_of_table
 from unsure import Unsure
@@ -86,7 +85,8 @@ class Reasons:
     def _why_jump(self, block: Block, last: Instruction) -> Why:
         """Of a jump or call through a register."""
         if last.rs1 == 0:
-            return Why("to a fixed address through the register zero, as where a weak symbol is not there", f"{last.immediate}")
+            what = "to a fixed address through the register zero, as where a weak symbol is not there"
+            return Why(what, f"{last.immediate}")
         pair = self._pair(last)
         if pair is None:
             return self.why_register(last.rs1, Place(block.start, len(self.code.of(block)) - 1), last)
@@ -96,7 +96,8 @@ class Reasons:
             return Why(NO_CODE, f"{goes_to:x}")
         is_return = last.rs1 in (1, 5) and last.rd == 0
         what = "a return" if is_return else "a jump through a register"
-        return Why(f"{what} that is read as paired with the four bytes before it, which are no instruction", f"{base}, so to {where}")
+        read = f"{what} that is read as paired with the four bytes before it, which are no instruction"
+        return Why(read, f"{base}, so to {where}")
 
     def _pair(self, last: Instruction) -> Optional[Tuple[str, int]]:
         """What the four bytes before a jump read as, where that is an AUIPC or LUI of its register, and the target."""
@@ -114,8 +115,7 @@ class Reasons:
             return self._why_table(use, place, last)
         constant = self.values.constant(register, place)
         if constant is not None:
-            where = "" if self.elf.is_code(constant) else ", where no code is"
-            return Why("to a fixed address that is not set right before the jump", f"{constant:x} in {NAMES[register]}{where}")
+            return self._why_constant(constant)
         setters = self._all_setters(register, place)
         if setters is None:
             return Why("through a register; where it is set was not followed to its end", NAMES[register])
@@ -124,9 +124,10 @@ class Reasons:
             at = f" at {len(reasons)} places" if len(reasons) > 1 else ""
             return reasons[0]._replace(detail=reasons[0].detail + at)
         what = "through a register that is set in several ways"
-        return Why(what, f"{NAMES[register]}: " + "; ".join(sorted({reason.what.replace("through ", "") for reason in reasons})))
+        ways = sorted({reason.what.replace("through ", "") for reason in reasons})
+        return Why(what, f"{NAMES[register]}: {'; '.join(ways)}")
 
-    def _all_setters(self, register: int, place: Place) -> Optional[List[Tuple[int, Setter]]]:  # type: ignore[override]
+    def _all_setters(self, register: int, place: Place) -> Optional[List[Tuple[int, Setter]]]:
         """What sets a register, copies followed back to what they are of, each with the register that it sets."""
         found: List[Tuple[int, Setter]] = []
         left, seen = [(register, place)], set()
@@ -156,10 +157,18 @@ class Reasons:
             return Why("through a register that the caller has set", name)
         if setter.kind == CALL or one is None:
             at = f"{one.address:x}" if one else "?"
-            return Why("through the result of a call" if own in (10, 11) else "through a register that a call has left", f"{name}, the call at {at}")
+            what = "through the result of a call" if own in (10, 11) else "through a register that a call has left"
+            return Why(what, f"{name}, the call at {at}")
         if one.is_load:
             return self._why_load(one, setter.place)
+        made = self.values.made(setter)
+        if made is not None:
+            return self._why_constant(made)
         return Why("through a register that is calculated", f"{one.text} at {one.address:x}")
+
+    def _why_constant(self, constant: int) -> Why:
+        where = "" if self.elf.is_code(constant) else ", where no code is"
+        return Why("to a fixed address, but not right behind its AUIPC or LUI", f"{constant:x}{where}")
 
     def _why_load(self, load: Instruction, place: Place) -> Why:
         address = self.values.constant(load.rs1, place)
@@ -180,9 +189,9 @@ class Reasons:
         is_call = last.rd != 0
         table = "a table of pointers to functions" if is_call else TABLE
         if use.address is None:
-            whence = self.why_register(use.base[0], use.base[1], last) if self.values.setter(*use.base) != None else None
-            how = f"{NAMES[use.base[0]]}: {whence}" if whence else NAMES[use.base[0]]
-            return Why(f"{table} at an address that is no constant", f"{entries}, {how}")
+            is_one = self.values.setter(*use.base) is not None
+            how = f": {self.why_register(*use.base, last)}" if is_one else ""
+            return Why(f"{table} at an address that is no constant", f"{entries}, {NAMES[use.base[0]]}{how}")
         where = f"{use.address:x}{self._section(use.address)}, {entries}"
         if is_call:
             return Why(table, where)
@@ -199,7 +208,8 @@ class Reasons:
             return Why(f"{table} to whose entries is added what is no constant", where)
         first = use.target(self.elf, 0)
         if first is None or not self.elf.is_code(first):
-            return Why(f"{table} whose first entry leads to no code", f"{where}, to {first:x}" if first is not None else where)
+            to = f", to {first:x}" if first is not None else ""
+            return Why(f"{table} whose first entry leads to no code", where + to)
         return self._why_far(use, place, last, table, where)
 
     def _why_far(self, use: Use, place: Place, last: Instruction, table: str, where: str) -> Why:
@@ -209,11 +219,13 @@ class Reasons:
         far = [one for one in use.parts if one.address not in at]
         if far:
             first = min(far, key=lambda one: one.address)
-            return Why(f"{table} whose calculation begins before the last branch or jump", f"{where}; {first.text} at {first.address:x}")
+            what = f"{table} whose calculation begins before the last branch or jump"
+            return Why(what, f"{where}; {first.text} at {first.address:x}")
         begin = min(at[one.address] for one in use.parts)
         count = len(straight) - begin
         if count > MOST_STRAIGHT:
-            return Why(f"{table} whose calculation begins more than {MOST_STRAIGHT} instructions before the jump", f"{where}; {count} instructions")
+            what = f"{table} whose calculation begins more than {MOST_STRAIGHT} instructions before the jump"
+            return Why(what, f"{where}; {count} instructions")
         return Why(f"{table}; what keeps it from being found is not told", where)
 
     def _straight(self, block: Block, last: Instruction) -> List[Instruction]:

@@ -86,7 +86,7 @@ def difference(old: List[Piece], new: List[Piece]) -> Optional[str]:
     pairs = [(one, other) for one, other in zip(old, new) if one.what != other.what]
     if not pairs and len(old) == len(new):
         return None
-    where = f", first at {pairs[0][0].address:x} ({pairs[0][0].text}) and {pairs[0][1].address:x} ({pairs[0][1].text})" if pairs else ""
+    where = ", first at {} and {}".format(*(f"{one.address:x} ({one.text})" for one in pairs[0])) if pairs else ""
     if len(old) != len(new):
         return f"{sum(one.length for one in old)} bytes became {sum(one.length for one in new)}{where}"
     return f"{sum(one.length for one, _ in pairs)} bytes differ{where}"

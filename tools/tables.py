@@ -26,7 +26,6 @@ class Use(NamedTuple):
     size: int
     base: Tuple[int, Place]
     address: Optional[int]
-    is_relative: bool
     added: Optional[int]
     parts: Tuple[Instruction, ...]
 
@@ -48,20 +47,21 @@ def use_of_table(values: Values, register: int, place: Place) -> Optional[Use]:
     if found is None or found.kind != INSTRUCTION or found.instruction is None:
         return None
     if found.instruction.is_load:
-        return _loaded(values, found, False, 0, ())
+        return _loaded(values, found, 0, ())
     if found.instruction.name != "add":
         return None
     one = found.instruction
     for part, other in ((one.rs1, one.rs2), (one.rs2, one.rs1)):
         load = values.setter(part, found.place)
         if load is not None and load.kind == INSTRUCTION and load.instruction is not None and load.instruction.is_load:
-            use = _loaded(values, load, True, values.constant(other, found.place), (one,))
+            use = _loaded(values, load, values.constant(other, found.place), (one,))
             if use is not None:
                 return use
     return None
 
 
-def _loaded(values: Values, load: Setter, is_relative: bool, added: Optional[int], parts: Tuple[Instruction, ...]) -> Optional[Use]:
+def _loaded(values: Values, load: Setter, added: Optional[int], parts: Tuple[Instruction, ...]) -> Optional[Use]:
+    """The table that a load is of. What is added to the entry, and by which instructions, is given."""
     one = load.instruction
     assert one is not None
     size = SIZES[one.name]
@@ -78,7 +78,7 @@ def _loaded(values: Values, load: Setter, is_relative: bool, added: Optional[int
             address = (address + one.immediate) % 2**64
         setters = values.setters(base, total.place) or []
         makers = [setter.instruction for setter in setters if setter.kind == INSTRUCTION and setter.instruction]
-        return Use(one, size, (base, total.place), address, is_relative, added, (*parts, one, add, *scaled, *makers))
+        return Use(one, size, (base, total.place), address, added, (*parts, one, add, *scaled, *makers))
     return None
 
 
@@ -94,9 +94,10 @@ def _scaled(values: Values, register: int, place: Place, size: int) -> Optional[
     if one.name == "slli" and one.immediate == shift:
         return (one,)
     if one.name == "srli" and one.immediate == 32 - shift:
-        left = values.setter(one.rs1, moved.place)
-        if left is not None and left.instruction is not None and (left.instruction.name, left.instruction.immediate) == ("slli", 32):
-            return (one, left.instruction)
+        before = values.setter(one.rs1, moved.place)
+        left = before.instruction if before is not None else None
+        if left is not None and left.name == "slli" and left.immediate == 32:
+            return (one, left)
     return None
 
 
@@ -131,7 +132,7 @@ def numbers(found: Iterable[int]) -> str:
 class Tables:
     """The jump tables that the graph of a report goes through, by the starts of their blocks."""
 
-    def __init__(self, code: Code, blocks: Optional[Iterable[Block]] = None) -> None:
+    def __init__(self, code: Code) -> None:
         self.code, self.values = code, Values(code)
         uses: Dict[int, Use] = {}
         for block in code.report.blocks.values():
@@ -139,8 +140,7 @@ class Tables:
             if use is not None and use.address is not None:
                 uses[block.start] = use
         self._bases = sorted({use.address for use in uses.values() if use.address is not None})
-        wanted = None if blocks is None else {block.start for block in blocks}
-        self.found = {start: self._table(code.report.blocks[start], use) for start, use in uses.items() if wanted is None or start in wanted}
+        self.found = {start: self._table(code.report.blocks[start], use) for start, use in uses.items()}
 
     def _use(self, block: Block) -> Optional[Use]:
         last = self.code.last(block)

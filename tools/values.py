@@ -2,11 +2,12 @@
 
 from __future__ import annotations
 
-from typing import Callable, Dict, List, NamedTuple, Optional, Set, Tuple
+from typing import Callable, Dict, Iterator, List, NamedTuple, Optional, Set, Tuple
 
-from cfg_report import Block, Report
+from cfg_report import Block, Edge, Report
 from elf_file import Elf
-from instructions import KEPT_BY_CALLS, Instruction, decode, signed
+from instructions import ARGUMENTS, KEPT_BY_CALLS, Instruction, decode, signed
+from unsure import Unsure
 
 # How many blocks are looked at for one register, how many copies are followed, and how many may set one constant.
 MOST_BLOCKS, FARTHEST, MOST_SETTERS = 3000, 24, 8
@@ -61,16 +62,32 @@ INSTRUCTION = "instruction"
 
 
 class Values:
-    """What registers hold, by the graph of a report and the instructions of its file."""
+    """What registers hold, by the graph of a report and the instructions of its file, along the edges that are sure."""
 
     def __init__(self, code: Code) -> None:
         self.code, self.report = code, code.report
         self.entries = {function.entry for function in self.report.functions}
         self._constants: Dict[Tuple[int, Place], Optional[int]] = {}
         self._before: Dict[int, List[Tuple[int, str]]] = {}
+        for edge in self._counted():
+            self._before.setdefault(edge.to, []).append((edge.source, edge.kind))
+
+    def _counted(self) -> Iterator[Edge]:
+        """The edges along which values come: those that are not sure are left out, and those that lead out of blocks to
+        which only such lead, into others."""
+        unsure = Unsure(self.code.elf).see_all(self.report.items())
+        onward: Dict[int, List[Edge]] = {}
         for edge in self.report.edges:
-            if edge.kind != "call":
-                self._before.setdefault(edge.to, []).append((edge.source, edge.kind))
+            if edge.kind != "call" and not unsure.is_unsure(edge):
+                onward.setdefault(edge.source, []).append(edge)
+        sure, left = set(self.entries), list(self.entries)
+        while left:
+            for edge in onward.get(left.pop(), ()):
+                if edge.to not in sure:
+                    sure.add(edge.to)
+                    left.append(edge.to)
+        for edges in onward.values():
+            yield from (edge for edge in edges if edge.source in sure or edge.to not in sure)
 
     def before(self, start: int, kind: str) -> List[int]:
         """The blocks from which an edge of a kind leads to a block."""
@@ -103,9 +120,12 @@ class Values:
     def _in_block(self, register: int, at: Place) -> Optional[Setter]:
         block = self.report.blocks[at.block]
         instructions = self.code.of(block)
-        is_after = at.number == len(instructions) and block.kind in ("call", "icall")
-        if is_after and register not in KEPT_BY_CALLS:
-            return Setter(CALL, Place(at.block, at.number), instructions[-1] if instructions else None)
+        if at.number == len(instructions) and block.kind in ("call", "icall"):
+            last = instructions[-1] if instructions else None
+            # Behind x5 returns a routine that saves registers for a function, and keeps its arguments.
+            is_kept = register in KEPT_BY_CALLS or last is not None and last.rd == 5 and register in ARGUMENTS
+            if not is_kept:
+                return Setter(CALL, Place(at.block, at.number), last)
         for number in range(at.number - 1, -1, -1):
             if instructions[number].written == register:
                 return Setter(INSTRUCTION, Place(at.block, number), instructions[number])
@@ -133,11 +153,12 @@ class Values:
             # What depends on itself, as what a loop counts, is none.
             self._constants[key] = None
             found = self.setters(register, place) or []
-            values = {self._made(setter) for setter in found[:MOST_SETTERS]} if len(found) <= MOST_SETTERS else set()
+            values = {self.made(setter) for setter in found[:MOST_SETTERS]} if len(found) <= MOST_SETTERS else set()
             self._constants[key] = values.pop() if len(values) == 1 else None
         return self._constants[key]
 
-    def _made(self, setter: Setter) -> Optional[int]:
+    def made(self, setter: Setter) -> Optional[int]:
+        """The number that an instruction leaves in the register that it sets, where instructions alone make it up."""
         one = setter.instruction
         if setter.kind != INSTRUCTION or one is None:
             return None

@@ -47,8 +47,8 @@ def elf(parts: Sequence[Part], symbols: Sequence[Tuple[str, int, int]], entry: i
         at += len(chunk)
     headers = [bytes(64)]
 
-    def header(name: int, kind: int, flags: int, address: int, number: int, link: int, size: int) -> bytes:
-        return struct.pack("<IIQQQQIIQQ", name, kind, flags, address, places[number], len(chunks[number]), link, 0, 1, size)
+    def header(name: int, kind: int, flags: int, address: int, number: int, link: int, entry_size: int) -> bytes:
+        return struct.pack("<IIQQQQIIQQ", name, kind, flags, address, places[number], len(chunks[number]), link, 0, 1, entry_size)
 
     for number, part in enumerate(parts):
         headers.append(header(titles.index(b"\0" + part.name.encode() + b"\0") + 1, 1, part.flags, part.address, number, 0, 0))

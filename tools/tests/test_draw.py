@@ -4,9 +4,8 @@ from __future__ import annotations
 
 import unittest
 
-import rows
 import small
-from in_process import InProcess
+from test_tools import InFolder
 
 
 def long_chain(count: int) -> bytes:
@@ -17,14 +16,14 @@ def long_chain(count: int) -> bytes:
     return small.report("10000 may-return f: " + " ".join(f"{start:x}" for start in starts), blocks, edges)
 
 
-class Parts(InProcess):
+class Parts(InFolder):
     def nodes(self, *words: str) -> "list[str]":
-        return [line.split(" ")[4] for line in self.lines("draw", *words) if line.startswith("    b") and "->" not in line]
+        return [line.split(" ")[4] for line in self.said("draw", *words) if line.startswith("    b") and "->" not in line]
 
     def test_address_inside(self) -> None:
         path = self.row(17)
-        self.assertIn("digraph \"10000\" {", self.lines("draw", path, "1000a"))
-        self.assertIn("digraph \"g\" {", self.lines("draw", path, "0x1000e"))
+        self.assertIn("digraph \"10000\" {", self.said("draw", path, "1000a"))
+        self.assertIn("digraph \"g\" {", self.said("draw", path, "0x1000e"))
         self.assertEqual(self.run_main("draw", path, "10010")[0], 2)
         self.assertIn("no block has that address", self.run_main("draw", path, "10010")[2])
         self.assertIn("no function has the name or the address fffe", self.run_main("draw", path, "fffe")[2])
@@ -33,24 +32,24 @@ class Parts(InProcess):
         path = self.file("report", long_chain(30))
         self.assertEqual(self.nodes(path, "f", "--around", "1002a", "--depth", "1"), ["b10024", "b10028", "b1002c", "b10020", "b10030"])
         self.assertEqual(self.nodes(path, "--around", "10000", "--depth", "0"), ["b10000", "b10004"])
-        said = "\n".join(self.lines("draw", path, "f", "--around", "10028"))
+        said = "\n".join(self.said("draw", path, "f", "--around", "10028"))
         self.assertIn('label="f, 7 of 30 blocks, may return"', said)
         self.assertIn('b10038 [label="10038 ...", shape=plaintext', said)
-        self.assertIn("no block of f has the address 20000", self.run_main("draw", path, "f", "--around", "20000")[2])
+        self.assertIn("no block of the function has the address 20000", self.run_main("draw", path, "f", "--around", "20000")[2])
 
     def test_no_instructions(self) -> None:
         elf = self.elf(6)
-        self.assertIn("addi", "\n".join(self.lines("draw", "--elf", elf, self.row(6), "10000")))
-        said = "\n".join(self.lines("draw", "--no-instructions", "--elf", elf, self.row(6), "10000"))
+        self.assertIn("addi", "\n".join(self.said("draw", "--elf", elf, self.row(6), "10000")))
+        said = "\n".join(self.said("draw", "--no-instructions", "--elf", elf, self.row(6), "10000"))
         self.assertNotIn("addi", said)
         self.assertIn("8 bytes", said)
 
     def test_links_and_folders(self) -> None:
-        said = "\n".join(self.lines("draw", self.row(17), "g"))
+        said = "\n".join(self.said("draw", self.row(17), "g"))
         self.assertIn('URL="10000.svg"', said)
         report = small.report("10000 may-return f: 10000 10004, 10008 may-return a/b: 10008", "10000 10004 call, 10004 10008 return, 10008 1000c return",
                               "10000 10004 after, 10000 10008 call")
-        self.assertIn('URL="a=2fb.svg"', "\n".join(self.lines("draw", self.file("slash", report), "f")))
+        self.assertIn('URL="a=2fb.svg"', "\n".join(self.said("draw", self.file("slash", report), "f")))
 
     def test_said_before(self) -> None:
         path, out = self.file("report", long_chain(500)), str(self.folder / "a.dot")

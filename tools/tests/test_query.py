@@ -2,21 +2,25 @@
 
 from __future__ import annotations
 
+import contextlib
+import io
 import json
 import os
 import random
 import sys
 import unittest
 from typing import Dict, List, Set
+from unittest import mock
 
 import small
+import progress as progress_module
 from body import Body
-from in_process import InProcess
+from test_tools import InFolder
 
 
-class Query(InProcess):
+class Query(InFolder):
     def asked(self, question: str, *words: str) -> List[str]:
-        return self.lines("query", question, *words)
+        return self.said("query", question, *words)
 
     def test_callers_and_callees(self) -> None:
         self.assertEqual(self.asked("callers", self.row(10), "1000c"), ["10000 at 10000, call from the block at 10004"])
@@ -83,7 +87,7 @@ class Query(InProcess):
         return {one: max(above[one], key=lambda other: len(above[other])) for one in every if one}
 
 
-class Edges(InProcess):
+class Edges(InFolder):
     def test_call_and_jump(self) -> None:
         # An icall and an unknown jump, each with a way that is known; and what is in no block.
         report = small.report("10000 may-return f: 10000 10004, 10010 no-return g: 10010, 10014 may-return h: 10014 10018",
@@ -94,9 +98,9 @@ class Edges(InProcess):
         status, said, error = self.run_main("query", "callees", path, "f", "--edges", edges)
         self.assertEqual(said[:2], ["g at 10010, call from the block at 10000", "h at 10014, tail from the block at 10004"])
         self.assertIn("1 places are in no block, and edges to or from them are left out: 20000", error)
-        self.assertEqual(self.lines("query", "reach", path, "f", "h"), ["no way from f to h is known; 1 functions on the way call or jump through a register"])
+        self.assertEqual(self.said("query", "reach", path, "f", "h"), ["no way from f to h is known; 1 functions on the way call or jump through a register"])
         known = self.file("known", b"10000 10010 call\n10004 10018\n")
-        items = [json.loads(line) for line in self.lines("to_json", path, "--edges", known)]
+        items = [json.loads(line) for line in self.said("to_json", path, "--edges", known)]
         self.assertIn({"record": "edge", "from": "0000000000010004", "to": "0000000000010018", "kind": "jump"}, items)
         function = next(item for item in items if item.get("name") == "f")
         self.assertEqual(function["blocks"], ["0000000000010000", "0000000000010004", "0000000000010018"])
@@ -106,9 +110,15 @@ class Edges(InProcess):
         self.assertEqual(self.run_main("diff_reports", path, path, "--edges", known, known)[0], 0)
         self.assertEqual(self.run_main("diff_reports", path, path, "--edges", known, self.file("none", b""))[0], 1)
 
+    def test_open_ends(self) -> None:
+        report = self.file("report", small.report("10000 may-return f: 10000 10004", "10000 10004 icall, 10004 10008 return", "10000 10004 after"))
+        elf = self.file("elf", small.elf([small.Part(".text", small.CODE, 0x10000, small.code("000580E7 00008067"))], [("f", 0x10000, 8)]))
+        said = self.said("unresolved", "--last", "0", elf, report, "--edges", self.file("edges", b"10000 10000\n"))
+        self.assertEqual(said[0], "10000 icall in f: through an argument of the function (a1); known otherwise: 1 ways on")
+
     def test_into_a_block(self) -> None:
         path = self.file("report", small.report("10000 may-return f: 10000, 10010 may-return g: 10010", "10000 10004 unknown, 10010 10020 return"))
-        items = [json.loads(line) for line in self.lines("to_json", path, "--edges", self.file("edges", b"10000 10018\n10000 10014\n"))]
+        items = [json.loads(line) for line in self.said("to_json", path, "--edges", self.file("edges", b"10000 10018\n10000 10014\n"))]
         blocks = [(item["start"][-5:], item["end"][-5:], item["kind"]) for item in items if item["record"] == "block"]
         self.assertEqual(blocks, [("10000", "10004", "unknown"), ("10010", "10014", "fall"), ("10014", "10018", "fall"), ("10018", "10020", "return")])
 
@@ -123,16 +133,16 @@ class Edges(InProcess):
         report = self.file("report", small.report("10000 may-return f: 10000 10008, 10010 may-return g: 10010",
                                                   "10000 10008 icall, 10008 1000c unknown, 10010 10018 return", "10000 10008 after"))
         steps = self.file("trace", b"10000\n10004\n10010\n10014\n10008\n20000\n")
-        self.assertEqual(self.lines("query", "open", report, steps), ["10000 10010  # icall in f, to g", "10008 20000  # unknown in f, to in no block"])
+        self.assertEqual(self.said("query", "open", report, steps), ["10000 10010  # icall in f, to g", "10008 20000  # unknown in f, to in no block"])
         # By the first addresses of parts that run straight on, in qemu's words; a part may be cut within a block.
         log = "".join(f"Trace 0: 0x7f00 [00000000/{at:016x}/00000000/00000000] f\n" for at in (0x10000, 0x10004, 0x10010, 0x10008, 0x20000))
-        said = self.lines("query", "open", report, self.file("log", log.encode()))
+        said = self.said("query", "open", report, self.file("log", log.encode()))
         self.assertEqual(said, ["10000 10010  # icall in f, to g", "10008 20000  # unknown in f, to in no block"])
         edges = self.file("edges", "\n".join(said).encode())
         self.assertEqual(self.run_main("query", "reach", report, "f", "g", "--edges", edges)[1], ["f -> g"])
 
 
-class Coverage(InProcess):
+class Coverage(InFolder):
     REPORT = ("10000 may-return f: 10000 10008 1000c, 10010 may-return g: 10010",
               "10000 10008 branch, 10008 1000c return, 1000c 10010 return, 10010 10014 return", "10000 10008 fall, 10000 1000c taken")
     SAID = ["functions 1 of 2 (50.0 %), blocks 2 of 4 (50.0 %), bytes of blocks 12 of 20 (60.0 %)",
@@ -143,33 +153,48 @@ class Coverage(InProcess):
         report = self.file("report", small.report(*self.REPORT))
         log = "".join(f"0x{at:016x}:  00000013          nop\n" for at in (0x10000, 0x10004, 0x10008, 0x20000))
         trace = self.file("log", ("----------------\nIN: f\n" + log).encode())
-        self.assertEqual(self.lines("coverage", "--trace", trace, report), self.SAID)
-        self.assertEqual(self.lines("coverage", "--ranges", "--trace", trace, report)[-3:],
+        self.assertEqual(self.said("coverage", "--trace", trace, report), self.SAID)
+        self.assertEqual(self.said("coverage", "--ranges", "--trace", trace, report)[-3:],
                          ["executed: 16 bytes in 2 ranges", "    10000 to 1000c", "    20000 to 20004"])
 
     def test_addresses(self) -> None:
         report = self.file("report", small.report(*self.REPORT))
         trace = self.file("trace", b"10000\n10004\n10008\n10000\n")
-        self.assertEqual(self.lines("coverage", "--trace", trace, report)[:2], self.SAID[:2])
+        self.assertEqual(self.said("coverage", "--trace", trace, report)[:2], self.SAID[:2])
+
+    def test_parts_that_run_straight_on(self) -> None:
+        report = self.file("report", small.report(*self.REPORT))
+        log = "".join(f"Trace 0: 0x7f00 [00000000/{at:016x}/00000000/00000000] f\n" for at in (0x10000, 0x10008, 0x10000))
+        self.assertEqual(self.said("coverage", "--trace", self.file("log", log.encode()), report)[:2], self.SAID[:2])
 
     def test_moved(self) -> None:
         report = self.file("report", small.report(*self.REPORT))
         log = "".join(f"0x{at + 0x4000000000:016x}:  00000013          nop\n" for at in (0x10000, 0x10004, 0x10008, 0x20000))
-        self.assertEqual(self.lines("coverage", "--trace", self.file("log", log.encode()), report), self.SAID)
+        self.assertEqual(self.said("coverage", "--trace", self.file("log", log.encode()), report), self.SAID)
 
     def test_program_that_is_started(self) -> None:
         report = self.file("report", small.report(*self.REPORT))
         log = "".join(f"0x{at:016x}:  00000013          nop\\n" for at in (0x10000, 0x10004, 0x10008, 0x20000))
         qemu = self.file("qemu", f'#!/bin/sh\n[ "$1 $2 $3" = "-d in_asm -D" ] || exit 9\nprintf "{log}" > "$4"\necho said by "$5" >&2\nexit 3\n'.encode())
         os.chmod(qemu, 0o755)
-        done = self.run_script("coverage", report, "--", qemu, "a-program")
+        done = self.run_process("coverage", report, "--", qemu, "a-program")
         self.assertEqual((done.returncode, done.stderr), (0, "said by a-program\n"))
         self.assertEqual(done.stdout.splitlines(), ["the program ended with status 3", *self.SAID])
-        done = self.run_script("coverage", report, "--", str(self.folder / "nothing"))
+        done = self.run_process("coverage", report, "--", str(self.folder / "nothing"))
         self.assertEqual(done.returncode, 2)
 
 
-class Names(InProcess):
+class Progress(unittest.TestCase):
+    def test_said(self) -> None:
+        error = io.StringIO()
+        with mock.patch.object(sys, "argv", ["tool"]), contextlib.redirect_stderr(error), mock.patch("time.monotonic", side_effect=[0, 1, 5, 5, 6, 14, 14]):
+            progress = progress_module.Progress(lambda: "half")
+            for _ in range(4):
+                progress.step()
+        self.assertEqual(error.getvalue(), "tool: half\ntool: half\n")
+
+
+class Names(InFolder):
     def test_demangled(self) -> None:
         filt = self.file("c++filt", f"#!{sys.executable}\nimport sys\nfor line in iter(sys.stdin.readline, ''):\n    print(line.strip().replace('_Z1fv', 'f()'), flush=True)\n".encode())
         os.chmod(filt, 0o755)

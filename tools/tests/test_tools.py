@@ -2,8 +2,10 @@
 
 from __future__ import annotations
 
+import contextlib
 import importlib.machinery
 import importlib.util
+import io
 import json
 import os
 import shutil
@@ -13,9 +15,12 @@ import tempfile
 import unittest
 from pathlib import Path
 from types import ModuleType
-from typing import List, Optional
+from typing import Dict, List, Optional, Tuple
+from unittest import mock
 
 import rows
+import cfg_report
+import names
 from elf_file import Code, Elf, gaps, joined
 
 SCRIPTS = {
@@ -23,6 +28,10 @@ SCRIPTS = {
     "call_graph": ["REPORT"], "diff_reports": ["REPORT", "REPORT"], "unresolved": ["ELF", "REPORT"],
     "query": ["where", "REPORT", "10000"], "coverage": ["--trace", "TRACE", "REPORT"],
 }
+
+
+Done = subprocess.CompletedProcess
+LOADED: Dict[str, ModuleType] = {}
 
 
 def script(name: str) -> ModuleType:
@@ -61,10 +70,35 @@ class InFolder(unittest.TestCase):
         os.chmod(path, 0o755)
         return path
 
-    def run_script(self, name: str, *words: str, cfg: Optional[str] = None, path: Optional[str] = None, given: bytes = b"") -> "subprocess.CompletedProcess[str]":
-        environment = dict(os.environ, CFG=cfg or "/nowhere/cfg", PATH=path or os.environ["PATH"])
-        done = subprocess.run([sys.executable, "-B", str(rows.TOOLS / name), *words], input=given, capture_output=True, env=environment)
-        return subprocess.CompletedProcess(done.args, done.returncode, done.stdout.decode(), done.stderr.decode())
+    def run_script(self, name: str, *words: str, cfg: Optional[str] = None, path: Optional[str] = None, given: bytes = b"") -> Done:
+        """Runs a script within the test, as a process would: its status, standard output and standard error."""
+        if name not in LOADED:
+            LOADED[name] = script(name)
+        out, err, status = io.StringIO(), io.StringIO(), None
+        environment = {"CFG": cfg or "/nowhere/cfg", "PATH": path or os.environ["PATH"]}
+        with contextlib.ExitStack() as changed:
+            changed.enter_context(mock.patch.object(sys, "argv", [name, *words]))
+            changed.enter_context(mock.patch.object(sys, "stdin", io.TextIOWrapper(io.BytesIO(given))))
+            changed.enter_context(mock.patch.dict(os.environ, environment))
+            changed.enter_context(contextlib.redirect_stdout(out))
+            changed.enter_context(contextlib.redirect_stderr(err))
+            changed.callback(names.demangle, False)
+            try:
+                cfg_report.run(LOADED[name].main)
+            except SystemExit as end:
+                status = end.code
+        return subprocess.CompletedProcess([name, *words], status, out.getvalue(), err.getvalue())  # type: ignore[arg-type]
+
+    def run_process(self, name: str, *words: str, cfg: str = "/nowhere/cfg", given: bytes = b"") -> Done:
+        """Runs a script as a process of its own."""
+        command = [sys.executable, "-B", str(rows.TOOLS / name), *words]
+        done = subprocess.run(command, input=given, capture_output=True, env=dict(os.environ, CFG=cfg))
+        return subprocess.CompletedProcess(command, done.returncode, done.stdout.decode(), done.stderr.decode())
+
+    def run_main(self, name: str, *words: str) -> Tuple[int, List[str], str]:
+        """The status, the lines of standard output, and standard error."""
+        done = self.run_script(name, *words)
+        return done.returncode, done.stdout.splitlines(), done.stderr
 
     def said(self, name: str, *words: str, status: int = 0, cfg: Optional[str] = None, path: Optional[str] = None) -> List[str]:
         done = self.run_script(name, *words, cfg=cfg, path=path)
@@ -77,7 +111,7 @@ class Errors(InFolder):
         """The script says why in one line, and ends with status 2."""
         done = self.run_script(name, *words, cfg=cfg)
         self.assertEqual(done.returncode, 2, done.stderr)
-        self.assertRegex(done.stderr, f"^(cfg: .*\n)?{name}: .*{why}.*\n$")
+        self.assertRegex(done.stderr, f"^{name}: .*{why}.*\n$")
 
     def with_report(self, name: str, report: str) -> List[str]:
         known = {"REPORT": report, "ELF": self.elf(1), "TRACE": self.file("trace", b"10000\n")}
@@ -114,7 +148,9 @@ class Errors(InFolder):
 
     def test_elf_files(self) -> None:
         elf = self.elf(1)
-        self.refused("summary", elf, why="status 2", cfg=self.answering(2, b"", "cfg: malformed: Type"))
+        done = self.run_process("summary", elf, cfg=self.answering(2, b"", "cfg: malformed: Type"))
+        self.assertEqual(done.returncode, 2)
+        self.assertRegex(done.stderr, "^cfg: malformed: Type\nsummary: .*status 2\n$")
         self.refused("summary", elf, why="No such file", cfg=str(self.folder / "nothing"))
         self.refused("summary", "--elf", self.row(1), self.row(1), why="no ELF file")
         self.refused("unresolved", self.file("cut.elf", rows.elf(1)[:100]), self.row(1), why="broken ELF file")
@@ -124,6 +160,21 @@ class Errors(InFolder):
         self.refused("call_graph", "--from", "main", self.row(1), why="no function has the name")
         self.refused("draw", "-o", str(self.folder / "a.jpg"), self.row(1), "10000", why="a file name ends with")
         self.refused("draw", "-o", str(self.folder / "no" / "a.dot"), self.row(1), "10000", why="No such file")
+
+
+class Processes(InFolder):
+    def test_as_processes(self) -> None:
+        """Each script is run once as a user runs it, and once with a report that is missing."""
+        for name in SCRIPTS:
+            with self.subTest(name=name):
+                words = [self.row(1) if word == "REPORT" else word for word in SCRIPTS[name]]
+                words = [self.elf(1) if word == "ELF" else self.file("trace", b"10000\n") if word == "TRACE" else word for word in words]
+                done = self.run_process(name, *words)
+                self.assertEqual((done.returncode, done.stderr), (0, ""))
+                self.assertTrue(done.stdout)
+                done = self.run_process(name, *[word.replace("row1.graph", "missing") for word in words])
+                self.assertEqual(done.returncode, 2)
+                self.assertRegex(done.stderr, f"^{name}: .*missing: No such file or directory\n$")
 
 
 class Summary(InFolder):

@@ -6,7 +6,6 @@ use Rattle.std.proofs.lemmas.Bool.{cond-true, lt-ltb, leb-true}
 use Rattle.std.proofs.lemmas.Option.{cond_some, same_Some, none-some}
 use Rattle.elf_image.specs.declared.fault.ElfError.{ElfError}
 use Rattle.elf_image.specs.declared.fault.ElfError.TheVariants as errors
-use Rattle.elf_image.specs.declared.fault.Fault.{Fault}
 use Rattle.elf_image.specs.declared.fault.Fault.TheVariants.{TooLarge}
 use Rattle.elf_image.specs.FaultTests.{is_too_large}
 use Rattle.elf_image.specs.Faults.{first_fault, first_among, has_fault}

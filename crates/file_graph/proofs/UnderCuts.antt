@@ -1,6 +1,6 @@
 -- The program of a file under cuts, by other names for its bytes, cuts and seeds.
 use Rattle.std.proofs.Common.{◌≡◌, ◌∙◌, ℕ, List, ap, sym, subst}
-use Rattle.std.specs.Prelude.{IfOk, Result, Ok, Err, All, Contains}
+use Rattle.std.specs.Prelude.{All, Contains}
 use Rattle.std.specs.Ordering.{nat_cmp}
 use Rattle.std.specs.FinMap as map
 use Rattle.elf_image.specs.Faults.{IsImage}

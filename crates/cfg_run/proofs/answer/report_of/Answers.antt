@@ -1,4 +1,4 @@
-use Rattle.std.proofs.Common.{◌≡◌, sym, subst, ap, List, ℕ, Some}
+use Rattle.std.proofs.Common.{sym, subst, List, ℕ, Some}
 use Rattle.elf_image.specs.Seeds.{seed_name}
 use Rattle.graph_report.specs.Report.{report_text}
 use Rattle.cfg_words.specs.Request.{of_file}

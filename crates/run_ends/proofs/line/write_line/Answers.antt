@@ -1,7 +1,6 @@
 -- The line goes out in three steps. If one fails, those before it and a part of it went out.
-use Rattle.std.proofs.Common.{◌++◌, List, ℕ}
+use Rattle.std.proofs.Common.{◌++◌}
 use Rattle.std.specs.Prelude.{codes}
-use Rattle.cfg_io.specs.Told.{Appends, AppendsPrefix}
 use Rattle.run_ends.proofs.Pieces.{on_err, on_err_map, both_appended, prefix_more, prefix_behind}
 use Rattle.run_ends.proofs.line.write_line.Goals as goal
 

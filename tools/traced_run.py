@@ -11,13 +11,16 @@ import contextlib
 import os
 import re
 import select
+import signal
 import subprocess
 import sys
 import tempfile
-from typing import BinaryIO, Iterator, List, NamedTuple, Optional
+from typing import BinaryIO, Dict, Iterator, List, NamedTuple, Optional
 
 from cfg_report import ReportError
 from progress import Progress
+
+MOST_KNOWN = 1 << 18
 
 _TRANSLATED = re.compile(rb"0x([0-9a-f]+):\s+((?:[0-9a-f]{4} ?)+)\s")
 _RUN = re.compile(rb"Trace .*?\[[0-9a-f]+/([0-9a-f]+)/")
@@ -25,10 +28,12 @@ _PLAIN = re.compile(rb"(?:0x)?([0-9a-fA-F]+)\s*")
 
 
 class Step(NamedTuple):
-    """An address that was executed. `length` is the instruction's in bytes, where the trace tells it."""
+    """An address that was executed. `length` is the instruction's in bytes, where the trace tells it. With `is_part` it is
+    where a part begins that runs straight on, of which the trace has no more."""
 
     address: int
     length: int
+    is_part: bool = False
 
 
 class Trace:
@@ -37,30 +42,43 @@ class Trace:
 
     def __init__(self, stream: BinaryIO, entry: int) -> None:
         self._stream, self._entry = stream, entry
+        self._moved: Optional[int] = None
         self.lines = 0
 
     def steps(self) -> Iterator[Step]:
         progress = Progress(lambda: f"{self.lines} lines of the trace are read")
-        moved: Optional[int] = None
-        for line in self._stream:
-            self.lines += 1
+        # A loop writes the same lines again and again.
+        known: Dict[bytes, Optional[Step]] = {}
+        for self.lines, line in enumerate(self._stream, 1):
             if self.lines % 4096 == 0:
                 progress.step()
-            step = _step(line)
-            if step is None:
-                continue
-            if moved is None:
-                moved = step.address - self._entry
-                moved = moved if moved % 4096 == 0 else 0
-            yield Step(step.address - moved, step.length)
+                if len(known) > MOST_KNOWN:
+                    known.clear()
+            if line not in known:
+                known[line] = self._placed(_step(line))
+            step = known[line]
+            if step is not None:
+                yield step
+
+    def _placed(self, step: Optional[Step]) -> Optional[Step]:
+        """The step where the file has it."""
+        if step is None:
+            return None
+        if self._moved is None:
+            moved = step.address - self._entry
+            self._moved = moved if moved % 4096 == 0 else 0
+        return step._replace(address=step.address - self._moved)
 
 
 def _step(line: bytes) -> Optional[Step]:
     found = _TRANSLATED.match(line)
     if found:
         return Step(int(found[1], 16), len(found[2].replace(b" ", b"")) // 2)
-    found = _RUN.match(line) or _PLAIN.fullmatch(line)
-    return Step(int(found[1], 16), 0) if found else None
+    found = _PLAIN.fullmatch(line)
+    if found:
+        return Step(int(found[1], 16), 0)
+    found = _RUN.match(line)
+    return Step(int(found[1], 16), 0, True) if found else None
 
 
 class Run:
@@ -88,11 +106,22 @@ def opened(path: Optional[str], command: List[str], what: str) -> Iterator[Run]:
         pipe = os.path.join(folder, "trace")
         os.mkfifo(pipe)
         end = os.open(pipe, os.O_RDONLY | os.O_NONBLOCK)
-        words = [command[0], "-d", what, "-D", pipe, *command[1:]]
-        with subprocess.Popen(words, stdout=sys.stderr) as process, _begun(end, process) as stream:
-            run = Run(stream)
-            yield run
-            run.status = process.wait()
+        # Ctrl-C ends the program alone, which may be one that never ends, and then what it has run is told.
+        before = signal.signal(signal.SIGINT, lambda *_: None)
+        try:
+            started = subprocess.Popen(_traced(command, what, pipe), stdout=sys.stderr)
+            with started as process, _begun(end, process) as stream:
+                run = Run(stream)
+                yield run
+                run.status = process.wait()
+        finally:
+            signal.signal(signal.SIGINT, before)
+
+
+def _traced(command: List[str], what: str, pipe: str) -> List[str]:
+    """The command with the words for a log, behind qemu, in front of which others may stand, as `timeout 5`."""
+    after = next((place for place, word in enumerate(command, 1) if "qemu" in os.path.basename(word)), 1)
+    return [*command[:after], "-d", what, "-D", pipe, *command[after:]]
 
 
 def _begun(end: int, process: "subprocess.Popen[bytes]") -> BinaryIO:

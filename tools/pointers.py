@@ -1,0 +1,132 @@
+"""Addresses of code that a program keeps in its data, or makes in its code."""
+
+from __future__ import annotations
+
+import array
+import sys
+from typing import Dict, Iterable, Iterator, List, Set, Tuple
+
+from decoding import CALLER_SAVED, LOAD_SIZES, STORES, Insn
+from elf_memory import ALLOC, FINI_ARRAY, INIT_ARRAY, NOBITS, PREINIT_ARRAY, PROGBITS, Memory, Section
+from reached import APART, Reached
+
+ARRAYS = (PREINIT_ARRAY, INIT_ARRAY, FINI_ARRAY)
+# Sections whose words are read as something else.
+OTHER_FORMS = (b".eh_frame", b".eh_frame_hdr", b".gcc_except_table")
+
+
+def array_entries(elf: Memory) -> List[int]:
+    """The functions that run before and after the program, as its arrays list them."""
+    found = []
+    for section in elf.sections:
+        if section.kind in ARRAYS or section.name in (b".preinit_array", b".init_array", b".fini_array", b".ctors", b".dtors"):
+            words = (elf.word(at, 8) for at in range(section.address, section.end - 7, 8))
+            found += [word for word in words if word not in (None, 0, 2**64 - 1)]
+    return found
+
+
+def words(elf: Memory, section: Section) -> Iterator[Tuple[int, int]]:
+    """The aligned words of eight bytes of a section that are not zero, each with its address."""
+    start = section.address + -section.address % 8
+    at = section.offset + start - section.address
+    count = max(0, section.end - start) // 8
+    numbers = array.array("Q", elf.data[at:at + 8 * count])
+    if sys.byteorder == "big":
+        numbers.byteswap()
+    for place, number in enumerate(numbers):
+        if number:
+            yield start + 8 * place, number
+
+
+def pointers_in_data(elf: Memory) -> List[int]:
+    """The addresses of code in words of data, each once, in the order in which they are found."""
+    found: Dict[int, None] = {}
+    low = elf.code[0].address if elf.code else 0
+    high = elf.code[-1].end if elf.code else 0
+    for section in elf.allocated:
+        if section.kind in (PROGBITS, *ARRAYS) and not section.is_code and section.name not in OTHER_FORMS:
+            held = list(words(elf, section))
+            for place, (at, number) in enumerate(held):
+                if low <= number < high and at not in elf.relocated and elf.is_code(number) and not _is_counted(held, place):
+                    found[number] = None
+    for number in [*elf.relocated.values(), *elf.resolvers]:
+        if elf.is_code(number):
+            found[number] = None
+    return list(found)
+
+
+def _is_counted(held: List[Tuple[int, int]], place: int) -> bool:
+    """Whether a word and the one before it or behind it differ by 2 at most, as numbers of a table do."""
+    at, number = held[place]
+    near = held[max(0, place - 1):place + 2]
+    return any(abs(other_at - at) == 8 and 0 < abs(other - number) <= 2 for other_at, other in near)
+
+
+def pointers_in_code_sections(elf: Memory, reached: Reached) -> List[int]:
+    """The addresses of code in words of data that stand in code sections, where nothing is reached."""
+    found: Dict[int, None] = {}
+    for section in elf.code:
+        for at, number in words(elf, section):
+            if number < 1 << 32 and elf.is_code(number) and all(reached.state(part) == APART for part in range(at, at + 8, 2)):
+                found[number] = None
+    return list(found)
+
+
+class MadeAddresses:
+    """The addresses of code that instructions make, but for those that they load from or store to."""
+
+    def __init__(self, elf: Memory) -> None:
+        self._elf = elf
+        self._done: Set[Tuple[int, int]] = set()
+        self.made: Dict[int, None] = {}
+        self.data: Set[int] = set()
+
+    def read(self, reached: Reached) -> None:
+        """Reads the blocks that have not been read before."""
+        for block in reached.report.blocks.values():
+            if (block.start, block.end) not in self._done:
+                self._done.add((block.start, block.end))
+                self.read_listed(reached.instructions(block))
+
+    def read_listed(self, listed: Iterable[Tuple[int, Insn]]) -> None:
+        """Reads instructions in the order of their addresses."""
+        known: Dict[int, int] = {}
+        behind = -1
+        for at, insn in listed:
+            if at != behind:
+                known.clear()
+            behind = at + insn.length
+            name = insn.name
+            if name in LOAD_SIZES or name in STORES:
+                if insn.rs1 in known:
+                    self.data.add(known[insn.rs1])
+                    self.data.add(known[insn.rs1] + insn.imm)
+            self._follow(at, insn, known)
+
+    def _follow(self, at: int, insn: Insn, known: Dict[int, int]) -> None:
+        """What registers hold behind an instruction, where it makes an address."""
+        name, rd = insn.name, insn.rd
+        if name == "lui" or name == "auipc":
+            known[rd] = (insn.imm if name == "lui" else at + insn.imm) % 2**64
+        elif name == "addi" and insn.rs1 in known:
+            known[rd] = (known[insn.rs1] + insn.imm) % 2**64
+            if self._elf.is_code(known[rd]):
+                self.made[known[rd]] = None
+        elif name == "add" and insn.rs1 == 0 and insn.rs2 in known:
+            known[rd] = known[insn.rs2]
+        elif name in ("jal", "jalr") and rd:
+            for register in CALLER_SAVED & known.keys():
+                del known[register]
+        else:
+            known.pop(rd, None)
+
+
+def is_text(elf: Memory, address: int) -> bool:
+    """Whether the bytes at an address of code read as a text that a zero byte ends."""
+    section = elf.code_at(address)
+    if section is None:
+        return False
+    at = section.offset + address - section.address
+    data = elf.data[at:min(at + 64, section.offset + section.size)]
+    text = data.split(b"\0")[0]
+    return len(text) < len(data) and all(0x20 <= byte < 0x7F or byte in b"\t\n\r\x1b" for byte in text) or not data

@@ -1,0 +1,73 @@
+"""Which sources of `tools/add_entries` would bring more of a file's code into its report, and which close an open jump."""
+
+from __future__ import annotations
+
+import bisect
+from typing import Dict, Iterable, List, Optional, Tuple
+
+from cfg_report import Block, Report, ReportError
+from elf_file import joined, size_of
+from elf_memory import Memory
+from frames import frames, landing_pads
+from pointers import array_entries, pointers_in_data
+from reached import Reached
+from switch_cases import Switch, Switches
+
+Ranges = List[Tuple[int, int]]
+
+
+def starts(elf: Memory) -> Dict[str, List[int]]:
+    """The addresses of code that each source finds in the file alone."""
+    try:
+        framed = frames(elf)
+        pads = [pad for frame in framed for _, _, pad in landing_pads(elf, frame)]
+    except ReportError:
+        framed, pads = [], []
+    return {
+        "--eh-frame": [frame.start for frame in framed if elf.is_code(frame.start)],
+        "--arrays": [address for address in array_entries(elf) if elf.is_code(address)],
+        "--pointers": pointers_in_data(elf),
+        "--landing-pads": [pad for pad in pads if elf.is_code(pad)],
+    }
+
+
+def apart(addresses: Iterable[int], reached: Ranges) -> List[int]:
+    """The addresses that are in none of these ranges, which are rising and apart."""
+    places = [start for start, _ in reached]
+
+    def is_reached(address: int) -> bool:
+        place = bisect.bisect_right(places, address) - 1
+        return place >= 0 and address < reached[place][1]
+
+    return [address for address in dict.fromkeys(addresses) if not is_reached(address)]
+
+
+def what_to_try(path: str, reached: Ranges, has_open_ends: bool) -> str:
+    """Which sources name addresses of code that is not reached, and how many each, as the end of a line."""
+    found = {source: len(apart(addresses, reached)) for source, addresses in starts(Memory(path)).items()}
+    named = [f"{source} ({count:,} not reached)" for source, count in found.items() if count]
+    named += ["--switches", "--trace FILE"] if has_open_ends else []
+    return f"; to reach more: tools/add_entries {' '.join(named)}" if named else ""
+
+
+class Remedies:
+    """What closes the open ends of a report."""
+
+    def __init__(self, path: str, report: Report) -> None:
+        elf = Memory(path)
+        self._reached = Reached(elf, report)
+        self._values = Switches(self._reached, {})
+        self._switches: Dict[int, Switch] = {switch.block.start: switch for switch in self._values.found()}
+        reached = joined([(block.start, block.end) for block in report.blocks.values()])
+        self._is_all = size_of(reached) >= sum(section.size for section in elf.code)
+        self._pointers = any(map(self._reached.begins, apart(pointers_in_data(elf), reached)))
+
+    def of(self, block: Block) -> Optional[str]:
+        """The source of entries that brings what a block leads to into the report, if one does."""
+        switch = self._switches.get(block.start)
+        if switch is not None:
+            count = len({case for case in switch.cases if not self._reached.state(case)})
+            return f"--switches, {count} cases that are not reached" if count else None
+        if self._is_all or block.kind not in ("unknown", "icall") or self._values.is_fixed(block):
+            return None
+        return "--pointers, --trace" if self._pointers else "--trace"

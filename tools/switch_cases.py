@@ -1,0 +1,293 @@
+"""The cases of switches whose jump ends a block with `unknown`: their tables are found by following the target of the jump
+backwards, through all blocks that lead to it.
+
+A target is a sum: a constant, and what was loaded or is not known, each so many times. A jump goes through a table of
+offsets where its target is a constant and a loaded word of four bytes, and through one of addresses where it is a loaded
+word of eight; and where the address of that load is a constant and four or eight times one number.
+"""
+
+from __future__ import annotations
+
+import bisect
+from typing import Dict, FrozenSet, Iterator, List, NamedTuple, Optional, Set, Tuple
+
+from cfg_report import Block
+from decoding import CALLER_SAVED, LOAD_SIZES, Insn
+from reached import Reached
+
+DEEPEST, MOST_BLOCKS, MOST_CASES = 16, 4000, 1024
+TEST_BLOCKS = 12
+
+
+class Sum(NamedTuple):
+    """A constant, and terms with how often each is in the sum."""
+
+    constant: int
+    terms: FrozenSet[Tuple[Tuple, int]] = frozenset()
+
+    def plus(self, other: "Sum") -> "Sum":
+        terms = dict(self.terms)
+        for term, times in other.terms:
+            terms[term] = terms.get(term, 0) + times
+        kept = frozenset((term, times) for term, times in terms.items() if times)
+        return Sum((self.constant + other.constant) % 2**64, kept)
+
+    def times(self, factor: int) -> "Sum":
+        return Sum(self.constant * factor % 2**64, frozenset((term, times * factor) for term, times in self.terms))
+
+    def only(self) -> Optional[Tuple[Tuple, int]]:
+        """The one term, where there is one."""
+        return next(iter(self.terms)) if len(self.terms) == 1 else None
+
+
+def unknown(*what: object) -> Sum:
+    return Sum(0, frozenset([(("unknown", *what), 1)]))
+
+
+class Switch(NamedTuple):
+    """A jump through a table, and where the cases are, in the order of the table."""
+
+    block: Block
+    jump: int
+    table: int
+    width: int
+    bound: Optional[int]
+    cases: Tuple[int, ...]
+
+
+class Switches:
+    """Finds switches in what is reached. `came_from` has for a case that is an entry the block of its jump."""
+
+    def __init__(self, reached: Reached, came_from: Dict[int, int]) -> None:
+        self._reached, self._elf = reached, reached.elf
+        report = reached.report
+        self._blocks = report.blocks
+        self._entries = {function.entry for function in report.functions} - came_from.keys()
+        self._before: Dict[int, List[Tuple[int, str]]] = {}
+        for edge in report.edges:
+            if edge.kind != "call":
+                self._before.setdefault(edge.to, []).append((edge.source, edge.kind))
+        for case, block in came_from.items():
+            if block in self._blocks:
+                self._before.setdefault(case, []).append((block, "table"))
+        self._listed: Dict[int, List[Tuple[int, Insn]]] = {}
+        self._stores: Dict[int, Optional[Dict[int, Tuple[int, int]]]] = {}
+
+    def found(self) -> Iterator[Switch]:
+        """The switches, by the address of their block."""
+        tables = []
+        for block in self._blocks.values():
+            if block.kind == "unknown":
+                found = self._table(block)
+                if found:
+                    tables.append((block, *found))
+        bases = {table for _, _, table, *_ in tables}
+        bounds = sorted(self._entries)
+        for block, jump, table, width, start, index in tables:
+            bound = self._bound(block, index)
+            cases = self._cases(jump, table, width, start, bound, bases, bounds)
+            if cases:
+                yield Switch(block, jump, table, width, bound, tuple(cases))
+
+    def is_fixed(self, block: Block) -> bool:
+        """Whether a block ends at a known address, by an instruction that names it or through a register."""
+        listed = self._instructions(block.start)
+        insn = listed[-1][1]
+        return insn.name != "jalr" or not self.value(block.start, len(listed) - 1, insn.rs1).terms
+
+    # ---- what a register holds
+
+    def _instructions(self, start: int) -> List[Tuple[int, Insn]]:
+        if start not in self._listed:
+            self._listed[start] = list(self._reached.instructions(self._blocks[start]))
+        return self._listed[start]
+
+    def value(self, start: int, place: int, register: int, depth: int = 0) -> Sum:
+        """What a register holds in front of an instruction of a block, by its place in the block."""
+        if register == 0:
+            return Sum(0)
+        for at in range(place - 1, -1, -1):
+            address, insn = self._instructions(start)[at]
+            if insn.rd == register:
+                return self._result(start, at, address, insn, depth)
+        if depth > DEEPEST:
+            return unknown("deep", start, register)
+        writers = self._writers(start, register)
+        values = {self._result(*writer, depth + 1) for writer in writers if writer[3]}
+        if len(values) == 1:
+            only = values.pop()
+            # A constant is taken also where code that never goes on, as behind a call that does not return, seems to lead here
+            # from another function.
+            if not only.terms or all(writer[3] for writer in writers):
+                return only
+        return unknown("several", frozenset(writers), register)
+
+    def _writers(self, start: int, register: int) -> Set[Tuple[int, int, int, Optional[Insn]]]:
+        """The instructions that may have set a register where a block begins. One without an instruction stands for the
+        caller of a function, or for a call that does not keep the register."""
+        found: Set[Tuple[int, int, int, Optional[Insn]]] = set()
+        seen, left = {start}, [start]
+        while left and len(seen) < MOST_BLOCKS:
+            block = left.pop()
+            if block in self._entries or not self._before.get(block):
+                found.add((block, 0, block, None))
+                continue
+            for source, kind in self._before[block]:
+                if kind == "after" and register in CALLER_SAVED:
+                    found.add((source, 0, source, None))
+                elif source not in seen:
+                    seen.add(source)
+                    writer = self._last_writer(source, register)
+                    if writer:
+                        found.add(writer)
+                    else:
+                        left.append(source)
+        return found
+
+    def _last_writer(self, start: int, register: int) -> Optional[Tuple[int, int, int, Optional[Insn]]]:
+        listed = self._instructions(start)
+        for at in range(len(listed) - 1, -1, -1):
+            address, insn = listed[at]
+            if insn.rd == register and insn.name not in ("jal", "jalr"):
+                return start, at, address, insn
+        return None
+
+    def _result(self, start: int, place: int, address: int, insn: Optional[Insn], depth: int) -> Sum:
+        """What an instruction leaves in its register."""
+        if insn is None or depth > DEEPEST:
+            return unknown(address)
+        name = insn.name
+        if name in ("lui", "auipc"):
+            return Sum((insn.imm + (address if name == "auipc" else 0)) % 2**64)
+
+        def held(register: int) -> Sum:
+            return self.value(start, place, register, depth + 1)
+
+        if name == "addi" or name == "addiw" and insn.imm == 0:
+            return held(insn.rs1).plus(Sum(insn.imm % 2**64))
+        if name == "add":
+            return held(insn.rs1).plus(held(insn.rs2))
+        if name == "slli" and insn.imm <= 32:
+            return held(insn.rs1).times(1 << insn.imm)
+        if name == "srli":
+            return self._moved_down(held(insn.rs1), insn.imm, address)
+        if name in ("sh1add", "sh2add", "sh3add"):
+            return held(insn.rs1).times(1 << int(name[2])).plus(held(insn.rs2))
+        if name in LOAD_SIZES and insn.rs1 == 2:
+            spilled = self._spilled(start, insn, depth)
+            if spilled is not None:
+                return spilled
+        if name in ("lw", "ld"):
+            return Sum(0, frozenset([(("load", LOAD_SIZES[name], held(insn.rs1).plus(Sum(insn.imm % 2**64))), 1)]))
+        if name == "addiw":
+            return unknown(address)
+        if name == "andi" and 0 <= insn.imm:
+            return Sum(0, frozenset([(("masked", insn.imm, address), 1)]))
+        return unknown(address)
+
+    def _moved_down(self, value: Sum, by: int, address: int) -> Sum:
+        """A number of 32 bits that was moved up by 32, and down again by some bits less."""
+        only = value.only()
+        if only and value.constant == 0 and only[1] == 1 << 32 and by <= 32:
+            return Sum(0, frozenset([(only[0], 1 << (32 - by))]))
+        return unknown(address)
+
+    def _spilled(self, start: int, load: Insn, depth: int) -> Optional[Sum]:
+        """What was put at a place of the stack, where the blocks around do so once."""
+        if load.name != "ld":
+            return None
+        found = self._stores_before(start).get(load.imm)
+        if found is None or found[0] < 0:
+            return None
+        block, place = found
+        return self.value(block, place, self._instructions(block)[place][1].rs2, depth + 1)
+
+    def _stores_before(self, start: int) -> Dict[int, Tuple[int, int]]:
+        """The one store to each place of the stack, in the blocks that lead to one; or a block less than zero where there
+        are several."""
+        if start not in self._stores:
+            stores: Dict[int, Tuple[int, int]] = {}
+            seen, left = {start}, [start]
+            while left and len(seen) < MOST_BLOCKS:
+                block = left.pop()
+                for place, (_, insn) in enumerate(self._instructions(block)):
+                    if insn.name == "sd" and insn.rs1 == 2:
+                        stores[insn.imm] = (-1, 0) if insn.imm in stores else (block, place)
+                if block not in self._entries:
+                    for source, _ in self._before.get(block, []):
+                        if source not in seen:
+                            seen.add(source)
+                            left.append(source)
+            self._stores[start] = stores
+        return self._stores[start] or {}
+
+    # ---- tables
+
+    def _table(self, block: Block) -> Optional[Tuple[int, int, int, int, Tuple]]:
+        """The jump, the table's address, the size of its entries, what is added to each, and the index."""
+        listed = self._instructions(block.start)
+        jump, insn = listed[-1]
+        if insn.name != "jalr" or insn.rd or insn.rs1 in (1, 5):
+            return None
+        target = self.value(block.start, len(listed) - 1, insn.rs1).plus(Sum(insn.imm % 2**64))
+        loaded = target.only()
+        if not loaded or loaded[1] != 1 or loaded[0][0] != "load":
+            return None
+        _, width, place = loaded[0]
+        index = place.only()
+        if not index or index[1] != width or not place.constant or width == 8 and target.constant:
+            return None
+        return jump, place.constant, width, target.constant, index[0]
+
+    def _cases(self, jump: int, table: int, width: int, start: int, bound: Optional[int], bases: Set[int], entries: List[int]) -> List[int]:
+        """Where the entries of a table lead, up to its bound, or without one as long as they lead into the function."""
+        place = bisect.bisect_right(entries, jump)
+        low = entries[place - 1] if place else 0
+        high = entries[place] if place < len(entries) else 2**64
+        found: List[int] = []
+        for number in range(MOST_CASES if bound is None else bound):
+            at = table + width * number
+            word = self._elf.word(at, width, signed=width == 4)
+            if word is None or not self._elf.is_read_only(at, width) or number and at in bases:
+                break
+            case = (start + word) % 2**64
+            if not self._elf.is_code(case) or bound is None and not low <= case < high:
+                break
+            found.append(case)
+        return found
+
+    def _bound(self, block: Block, index: Tuple) -> Optional[int]:
+        """How many entries a test of the index allows, in the blocks before the jump; or how many its mask does."""
+        bound = index[1] + 1 if index[0] == "masked" else None
+        seen, left = {block.start}, [(block.start, 0)]
+        while left:
+            start, depth = left.pop(0)
+            if start in self._entries:
+                continue
+            for source, kind in self._before.get(start, []):
+                if source in seen or depth >= TEST_BLOCKS:
+                    continue
+                seen.add(source)
+                left.append((source, depth + 1))
+                tested = self._tested(source, kind, index)
+                if tested is not None:
+                    return tested
+        return bound
+
+    def _tested(self, start: int, kind: str, index: Tuple) -> Optional[int]:
+        """How many values of an index let control go along an edge, where the block tests it."""
+        listed = self._instructions(start)
+        insn = listed[-1][1]
+        if insn.name not in ("bltu", "bgeu") or kind not in ("fall", "taken"):
+            return None
+        first, second = (self.value(start, len(listed) - 1, register) for register in (insn.rs1, insn.rs2))
+        is_less = (insn.name == "bltu") == (kind == "taken")
+        one = Sum(0, frozenset([(index, 1)]))
+        # first < second where `is_less`, and else first >= second.
+        if is_less and first == one and not second.terms:
+            limit = second.constant
+        elif not is_less and second == one and not first.terms:
+            limit = first.constant + 1
+        else:
+            return None
+        return limit if 0 < limit <= MOST_CASES else None

@@ -1,0 +1,454 @@
+"""tools/add_entries: each source, the file that is written, and what is refused."""
+
+from __future__ import annotations
+
+import os
+import shutil
+import struct
+import subprocess
+import unittest
+from pathlib import Path
+from typing import Dict, List, Optional, Sequence, Tuple
+
+import rows
+import cfg_report
+import small_elf
+from cfg_report import ReportError
+from elf_memory import Memory
+from frames import Frame, frames, landing_pads
+from hostile import BREAK, NOP, RETURN, Halves, add, branch, immediate, jump, short_jump, upper
+from small_elf import ALLOC, CODE_AT, DATA_AT, INIT_ARRAY, NOBITS, RELA, WRITE, Part, code, file_of, symbols, words
+from test_tools import InFolder
+
+CFG = rows.TOOLS.parent / "crates" / "cfg" / "out" / "cfg"
+
+A0, A1, A4, A5, S1, RA, SP = 10, 11, 14, 15, 9, 1, 2
+CALL_A5, JUMP_A5 = immediate(0x67, 0, RA, A5, 0), immediate(0x67, 0, 0, A5, 0)
+ROOM = immediate(0x13, 0, SP, SP, -16)
+
+
+def load(to: int, source: int, offset: int = 0) -> Halves:
+    return immediate(0x03, 3, to, source, offset)
+
+
+def load_word(to: int, source: int, offset: int = 0) -> Halves:
+    return immediate(0x03, 2, to, source, offset)
+
+
+def address_of(to: int, at: int, address: int) -> Halves:
+    """The address in a register, by AUIPC and ADDI that stand at a place."""
+    distance = address - at
+    return upper(0x17, to, (distance + 0x800) >> 12) + immediate(0x13, 0, to, to, distance)
+
+
+class WithFile(InFolder):
+    """A test that makes files, and runs add_entries on them with a stand-in for cfg."""
+
+    def elf_file(self, parts: Sequence[Part], name: str = "program", **more: object) -> str:
+        return self.file(name, file_of(parts, **more))  # type: ignore[arg-type]
+
+    def memory(self, parts: Sequence[Part]) -> Memory:
+        return Memory(self.elf_file(parts))
+
+    def added(self, path: str, *options: str) -> Dict[int, str]:
+        """The entries that add_entries adds, by address."""
+        out = str(self.folder / "out")
+        done = self.run_script("add_entries", path, "-o", out, *options, cfg=str(small_elf.STAND_IN))
+        self.assertEqual((done.returncode, done.stderr), (0, ""))
+        self.said_last = done.stdout.splitlines()
+        before = {symbol.address for symbol in Memory(path).symbols()}
+        return {symbol.address: symbol.name.decode() for symbol in Memory(out).symbols() if symbol.address not in before}
+
+    def refused(self, path: str, *options: str, why: str) -> None:
+        """add_entries says why in a line, ends with status 2, and leaves no file behind."""
+        there = sorted(os.listdir(self.folder))
+        done = self.run_script("add_entries", path, "-o", str(self.folder / "out"), *options, cfg=str(small_elf.STAND_IN))
+        self.assertEqual(done.returncode, 2, done.stderr)
+        self.assertRegex(done.stderr, f"^(cfg: .*\n)?add_entries: .*{why}.*\n$")
+        self.assertEqual(sorted(os.listdir(self.folder)), there)
+
+
+# ---- frame descriptions
+
+
+def leb(value: int) -> bytes:
+    found = b""
+    while True:
+        byte, value = value & 0x7F, value >> 7
+        if value in (0, -1) and (byte >> 6 & 1) == -value:
+            return found + bytes([byte])
+        found += bytes([byte | 0x80])
+
+
+def uleb(value: int) -> bytes:
+    found = b""
+    while value >= 0x80:
+        found, value = found + bytes([value & 0x7F | 0x80]), value >> 7
+    return found + bytes([value])
+
+
+def record(body: bytes, wide: bool = False) -> bytes:
+    body += bytes(-len(body) % 4)
+    return (b"\xff\xff\xff\xff" + struct.pack("<Q", len(body)) if wide else struct.pack("<I", len(body))) + body
+
+
+def shared(letters: bytes, data: bytes = b"", version: int = 1) -> bytes:
+    """What frame descriptions of .eh_frame share."""
+    added = uleb(len(data)) + data if letters.startswith(b"z") else data
+    return record(struct.pack("<IB", 0, version) + letters + b"\0" + b"\x01\x78\x01" + added)
+
+
+class FrameDescriptions(WithFile):
+    AT = 0x30000
+
+    def read(self, section: bytes, name: str = ".eh_frame", more: Sequence[Part] = ()) -> List[Frame]:
+        return frames(self.memory([code(NOP * 64), Part(name, address=self.AT, data=section), *more]))
+
+    def described(self, encoding: int, pointer: bytes, size: bytes) -> bytes:
+        """A section with one description, whose pointers have an encoding; the pointer stands at 0x30 of it."""
+        first = shared(b"zR", bytes([encoding]))
+        first += bytes(-len(first) % 8)
+        first = first if len(first) >= 0x28 else struct.pack("<I", 0x24) + first[4:] + bytes(0x28 - len(first))
+        return first + record(struct.pack("<I", len(first) + 4) + pointer + size + b"\0")
+
+    def test_each_encoding_of_a_pointer(self) -> None:
+        at, start, size = self.AT + 0x30, 0x10008, 12
+        for encoding, pointer, length in (
+            (0x00, words(start), words(size)), (0x03, struct.pack("<I", start), struct.pack("<I", size)),
+            (0x04, words(start), words(size)), (0x0B, struct.pack("<i", start), struct.pack("<i", size)), (0x0C, words(start), words(size)),
+            (0x01, uleb(start), uleb(size)), (0x09, leb(start), leb(size)),
+            (0x1B, struct.pack("<i", start - at), struct.pack("<i", size)), (0x1C, words(start - at), words(size)),
+            (0x19, leb(start - at), leb(size)), (0x2B, struct.pack("<i", start - CODE_AT), struct.pack("<i", size)),
+            (0x22, struct.pack("<H", start - CODE_AT), struct.pack("<H", size)), (0x2A, struct.pack("<h", start - CODE_AT), struct.pack("<h", size)),
+            (0x3B, struct.pack("<i", start - DATA_AT), struct.pack("<i", size)), (0x50, words(start), words(size)),
+            (0x80, words(DATA_AT), words(size)), (0x9B, struct.pack("<i", DATA_AT - at), struct.pack("<i", size)),
+        ):
+            with self.subTest(encoding=hex(encoding)):
+                got = Part(".got", flags=ALLOC | WRITE, address=DATA_AT, data=words(start))
+                self.assertEqual(self.read(self.described(encoding, pointer, length), more=[got]), [Frame(start, size, None)])
+
+    def test_letters(self) -> None:
+        personality = b"\x00" + words(0x10020)
+        for letters, data in ((b"zR", b"\x03"), (b"zPLR", personality + b"\xff\x03"), (b"zRS", b"\x03"), (b"zPR", b"\x9b" + bytes(4) + b"\x03"),
+                              (b"zR?", b"\x03\x11")):
+            first = shared(letters, data)
+            section = first + record(struct.pack("<III", len(first) + 4, 0x10004, 8) + b"\0")
+            self.assertEqual(self.read(section), [Frame(0x10004, 8, None)], letters)
+        first = shared(b"eh", words(7))
+        self.assertEqual(self.read(first + record(struct.pack("<I", len(first) + 4) + words(0x10004, 8))), [Frame(0x10004, 8, None)])
+        first = shared(b"")
+        self.assertEqual(self.read(first + record(struct.pack("<I", len(first) + 4) + words(0x10004, 8))), [Frame(0x10004, 8, None)])
+
+    def test_language_data(self) -> None:
+        first = shared(b"zLR", b"\x03\x03")
+        section = first + record(struct.pack("<III", len(first) + 4, 0x10004, 8) + b"\x04" + struct.pack("<I", 0x40010))
+        section += record(struct.pack("<III", len(section) + 4, 0x1000C, 8) + b"\x04" + bytes(4))
+        self.assertEqual(self.read(section), [Frame(0x10004, 8, 0x40010), Frame(0x1000C, 8, None)])
+
+    def test_ends_wide_records_and_debugging_data(self) -> None:
+        first = shared(b"zR", b"\x03")
+        one = record(struct.pack("<III", len(first) + 4, 0x10004, 8) + b"\0")
+        # Two sections that were linked one behind the other, each with an end.
+        self.assertEqual(len(self.read((first + one + bytes(4)) * 2 + bytes(4))), 1)
+        wide = record(struct.pack("<III", len(first) + 12, 0x10008, 8) + b"\0", wide=True)
+        self.assertEqual(self.read(first + wide), [Frame(0x10008, 8, None)])
+        four = record(struct.pack("<IB", 0xFFFFFFFF, 4) + b"\0\x08\0\x01\x78\x01")
+        self.assertEqual(self.read(four + record(struct.pack("<I", 0) + words(0x10004, 8)), ".debug_frame"), [Frame(0x10004, 8, None)])
+        four = record(struct.pack("<QB", 2**64 - 1, 3) + b"\0\x01\x78\x01", wide=True)
+        self.assertEqual(self.read(four + record(struct.pack("<Q", 0) + words(0x10004, 8), wide=True), ".debug_frame"), [Frame(0x10004, 8, None)])
+
+    def test_broken(self) -> None:
+        first = shared(b"zR", b"\x03")
+        good = first + record(struct.pack("<III", len(first) + 4, 0x10004, 8) + b"\0")
+        for section in (good[:-3], good[:2], first + record(struct.pack("<III", 2, 0x10004, 8)), first + record(struct.pack("<I", len(first) + 4)),
+                        shared(b"zR", b"\x07") + record(struct.pack("<III", len(first) + 4, 1, 1)), shared(b"zR", b"\x03", version=9) + good[len(first):],
+                        first + record(struct.pack("<III", 0x7FFF, 0x10004, 8)), b"\xff" * 16):
+            with self.assertRaises(ReportError):
+                self.read(section)
+        path = self.elf_file([code(RETURN), Part(".eh_frame", address=self.AT, data=good[:-3])])
+        self.refused(path, "--eh-frame", why=r"\.eh_frame is broken")
+        self.refused(path, why=r"\.eh_frame is broken")
+
+    def test_entries(self) -> None:
+        first = shared(b"zR", b"\x03")
+        section = first
+        for start in (0x10002, 0, 0x10004, 0x10006, 0x10007, 0x50000, 0x1000C):
+            section += record(struct.pack("<III", len(section) + 4, start, 4) + b"\0")
+        # Two entries, the second of which is reached; a function that was thrown away; one inside an instruction that is
+        # reached, one at an odd address, one outside the code; and zeros.
+        halves = RETURN + RETURN + ROOM + RETURN + RETURN + [0, 0]
+        path = self.elf_file([code(halves), *symbols(2, ["main"], [0x10004]), Part(".eh_frame", address=self.AT, data=section)])
+        self.assertEqual(self.added(path, "--eh-frame"), {0x10002: "entry_eh_10002"})
+        self.assertEqual(self.said_last[0], "eh-frame: 1 entries; left out: 1 an entry already, 1 inside an instruction that is reached, "
+                                            "2 no address of code, 1 in padding")
+        self.assertIn(0x10006, self.added(path, "--eh-frame", "--keep-overlaps"))
+        sizes = {symbol.address: symbol.size for symbol in Memory(str(self.folder / "out")).symbols()}
+        self.assertEqual(sizes[0x10002], 4)
+
+
+class LandingPads(WithFile):
+    # A function at 10000 whose first four instructions call, and which lands at 10020 and at 10024.
+    def data(self, encoding: int, calls: Sequence[Tuple[int, int, int]], start: bytes = b"\xff", types: bytes = b"\xff") -> bytes:
+        pack = {1: lambda number: uleb(number), 3: lambda number: struct.pack("<I", number)}[encoding]
+        table = b"".join(pack(first) + pack(size) + pack(pad) + b"\0" for first, size, pad in calls)
+        return start + types + bytes([encoding]) + uleb(len(table)) + table
+
+    def pads(self, data: bytes) -> List[Tuple[int, int, int]]:
+        elf = self.memory([code(NOP * 64), Part(".gcc_except_table", address=0x40000, data=b"\0\0" + data)])
+        return landing_pads(elf, Frame(0x10000, 64, 0x40002))
+
+    def test_reading(self) -> None:
+        calls = [(0, 4, 0), (4, 8, 0x20), (12, 4, 0x24)]
+        found = [(0x10004, 0x1000C, 0x10020), (0x1000C, 0x10010, 0x10024)]
+        for encoding in (1, 3):
+            self.assertEqual(self.pads(self.data(encoding, calls)), found)
+        self.assertEqual(self.pads(self.data(1, calls, types=b"\x9b" + uleb(300))), found)
+        self.assertEqual(self.pads(self.data(1, [(4, 8, 0x10)], start=b"\x03" + struct.pack("<I", 0x10010))), [(0x10004, 0x1000C, 0x10020)])
+        for data in (self.data(1, calls)[:-2], b"\xff", b"\xff\xff\x01\x7f"):
+            with self.assertRaises(ReportError):
+                self.pads(data)
+
+    def test_entries_and_what_stands_behind_calls(self) -> None:
+        # main, at 10000, calls `tries`, whose call never returns but lands at 1000c, and goes on behind that call.
+        halves = jump(RA, 8) + RETURN + NOP + jump(RA, 12) + RETURN + NOP + RETURN + NOP + short_jump(0) + NOP
+        first = shared(b"zLR", b"\x03\x03")
+        section = first + record(struct.pack("<III", len(first) + 4, 0x10008, 12) + b"\x04" + struct.pack("<I", 0x40000))
+        parts = [code(halves), *symbols(2, ["main"], [CODE_AT]), Part(".eh_frame", address=0x30000, data=section),
+                 Part(".gcc_except_table", address=0x40000, data=self.data(1, [(0, 4, 8)]))]
+        path = self.elf_file(parts)
+        self.assertEqual(self.added(path, "--landing-pads"), {0x10010: "entry_pad_10010", 0x10004: "entry_behind_10004"})
+
+
+# ---- what the program keeps in its data
+
+
+class Data(WithFile):
+    # Five functions, of which main alone is reached; the bytes at 1000a are zeros.
+    HALVES = RETURN + RETURN + RETURN + RETURN + RETURN + [0] + RETURN + RETURN
+
+    def test_arrays(self) -> None:
+        arrays = [Part(".init_array", INIT_ARRAY, ALLOC | WRITE, DATA_AT, words(0x10002, 0, -1)),
+                  Part(".fini_array", INIT_ARRAY + 1, ALLOC | WRITE, DATA_AT + 0x100, words(0x10003)),
+                  Part(".preinit_array", INIT_ARRAY + 2, ALLOC | WRITE, DATA_AT + 0x200, words(0x10004))]
+        path = self.elf_file([code(self.HALVES), *arrays])
+        self.assertEqual(self.added(path, "--arrays"), {0x10002: "entry_array_10002", 0x10004: "entry_array_10004"})
+        self.assertEqual(self.said_last[0], "arrays: 2 entries; left out: 1 no address of code")
+
+    def test_relocated_words(self) -> None:
+        parts = [code(self.HALVES), Part(".init_array", INIT_ARRAY, ALLOC | WRITE, DATA_AT, words(0)),
+                 Part(".data", flags=ALLOC | WRITE, address=DATA_AT + 0x100, data=words(0)),
+                 Part(".rela.dyn", RELA, ALLOC, 0x30000, words(DATA_AT, 3, 0x10002, DATA_AT + 0x100, 3, 0x10004, DATA_AT + 0x108, 58, 0x10006), entry_size=24)]
+        path = self.elf_file(parts)
+        self.assertEqual(self.added(path, "--arrays"), {0x10002: "entry_array_10002"})
+        self.assertEqual(set(self.added(path, "--pointers")), {0x10002, 0x10004, 0x10006})
+
+    def test_words_of_data(self) -> None:
+        # A pointer; what is at no multiple of eight bytes; a text; numbers of a table; zeros; inside an instruction.
+        halves = RETURN + RETURN + NOP + ROOM + RETURN + [0x6548, 0x6C6C, 0x006F] + [0] + RETURN * 3
+        data = words(0x10002, 0, 0x10006, 0x10008, 0, 0x1000C, 0, 0x10012, 0, 0x90000) + bytes(4) + words(0x10014)
+        path = self.elf_file([code(halves), Part(".data", flags=ALLOC | WRITE, address=DATA_AT, data=data), Part(".bss", NOBITS, ALLOC | WRITE, 0x40000)])
+        self.assertEqual(self.added(path, "--pointers"), {0x10002: "entry_ptr_10002"})
+
+    def test_made_addresses_until_nothing_is_new(self) -> None:
+        # main makes the address of a function and stores it, which calls through a word of data; what main loads from
+        # is no function.
+        main = address_of(A5, 0x10000, 0x10020) + address_of(A4, 0x10008, 0x10030) + load(A4, A4) + RETURN + NOP
+        second = address_of(A0, 0x10020, 0x10040) + RETURN + NOP
+        halves = (main + NOP * 16)[:16] + (second + NOP * 8)[:8] + RETURN * 8 + RETURN * 4
+        path = self.elf_file([code(halves)])
+        self.assertEqual(self.added(path, "--pointers"), {0x10020: "entry_made_10020", 0x10040: "entry_made_10040"})
+
+    def test_where_functions_do_not_begin(self) -> None:
+        # In the middle of straight code that is not reached; and where only a branch leads.
+        halves = RETURN + [0x0505] * 3 + RETURN + branch(0, A0, 0, 6) + NOP + RETURN
+        path = self.elf_file([code(halves), *symbols(2, ["main"], [0x1000A]), Part(".rodata", address=DATA_AT, data=words(0x10006, 0, 0x10010))])
+        self.assertEqual(self.added(path, "--pointers"), {})
+        self.assertIn("no code by the look of it", self.said_last[0])
+
+
+class Traces(WithFile):
+    # main calls through a register; 10010 is called so, and jumps to 10014 through one; 10018 is a handler.
+    HALVES = CALL_A5 + RETURN + NOP * 5 + JUMP_A5 + ROOM + RETURN * 4
+
+    def test_arrivals(self) -> None:
+        path = self.elf_file([code((CALL_A5 + RETURN + NOP * 13)[:8] + JUMP_A5 + ROOM[:2] + RETURN * 4)])
+        run = [0x10000, 0x10010, 0x10014, 0x10018, 0x10004, 0x1001A, 0x70000]
+        plain = self.file("trace.txt", "".join(f"{at:x}\n" for at in run).encode())
+        expected = {0x10010: "entry_trace_10010", 0x10014: "entry_trace_10014", 0x1001A: "entry_trace_1001a"}
+        self.assertEqual(self.added(path, "--trace", plain), expected)
+        log = "".join(f"Trace 0: 0x7f00 [0000000000000000/{at:016x}/00000000/ff000201] \n" for at in run)
+        self.assertEqual(self.added(path, "--trace", self.file("log", log.encode())), expected)
+        self.refused(path, "--trace", self.file("text", b"10000\nhello\n"), why="line 2: no address")
+        self.refused(path, "--trace", str(self.folder / "missing"), why="No such file")
+
+
+class Lists(WithFile):
+    def test_list(self) -> None:
+        path = self.elf_file([code(RETURN * 4)])
+        listed = self.file("list", b"# names and addresses\n10002\nother 0x10004\n\n10009 \n")
+        self.assertEqual(self.added(path, "--list", listed), {0x10002: "entry_list_10002", 0x10004: "other"})
+        self.refused(path, "--list", self.file("wrong", b"10002\nnot a line\n"), why="wrong: line 2")
+
+    def test_from(self) -> None:
+        parts = [code(RETURN * 2 + ROOM + RETURN)]
+        other = self.elf_file([code(RETURN * 2 + ROOM + RETURN), *symbols(2, ["main", "second", "third"], [0x10000, 0x10002, 0x10004])], "other")
+        self.assertEqual(self.added(self.elf_file(parts), "--from", other), {0x10002: "second", 0x10004: "third"})
+        changed = self.elf_file([code(RETURN * 2 + NOP + NOP + RETURN)])
+        self.assertEqual(self.added(changed, "--from", other), {})
+        self.assertIn("other code there", self.said_last[0])
+
+
+class Switches(WithFile):
+    """A loop with a switch, whose table's address is set in front of the loop."""
+
+    BOUND = 4
+
+    def program(self, width: int, spilled: bool = False, bounded: bool = True, flags: int = ALLOC, more: Sequence[Part] = ()) -> str:
+        shift = {4: 2, 8: 3}[width]
+        set_up = address_of(S1, 0x10000, DATA_AT)
+        set_up += immediate(0x13, 0, A1, 0, self.BOUND - 1) if bounded else immediate(0x13, 0, A1, 0, 1)
+        # The loop, at 1000c: the index in a0 is tested, moved up and added to the table's address.
+        test = branch(6, A1, A0, 0x44) if bounded else branch(0, A1, 0, 0x44)
+        loop = test + immediate(0x13, 1, A5, A0, shift) + add(A5, A5, S1)
+        loop += load_word(A5, A5) + add(A5, A5, S1) if width == 4 else load(A5, A5) + NOP * 2
+        loop += JUMP_A5
+        halves = set_up + loop
+        halves += NOP * (32 - len(halves))
+        # Four cases, which go on with the loop, and the default.
+        for place in range(0x10040, 0x1004C, 4):
+            halves += jump(0, 0x1000C - place)
+        halves += RETURN * 2 + RETURN * 2
+        cases = (0x10044, 0x10040, 0x1004C, 0x10048)
+        data = words(*cases) if width == 8 else struct.pack("<4i", *(case - DATA_AT for case in cases))
+        parts = [code(halves), *symbols(2, ["main", "next"], [CODE_AT, 0x10050]), Part(".data.rel.ro" if flags & WRITE else ".rodata", flags=flags, address=DATA_AT, data=data + bytes(8)), *more]
+        return self.elf_file(parts)
+
+    CASES = {0x10044: "case_main_0", 0x10040: "case_main_1", 0x1004C: "case_main_2", 0x10048: "case_main_3"}
+
+    def test_cases(self) -> None:
+        for width in (4, 8):
+            for bounded in (True, False):
+                with self.subTest(width=width, bounded=bounded):
+                    self.assertEqual(self.added(self.program(width, bounded=bounded), "--switches"), self.CASES)
+        self.assertEqual(self.added(self.program(8, flags=ALLOC | WRITE), "--switches"), self.CASES)
+
+    def test_what_can_be_written_is_no_table(self) -> None:
+        parts = [code(NOP * 4)]
+        elf = self.memory([*parts, Part(".data", flags=ALLOC | WRITE, address=DATA_AT, data=words(1)), Part(".data.rel.ro", flags=ALLOC | WRITE, address=0x30000, data=words(1))])
+        self.assertEqual([elf.is_read_only(at, 8) for at in (DATA_AT, 0x30000, 0x30008)], [False, True, False])
+
+
+# ---- the file that is written
+
+
+class Written(WithFile):
+    def test_nothing_else_changes(self) -> None:
+        for named, parts in (
+            ("no symbols", [code(RETURN * 4)]),
+            ("symbols", [code(RETURN * 4), *symbols(2, ["main", "other"], [0x10000, 0x10006])]),
+            ("names of sections in the table of names", [code(RETURN * 4), *symbols(2, ["main"], [0x10000])]),
+        ):
+            with self.subTest(named):
+                path = self.elf_file(parts)
+                if named.startswith("names"):
+                    data = bytearray(Path(path).read_bytes())
+                    struct.pack_into("<I", data, len(data) - 64 * 5 + 64 * 2 + 40, 4)
+                    path = self.file("shared", bytes(data))
+                known = {symbol.name: symbol.address for symbol in Memory(path).symbols()}
+                self.assertEqual(self.added(path, "--list", self.file("list", b"second 10002\n")), {0x10002: "second"})
+                before, after = Path(path).read_bytes(), (self.folder / "out").read_bytes()
+                self.assertEqual(before[:40], after[:40])
+                self.assertEqual(before[48:58], after[48:58])
+                self.assertEqual(before[62:], after[62:len(before)])
+                self.assert_sections_kept(path)
+                found = {symbol.name: symbol.address for symbol in Memory(str(self.folder / "out")).symbols()}
+                self.assertEqual(found, {**known, b"second": 0x10002})
+
+    def assert_sections_kept(self, path: str) -> None:
+        old, new = Memory(path), Memory(str(self.folder / "out"))
+        for section in old.sections:
+            other = new.sections[section.index]
+            if section.name not in (b".symtab", b".strtab", b".shstrtab"):
+                self.assertEqual(section, other)
+            else:
+                self.assertEqual(new.contents(other)[:section.size], old.contents(section))
+        self.assertEqual([section.name for section in new.sections[len(old.sections):]], [] if old.section(".symtab") else [b".strtab", b".symtab"])
+
+    def test_size_and_mode(self) -> None:
+        path = self.elf_file([code(RETURN * 4)])
+        os.chmod(path, 0o755)
+        self.added(path, "--list", self.file("list", b"10002"))
+        self.assertEqual(os.stat(self.folder / "out").st_mode & 0o777, 0o755)
+        import added_symbols
+        largest = added_symbols.LARGEST
+        self.addCleanup(setattr, added_symbols, "LARGEST", largest)
+        added_symbols.LARGEST = len(Path(path).read_bytes()) + 10
+        with self.assertRaises(ReportError):
+            added_symbols.with_symbols(Memory(path), [added_symbols.Entry(0x10002, b"a")])
+
+    @unittest.skipUnless(shutil.which("readelf"), "readelf is not installed")
+    def test_readelf(self) -> None:
+        path = self.elf_file([code(RETURN * 4), *symbols(2, ["main"], [0x10000])])
+        self.added(path, "--list", self.file("list", b"second 10002\nthird 10004"))
+
+        def said(option: str, which: str) -> List[str]:
+            done = subprocess.run(["readelf", option, which], capture_output=True, text=True, check=True)
+            self.assertEqual(done.stderr, "")
+            return [line.strip() for line in done.stdout.splitlines()]
+
+        out = str(self.folder / "out")
+        before, after = said("-sW", path), said("-sW", out)
+        self.assertEqual([line for line in after if line not in before and "FUNC" in line],
+                         ["2: 0000000000010002     0 FUNC    GLOBAL DEFAULT    1 second", "3: 0000000000010004     0 FUNC    GLOBAL DEFAULT    1 third"])
+        self.assertEqual([line for line in before if "FUNC" in line], [line for line in after if "main" in line])
+        kept = [line for line in said("-SW", path) if "] ." in line and "tab" not in line]
+        self.assertEqual(kept, [line for line in said("-SW", out) if "] ." in line and "tab" not in line])
+
+    @unittest.skipUnless(os.access(CFG, os.X_OK), "cfg is not built")
+    def test_cfg(self) -> None:
+        path = self.elf_file([code(RETURN + jump(RA, 6) + RETURN + RETURN), *symbols(2, ["main"], [0x10000])])
+        out = str(self.folder / "out")
+        done = self.run_script("add_entries", path, "-o", out, "--list", self.file("list", b"second 10002"), cfg=str(CFG))
+        self.assertEqual((done.returncode, done.stderr), (0, ""))
+        reports = []
+        for one in (path, out):
+            with cfg_report.opened(one, str(CFG)) as stream:
+                reports.append(cfg_report.load(stream))
+        self.assertEqual([function.entry for function in reports[0].functions], [0x10000])
+        self.assertEqual([(function.entry, function.name) for function in reports[1].functions], [(0x10000, b"main"), (0x10002, b"second"), (0x10008, None)])
+        self.assertTrue(reports[0].blocks.items() <= reports[1].blocks.items())
+
+
+class Refused(WithFile):
+    def test_bad_files(self) -> None:
+        good = file_of([code(RETURN * 4)])
+        bare = bytearray(good)
+        struct.pack_into("<QHHH", bare, 40, 0, 64, 0, 0)
+        struct.pack_into("<HHH", bare, 58, 0, 0, 0)
+        self.refused(self.file("text", b"hello"), why="no ELF file")
+        self.refused(self.file("short", good[:50]), why="no ELF file")
+        self.refused(self.file("cut", good[:-70]), why="broken ELF file")
+        self.refused(self.file("bare", bytes(bare)), why="no section headers")
+        self.refused(self.elf_file([code(RETURN * 4), code(RETURN * 4, 0x10004, ".more")]), why="status 2")
+        self.refused(str(self.folder / "missing"), why="No such file")
+        self.refused(str(self.folder), why="Is a directory")
+
+    def test_the_file_itself_is_not_overwritten(self) -> None:
+        path = self.elf_file([code(RETURN * 4)])
+        data = Path(path).read_bytes()
+        done = self.run_script("add_entries", path, "-o", path, cfg=str(small_elf.STAND_IN))
+        self.assertEqual((done.returncode, Path(path).read_bytes()), (2, data))
+        done = self.run_script("add_entries", path, "-o", str(self.folder / "no" / "out"), cfg=str(small_elf.STAND_IN))
+        self.assertEqual(done.returncode, 2)
+
+    def test_words(self) -> None:
+        self.assertEqual(self.run_script("add_entries", "--help").returncode, 0)
+        self.assertEqual(self.run_script("add_entries", "file").returncode, 2)
+
+    def test_default_sources(self) -> None:
+        path = self.elf_file([code(RETURN * 4), Part(".data", flags=ALLOC | WRITE, address=DATA_AT, data=words(0x10002))])
+        self.assertEqual(self.added(path), {0x10002: "entry_ptr_10002"})
+
+
+if __name__ == "__main__":
+    unittest.main()
