@@ -1,9 +1,11 @@
 #!/usr/bin/env python3
 """Reads the reports of `cfg`, of every kind, and checks them as it reads.
 
-    tools/cfg_report.py REPORT_OR_ELF
+    tools/cfg_report.py [--elf ELF [--tables]] [--sure] REPORT_OR_ELF
 
-says what kind of report it is, how much is in it, and what is wrong with it, if anything is.
+says what kind of report it is, how much is in it, and what is wrong with it, if anything is. With `--tables` it lists
+the jump tables: the address of each, the size of its entries, and by number which of them lead to which address; where
+that is outside the function symbol that holds the jump, it says so.
 
 For other scripts there are two ways to read. `read(stream)` gives the heading, each function, block and edge, and the
 end of a report one by one, and keeps none of them, so that a report of any size can be read. `load(stream)` keeps all
@@ -14,13 +16,14 @@ file.
 
 from __future__ import annotations
 
-import argparse
 import contextlib
 import os
 import re
 import subprocess
 import sys
-from typing import BinaryIO, Callable, Dict, Iterator, List, NamedTuple, NoReturn, Optional, Set, Tuple, Union
+from typing import BinaryIO, Callable, Dict, Iterable, Iterator, List, NamedTuple, NoReturn, Optional, Set, Tuple, Union
+
+import names
 
 TOP = os.path.dirname(os.path.dirname(os.path.abspath(__file__)))
 FIRST_LINE = b"cfg-report 2\n"
@@ -131,7 +134,7 @@ def address(value: int) -> str:
 
 def function_name(entry: int, name: Optional[bytes]) -> str:
     """What to call a function: its name, or its address."""
-    return f"{entry:x}" if name is None else name_field(name)
+    return f"{entry:x}" if name is None else names.shown(name_field(name))
 
 
 def _shown(line: bytes) -> str:
@@ -341,17 +344,25 @@ def read(stream: BinaryIO) -> Iterator[Item]:
 
 
 class Report:
-    """A whole report. What its kind leaves out is empty."""
+    """A whole report, of its parts. What its kind leaves out is empty."""
 
-    def __init__(self, stream: BinaryIO) -> None:
+    def __init__(self, items: Iterable[Item]) -> None:
         self.entry = 0
         self.kind = ""
         self.functions: List[Function] = []
         self.blocks: Dict[int, Block] = {}
         self.edges: List[Edge] = []
         self.edges_from: Dict[int, List[Edge]] = {}
-        for item in read(stream):
+        for item in items:
             self._keep(item)
+
+    def items(self) -> Iterator[Item]:
+        """All that the report has, in its order."""
+        yield Heading(self.entry)
+        yield from self.functions
+        yield from self.blocks.values()
+        yield from self.edges
+        yield End(self.kind)
 
     def _keep(self, item: Item) -> None:
         if isinstance(item, Edge):
@@ -400,12 +411,12 @@ def find_function(functions: List[Function], wanted: str) -> Function:
 
 def _is_named(function: Function, wanted: str) -> bool:
     name = function.name
-    return name is not None and wanted in (name_field(name), name.decode("utf-8", "replace"))
+    return name is not None and wanted in (name_field(name), name.decode("utf-8", "replace"), names.shown(name_field(name)))
 
 
 def load(stream: BinaryIO) -> Report:
     """A whole report."""
-    return Report(stream)
+    return Report(read(stream))
 
 
 def _unknown_places(report: Report) -> Iterator[str]:
@@ -556,19 +567,23 @@ def load_path(path: str) -> Report:
         return load(stream)
 
 
-def command(description: str) -> argparse.ArgumentParser:
-    """The words of a script, the first of which says what report to read."""
-    parser = argparse.ArgumentParser(description=description)
-    what = "a report, - for standard input, or an ELF file to run cfg on"
-    parser.add_argument("report", metavar="REPORT_OR_ELF", help=what)
-    return parser
-
-
 def main() -> int:
-    parser = command("Checks a report of cfg.")
-    path = parser.parse_args().report
-    report = load_path(path)
-    wrong = list(report.problems())
+    import reading
+    from tables import described_tables
+    parser = reading.command("Checks a report of cfg.", sure=True)
+    reading.add_elf(parser, "for --tables")
+    parser.add_argument("--tables", action="store_true", help="list jump tables, and which entries lead to which address")
+    words = parser.parse_args()
+    elf = reading.the_elf(words)
+    if words.tables and elf is None:
+        parser.error("--tables needs --elf")
+    report = reading.report(words, words.report, elf, whole=words.tables)
+    if words.tables:
+        assert elf is not None
+        for line in described_tables(elf, report):
+            print(line)
+        return 0
+    wrong = [] if words.edges or words.sure else list(report.problems())
     counts = f"{len(report.functions)} functions, {len(report.blocks)} blocks, {len(report.edges)} edges"
     print(f"a report of kind {report.kind}, entry {report.entry:x}: {counts}")
     for problem in wrong[:50]:
@@ -578,4 +593,6 @@ def main() -> int:
 
 
 if __name__ == "__main__":
-    run(main)
+    # The other modules know this one by its name, and so would have other classes than these.
+    import cfg_report
+    cfg_report.run(cfg_report.main)

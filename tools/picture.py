@@ -7,9 +7,13 @@ import os
 import shutil
 import subprocess
 import sys
-from typing import Iterable, List, Optional, Tuple
+import tempfile
+import textwrap
+import time
+from typing import Iterable, Optional, Tuple
 
 from cfg_report import ReportError
+from progress import Progress
 
 SOURCES = (".dot", ".gv")
 PICTURES = (".svg", ".png", ".pdf")
@@ -25,13 +29,19 @@ def left_lines(lines: Iterable[str]) -> str:
     return '"' + "".join(quoted(line)[1:-1] + "\\l" for line in lines) + '"'
 
 
+def wrapped(text: str, width: int) -> str:
+    """A text as a Graphviz string, in lines of so many characters where it has spaces."""
+    lines = textwrap.wrap(text, width, break_long_words=False, break_on_hyphens=False) or [""]
+    return '"' + "\\n".join(quoted(line)[1:-1] for line in lines) + '"'
+
+
 def graph(name: str, settings: Iterable[str], lines: Iterable[str]) -> str:
     return "\n".join([f"digraph {quoted(name)} {{", *(f"    {line};" for line in (*settings, *lines)), "}\n"])
 
 
 def add_out(parser: argparse.ArgumentParser) -> None:
     """The word that says where a picture goes."""
-    what = ".svg, .png, .pdf or .dot; without it Graphviz source on standard output"
+    what = "a file .svg, .png, .pdf or .dot, or a folder; without it Graphviz source on standard output"
     parser.add_argument("-o", dest="out", metavar="FILE", help=what)
 
 
@@ -59,8 +69,17 @@ def write(source: str, path: Optional[str]) -> None:
 def _draw(source: str, path: str, suffix: str) -> None:
     if shutil.which("dot") is None:
         raise ReportError(f"{path}: a picture needs dot, of the package graphviz; without it write {SOURCES[0]}")
-    with open(path, "wb") as file:
-        done = subprocess.run(["dot", f"-T{suffix[1:]}"], input=source.encode(), stdout=file, stderr=subprocess.PIPE)
-    if done.returncode != 0:
-        told: List[str] = done.stderr.decode(errors="replace").splitlines()
+    begun = time.monotonic()
+    progress = Progress(lambda: f"dot has been at work for {time.monotonic() - begun:.0f} seconds")
+    with open(path, "wb") as file, tempfile.TemporaryFile() as given:
+        given.write(source.encode())
+        given.seek(0)
+        with subprocess.Popen(["dot", f"-T{suffix[1:]}"], stdin=given, stdout=file, stderr=subprocess.PIPE) as run:
+            told = None
+            while told is None:
+                try:
+                    told = run.communicate(timeout=0.5)[1].decode(errors="replace").splitlines()
+                except subprocess.TimeoutExpired:
+                    progress.step()
+    if run.returncode != 0:
         raise ReportError(f"{path}: dot failed: {told[0] if told else 'it says nothing'}")

@@ -1,0 +1,232 @@
+"""Questions about a report, each answered by objects, for JSON, with a line of text each."""
+
+from __future__ import annotations
+
+from typing import Any, Dict, Iterator, List, NamedTuple, Optional, Set, Tuple
+
+import cfg_report
+from body import Body
+from cfg_report import Block, Edge, Function, Report, ReportError, address, function_name
+from changed_graph import Places
+from elf_file import Elf
+from traced_run import Trace
+
+OPEN_KINDS = ("icall", "unknown", "table-open", "table-cut")
+
+
+class Answer(NamedTuple):
+    """One of the answers to a question."""
+
+    text: str
+    fields: Dict[str, Any]
+
+
+class Questions:
+    """A report that is asked."""
+
+    def __init__(self, report: Report, elf: Optional[Elf] = None) -> None:
+        self.report, self.elf = report, elf
+        self.places = Places(report)
+        self.functions = {function.entry: function for function in report.functions}
+        self.homes: Dict[int, List[Function]] = {}
+        for function in report.functions:
+            for start in function.blocks:
+                self.homes.setdefault(start, []).append(function)
+
+    def function(self, wanted: str) -> Function:
+        """The function of a name, or at an address or around it."""
+        try:
+            return self.report.function(wanted)
+        except ReportError:
+            block = self.places.of(int(wanted, 16)) if all(digit in "0123456789abcdefABCDEF" for digit in wanted) else None
+            if block is None:
+                raise
+            return max(self.homes[block.start], key=lambda one: (one.entry <= block.start, one.entry))
+
+    def name(self, entry: int) -> str:
+        function = self.functions.get(entry)
+        if function is not None:
+            return function_name(entry, function.name)
+        return self.elf.place(entry) if self.elf else f"{entry:x}"
+
+    def ways_out(self, function: Function) -> Iterator[Edge]:
+        """The edges from a function into others, and its calls of itself."""
+        for start in function.blocks:
+            for edge in self.report.edges_from.get(start, []):
+                if edge.kind == "call" or edge.to in self.functions and edge.to != function.entry:
+                    yield edge
+
+    # ---- the questions
+
+    def callees(self, wanted: str) -> Iterator[Answer]:
+        function = self.function(wanted)
+        for edge in self.ways_out(function):
+            yield self._way(edge.to, edge)
+        for start in function.blocks:
+            kind = self.report.blocks[start].kind
+            if kind in ("icall", "unknown"):
+                fields = {"function": None, "kind": kind, "block": address(start)}
+                yield Answer(f"not known: {kind} from the block at {start:x}", fields)
+
+    def callers(self, wanted: str) -> Iterator[Answer]:
+        entry = self.function(wanted).entry
+        for function in self.report.functions:
+            for edge in self.ways_out(function):
+                if edge.to == entry:
+                    yield self._way(function.entry, edge)
+
+    def _way(self, entry: int, edge: Edge) -> Answer:
+        """A function that an edge leads to, or comes from."""
+        name = self.name(entry)
+        fields = {"function": name, "entry": address(entry), "kind": edge.kind, "block": address(edge.source)}
+        return Answer(f"{name} at {entry:x}, {edge.kind} from the block at {edge.source:x}", fields)
+
+    def where(self, at: int) -> Iterator[Answer]:
+        block = self.places.of(at)
+        if block is None:
+            near = f", in the symbol {self.elf.place(at)}" if self.elf and self.elf.owner(at) else ""
+            yield Answer(f"{at:x} is in no block{near}", {"address": address(at), "block": None})
+            return
+        for function in self.homes[block.start]:
+            name = self.name(function.entry)
+            where = f"in the block from {block.start:x} to {block.end:x}, which ends with {block.kind}"
+            yield Answer(f"{at:x} is in {name} at {function.entry:x}, {where}",
+                         {"address": address(at), "function": name, "entry": address(function.entry),
+                          "block": address(block.start), "end": address(block.end), "kind": block.kind})
+
+    def reach(self, wanted: str, target: Optional[str], backwards: bool) -> Iterator[Answer]:
+        """The functions that one reaches, or that reach it; or the shortest way from one to another."""
+        onward: Dict[int, List[int]] = {}
+        for function in self.report.functions:
+            for edge in self.ways_out(function):
+                one, other = (edge.to, function.entry) if backwards else (function.entry, edge.to)
+                onward.setdefault(one, []).append(other)
+        start = self.function(wanted).entry
+        before: Dict[int, Optional[int]] = {start: None}
+        layer = [start]
+        while layer:
+            new = []
+            for one in layer:
+                for to in onward.get(one, ()):
+                    if to not in before:
+                        before[to] = one
+                        new.append(to)
+            layer = new
+        if target is None:
+            for entry in sorted(before.keys() - {start}):
+                yield Answer(f"{self.name(entry)} at {entry:x}", {"function": self.name(entry), "entry": address(entry)})
+            return
+        end = self.function(target).entry
+        chain: List[int] = []
+        at: Optional[int] = end if end in before else None
+        while at is not None:
+            chain.insert(0, at)
+            at = before[at]
+        names = [self.name(entry) for entry in chain]
+        none = f"no way from {self.name(start)} to {self.name(end)}"
+        text = " -> ".join(names) if chain else none + self._open(before.keys())
+        yield Answer(text, {"reaches": bool(chain), "way": names, "entries": [address(entry) for entry in chain]})
+
+    def _open(self, entries: Any) -> str:
+        """What may hide a way: how many functions that are reached go on through a register."""
+        is_open = {start for start, block in self.report.blocks.items() if block.kind in ("icall", "unknown")}
+        count = sum(not is_open.isdisjoint(self.functions[entry].blocks) for entry in entries)
+        return f" is known; {count} functions on the way call or jump through a register" if count else ""
+
+    def no_return(self, wanted: Optional[str]) -> Iterator[Answer]:
+        functions = [self.function(wanted)] if wanted else [one for one in self.report.functions if not one.may_return]
+        for function in functions:
+            name = self.name(function.entry)
+            fields = {"function": name, "entry": address(function.entry), "may_return": function.may_return}
+            why = [] if function.may_return else self._why_not(function)
+            text = f": {'; '.join(why)}" if why else " may return"
+            yield Answer(f"{name} at {function.entry:x}{text}", {**fields, **({"why": why} if why else {})})
+
+    def _why_not(self, function: Function) -> List[str]:
+        """How the ways of a function end that does not return."""
+        found: List[str] = []
+        for start in function.blocks:
+            block, edges = self.report.blocks[start], self.report.edges_from.get(start, [])
+            if block.kind == "stop":
+                found.append(f"stops at {start:x}")
+            elif block.kind in ("call", "icall") and all(edge.kind == "call" for edge in edges):
+                callee = f"{self.name(edges[0].to)}, which does not return" if edges else "what is not known"
+                found.append(f"calls {callee}, at {start:x}")
+            for edge in edges:
+                if edge.kind != "call" and edge.to in self.functions and edge.to != function.entry:
+                    found.append(f"goes on to {self.name(edge.to)}, which does not return, at {start:x}")
+        body = Body(self.report, function)
+        for loop in body.loops():
+            edges = [edge for start in loop.blocks for edge in self.report.edges_from.get(start, [])]
+            if loop.depth == 0 and all(edge.kind == "call" or edge.to in loop.blocks for edge in edges):
+                found.append(f"loops for ever at {min(loop.entries):x}")
+        return found[:6] + ([f"and {len(found) - 6} more"] if len(found) > 6 else [])
+
+    def loops(self, wanted: str) -> Iterator[Answer]:
+        for loop in Body(self.report, self.function(wanted)).loops():
+            entries = ", ".join(f"{start:x}" for start in sorted(loop.entries))
+            kind = "" if len(loop.entries) == 1 else ", irreducible"
+            yield Answer(f"{'    ' * loop.depth}loop at {entries}: {len(loop.blocks)} blocks{kind}",
+                         {"entries": [address(start) for start in sorted(loop.entries)], "depth": loop.depth,
+                          "blocks": [address(start) for start in sorted(loop.blocks)]})
+
+    def dominators(self, wanted: str) -> Iterator[Answer]:
+        body = Body(self.report, self.function(wanted))
+        found = body.dominators()
+        depth = {body.entry: 0}
+        yield Answer(f"{body.entry:x}", {"block": address(body.entry), "dominator": None})
+        for start in self._below(found, body.entry):
+            depth[start] = depth[found[start]] + 1
+            yield Answer(f"{'  ' * depth[start]}{start:x}", {"block": address(start), "dominator": address(found[start])})
+
+    def _below(self, dominators: Dict[int, int], entry: int) -> Iterator[int]:
+        """The blocks of the tree of dominators, each behind its own."""
+        children: Dict[int, List[int]] = {}
+        for start, dominator in dominators.items():
+            children.setdefault(dominator, []).append(start)
+        left = sorted(children.get(entry, ()), reverse=True)
+        while left:
+            start = left.pop()
+            yield start
+            left += sorted(children.get(start, ()), reverse=True)
+
+    def open_ways(self, trace: Trace) -> Iterator[Answer]:
+        """Where a trace went from the blocks whose ways on are not known."""
+        found: Set[Tuple[int, int]] = set()
+        ends: Dict[int, Tuple[Optional[Block], range]] = {}
+        before: Optional[int] = None
+        seen: Set[Tuple[int, int]] = set()
+        for step in trace.steps():
+            pair = (before, step.address) if before is not None else None
+            before = step.address
+            if pair is None or pair in seen:
+                continue
+            seen.add(pair)
+            if pair[0] not in ends:
+                ends[pair[0]] = self._end(pair[0])
+            block, straight = ends[pair[0]]
+            if block is not None and step.address not in straight:
+                known = {edge.to for edge in self.report.edges_from.get(block.start, []) if edge.kind != "after"}
+                if step.address not in known and (block.start, step.address) not in found:
+                    found.add((block.start, step.address))
+        for start, to in sorted(found):
+            block = self.report.blocks[start]
+            what = f"{block.kind} in {self.name(self.homes[start][0].entry)}, to {self._place(to)}"
+            fields = {"from": address(start), "to": address(to), "block_kind": block.kind}
+            yield Answer(f"{start:x} {to:x}  # {what}", fields)
+
+    def _place(self, at: int) -> str:
+        block = self.places.of(at)
+        if self.elf is not None:
+            return self.elf.place(at) + ("" if block else ", in no block")
+        return self.name(self.homes[block.start][0].entry) if block else "in no block"
+
+    def _end(self, at: int) -> Tuple[Optional[Block], range]:
+        """The block whose way on is not known to which control goes straight on from an address, if it does; and the
+        addresses behind that one up to its end."""
+        block = self.places.of(at)
+        if block is not None and block.start != at and not block.start < at < block.end:
+            block = None
+        while block is not None and block.kind == "fall":
+            block = self.report.blocks.get(block.end)
+        return (block, range(at + 1, block.end)) if block is not None and block.kind in OPEN_KINDS else (None, range(0))
