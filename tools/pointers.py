@@ -129,4 +129,4 @@ def is_text(elf: Memory, address: int) -> bool:
     at = section.offset + address - section.address
     data = elf.data[at:min(at + 64, section.offset + section.size)]
     text = data.split(b"\0")[0]
-    return len(text) < len(data) and all(0x20 <= byte < 0x7F or byte in b"\t\n\r\x1b" for byte in text) or not data
+    return 2 <= len(text) < len(data) and all(0x20 <= byte < 0x7F or byte in b"\t\n\r\x1b" for byte in text)

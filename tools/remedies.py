@@ -62,6 +62,11 @@ class Remedies:
         self._is_all = size_of(reached) >= sum(section.size for section in elf.code)
         self._pointers = any(map(self._reached.begins, apart(pointers_in_data(elf), reached)))
 
+    def text(self, block: Block) -> str:
+        """The end of a line that names it."""
+        remedy = self.of(block)
+        return f"; try add_entries with {remedy}" if remedy else ""
+
     def of(self, block: Block) -> Optional[str]:
         """The source of entries that brings what a block leads to into the report, if one does."""
         switch = self._switches.get(block.start)
