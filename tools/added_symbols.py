@@ -11,7 +11,7 @@ import os
 import shutil
 import struct
 import tempfile
-from typing import Dict, Iterable, Iterator, List, NamedTuple, Tuple
+from typing import Iterable, Iterator, List, NamedTuple, Tuple
 
 from cfg_report import ReportError
 from elf_memory import ALLOC, SECTION_SIZE, STRTAB, SYMBOL_SIZE, SYMTAB, Memory, Section

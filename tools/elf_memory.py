@@ -170,6 +170,9 @@ class Memory:
         if names < len(raw):
             strings = data[raw[names][4]:raw[names][4] + raw[names][5]]
         self.sections = [Section(i, _text(strings, one[0]), *one[1:]) for i, one in enumerate(raw)]
+        for one in self.sections:
+            if one.kind not in (0, NOBITS) and one.offset + one.size > len(data):
+                raise ReportError(f"{self.path}: section {one.index} does not lie in the file")
         self.code = sorted((one for one in self.sections if one.is_code and one.size), key=lambda one: one.address)
         self._code_starts = [one.address for one in self.code]
         tls = 0x400

@@ -4,7 +4,6 @@ language-specific data that they name (LSB Core, "Exception Frames"; DWARF 5, se
 
 from __future__ import annotations
 
-import struct
 from typing import Dict, Iterator, List, NamedTuple, Optional, Tuple
 
 from cfg_report import ReportError

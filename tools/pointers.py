@@ -7,7 +7,7 @@ import sys
 from typing import Dict, Iterable, Iterator, List, Set, Tuple
 
 from decoding import CALLER_SAVED, LOAD_SIZES, STORES, Insn
-from elf_memory import ALLOC, FINI_ARRAY, INIT_ARRAY, NOBITS, PREINIT_ARRAY, PROGBITS, Memory, Section
+from elf_memory import FINI_ARRAY, INIT_ARRAY, PREINIT_ARRAY, PROGBITS, Memory, Section
 from reached import APART, Reached
 
 ARRAYS = (PREINIT_ARRAY, INIT_ARRAY, FINI_ARRAY)

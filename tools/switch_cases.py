@@ -63,6 +63,7 @@ class Switches:
         report = reached.report
         self._blocks = report.blocks
         self._entries = {function.entry for function in report.functions} - came_from.keys()
+        self._rising = sorted(self._entries)
         self._before: Dict[int, List[Tuple[int, str]]] = {}
         for edge in report.edges:
             if edge.kind != "call":
@@ -70,6 +71,7 @@ class Switches:
         for case, block in came_from.items():
             if block in self._blocks:
                 self._before.setdefault(case, []).append((block, "table"))
+        self._held: Dict[Tuple[int, int], Sum] = {}
         self._listed: Dict[int, List[Tuple[int, Insn]]] = {}
         self._stores: Dict[int, Optional[Dict[int, Tuple[int, int]]]] = {}
 
@@ -82,10 +84,9 @@ class Switches:
                 if found:
                     tables.append((block, *found))
         bases = {table for _, _, table, *_ in tables}
-        bounds = sorted(self._entries)
         for block, jump, table, width, start, index in tables:
             bound = self._bound(block, index)
-            cases = self._cases(jump, table, width, start, bound, bases, bounds)
+            cases = self._cases(jump, table, width, start, bound, bases)
             if cases:
                 yield Switch(block, jump, table, width, bound, tuple(cases))
 
@@ -110,29 +111,37 @@ class Switches:
             address, insn = self._instructions(start)[at]
             if insn.rd == register:
                 return self._result(start, at, address, insn, depth)
+        if (start, register) not in self._held:
+            self._held[start, register] = unknown("itself", start, register)
+            self._held[start, register] = self._held_at(start, register, depth)
+        return self._held[start, register]
+
+    def _held_at(self, start: int, register: int, depth: int) -> Sum:
+        """What a register holds where a block begins."""
         if depth > DEEPEST:
             return unknown("deep", start, register)
-        writers = self._writers(start, register)
-        values = {self._result(*writer, depth + 1) for writer in writers if writer[3]}
-        if len(values) == 1:
-            only = values.pop()
-            # A constant is taken also where code that never goes on, as behind a call that does not return, seems to lead here
-            # from another function.
-            if not only.terms or all(writer[3] for writer in writers):
+        # Tables without a bound, and calls that do not return, seem to lead here from other functions too.
+        for near in (True, False):
+            writers = self._writers(start, register, near)
+            values = {self._result(*writer, depth + 1) for writer in writers if writer[3]}
+            only = values.pop() if len(values) == 1 else None
+            if only is not None and (not only.terms or all(writer[3] for writer in writers)):
                 return only
         return unknown("several", frozenset(writers), register)
 
-    def _writers(self, start: int, register: int) -> Set[Tuple[int, int, int, Optional[Insn]]]:
-        """The instructions that may have set a register where a block begins. One without an instruction stands for the
-        caller of a function, or for a call that does not keep the register."""
+    def _writers(self, start: int, register: int, near: bool) -> Set[Tuple[int, int, int, Optional[Insn]]]:
+        """The instructions that may have set a register where a block begins, in the same function if `near`. One without an
+        instruction stands for the caller of a function, or for a call that does not keep the register."""
         found: Set[Tuple[int, int, int, Optional[Insn]]] = set()
+        low, high = self._extent(start) if near else (0, 2**64)
         seen, left = {start}, [start]
         while left and len(seen) < MOST_BLOCKS:
             block = left.pop()
-            if block in self._entries or not self._before.get(block):
+            before = [way for way in self._before.get(block, []) if low <= way[0] < high]
+            if block in self._entries or not before:
                 found.add((block, 0, block, None))
                 continue
-            for source, kind in self._before[block]:
+            for source, kind in before:
                 if kind == "after" and register in CALLER_SAVED:
                     found.add((source, 0, source, None))
                 elif source not in seen:
@@ -143,6 +152,11 @@ class Switches:
                     else:
                         left.append(source)
         return found
+
+    def _extent(self, address: int) -> Tuple[int, int]:
+        """From the entry before an address up to the next one."""
+        place = bisect.bisect_right(self._rising, address)
+        return (self._rising[place - 1] if place else 0), (self._rising[place] if place < len(self._rising) else 2**64)
 
     def _last_writer(self, start: int, register: int) -> Optional[Tuple[int, int, int, Optional[Insn]]]:
         listed = self._instructions(start)
@@ -239,11 +253,9 @@ class Switches:
             return None
         return jump, place.constant, width, target.constant, index[0]
 
-    def _cases(self, jump: int, table: int, width: int, start: int, bound: Optional[int], bases: Set[int], entries: List[int]) -> List[int]:
+    def _cases(self, jump: int, table: int, width: int, start: int, bound: Optional[int], bases: Set[int]) -> List[int]:
         """Where the entries of a table lead, up to its bound, or without one as long as they lead into the function."""
-        place = bisect.bisect_right(entries, jump)
-        low = entries[place - 1] if place else 0
-        high = entries[place] if place < len(entries) else 2**64
+        low, high = self._extent(jump)
         found: List[int] = []
         for number in range(MOST_CASES if bound is None else bound):
             at = table + width * number

@@ -8,7 +8,7 @@ import struct
 import subprocess
 import unittest
 from pathlib import Path
-from typing import Dict, List, Optional, Sequence, Tuple
+from typing import Dict, List, Sequence, Tuple
 
 import rows
 import cfg_report
@@ -16,7 +16,7 @@ import small_elf
 from cfg_report import ReportError
 from elf_memory import Memory
 from frames import Frame, frames, landing_pads
-from hostile import BREAK, NOP, RETURN, Halves, add, branch, immediate, jump, short_jump, upper
+from hostile import NOP, RETURN, Halves, add, branch, immediate, jump, short_jump, upper
 from small_elf import ALLOC, CODE_AT, DATA_AT, INIT_ARRAY, NOBITS, RELA, WRITE, Part, code, file_of, symbols, words
 from test_tools import InFolder
 
@@ -266,11 +266,44 @@ class Data(WithFile):
         self.assertIn("no code by the look of it", self.said_last[0])
 
 
-class Traces(WithFile):
-    # main calls through a register; 10010 is called so, and jumps to 10014 through one; 10018 is a handler.
-    HALVES = CALL_A5 + RETURN + NOP * 5 + JUMP_A5 + ROOM + RETURN * 4
+class Gaps(WithFile):
+    def test_code_between_what_is_reached(self) -> None:
+        # main calls 10010. Nothing leads to 10008, 1000c and 10012; a text at 10016, and a word that is no instruction.
+        halves = jump(RA, 16) + RETURN + NOP + ROOM + RETURN + NOP + RETURN + [0x0505] + RETURN + [0x6548, 0x6C6C, 0x006F]
+        path = self.elf_file([code(halves + [0xFFFF, 0xFFFF])])
+        self.assertEqual(self.added(path, "--gaps"), {0x10008: "entry_gap_10008", 0x10012: "entry_gap_10012"})
+        self.assertEqual(self.added(path, "--pointers"), {})
 
+
+class Named(WithFile):
+    """What summary and unresolved say of the sources."""
+
+    def said_of(self, script: str, path: str) -> str:
+        report = self.file("report", subprocess.run([small_elf.STAND_IN, path], capture_output=True, check=True).stdout)
+        done = self.run_script(script, *(["--elf", path, report] if script == "summary" else [path, report]))
+        self.assertEqual((done.returncode, done.stderr), (0, ""))
+        return done.stdout
+
+    def test_summary(self) -> None:
+        halves = CALL_A5 + RETURN * 4
+        data = [Part(".data", flags=ALLOC | WRITE, address=DATA_AT, data=words(0x10006)), Part(".init_array", INIT_ARRAY, ALLOC | WRITE, 0x30000, words(0x10008))]
+        path = self.elf_file([code(halves), *data])
+        self.assertIn("code 12 bytes, reached 6 (50.0 %), in 1 ranges not reached 6; to reach more: tools/add_entries --arrays (1 not reached)"
+                      " --pointers (2 not reached) --switches --trace FILE\n", self.said_of("summary", path))
+        self.assertNotIn("to reach more", self.said_of("summary", self.elf_file([code(RETURN)])))
+
+    def test_unresolved(self) -> None:
+        path = self.elf_file([code(CALL_A5 + RETURN * 4)])
+        self.assertIn("; try add_entries with --trace", self.said_of("unresolved", path))
+        path = self.elf_file([code(CALL_A5 + RETURN * 4), Part(".data", flags=ALLOC | WRITE, address=DATA_AT, data=words(0x10006))])
+        self.assertIn("; try add_entries with --pointers, --trace", self.said_of("unresolved", path))
+        self.assertNotIn("try add_entries", self.said_of("unresolved", self.elf_file([code(CALL_A5 + RETURN)])))
+        self.assertIn("; try add_entries with --switches, 4 cases that are not reached", self.said_of("unresolved", Switches.program(self, 4)))  # type: ignore[arg-type]
+
+
+class Traces(WithFile):
     def test_arrivals(self) -> None:
+        # main calls through a register; 10010 is called so, and jumps to 10014 through one; 1001a is a handler.
         path = self.elf_file([code((CALL_A5 + RETURN + NOP * 13)[:8] + JUMP_A5 + ROOM[:2] + RETURN * 4)])
         run = [0x10000, 0x10010, 0x10014, 0x10018, 0x10004, 0x1001A, 0x70000]
         plain = self.file("trace.txt", "".join(f"{at:x}\n" for at in run).encode())
@@ -301,12 +334,10 @@ class Lists(WithFile):
 class Switches(WithFile):
     """A loop with a switch, whose table's address is set in front of the loop."""
 
-    BOUND = 4
-
-    def program(self, width: int, spilled: bool = False, bounded: bool = True, flags: int = ALLOC, more: Sequence[Part] = ()) -> str:
+    def program(self, width: int, bounded: bool = True, flags: int = ALLOC, more: Sequence[Part] = ()) -> str:
         shift = {4: 2, 8: 3}[width]
         set_up = address_of(S1, 0x10000, DATA_AT)
-        set_up += immediate(0x13, 0, A1, 0, self.BOUND - 1) if bounded else immediate(0x13, 0, A1, 0, 1)
+        set_up += immediate(0x13, 0, A1, 0, 3) if bounded else immediate(0x13, 0, A1, 0, 1)
         # The loop, at 1000c: the index in a0 is tested, moved up and added to the table's address.
         test = branch(6, A1, A0, 0x44) if bounded else branch(0, A1, 0, 0x44)
         loop = test + immediate(0x13, 1, A5, A0, shift) + add(A5, A5, S1)

@@ -46,6 +46,14 @@ class Recipes(unittest.TestCase):
                 self.assertEqual(self.run_recipe(code), self.SAID[word])
 
 
+class Sources(unittest.TestCase):
+    def test_each_source_of_entries_is_in_the_table(self) -> None:
+        done = subprocess.run([sys.executable, "-B", str(rows.TOOLS / "add_entries"), "--help"], capture_output=True, text=True)
+        options = set(re.findall(r"^  (--[a-z-]+)", done.stdout, re.MULTILINE)) - {"--keep-overlaps"}
+        self.assertEqual(options, set(re.findall(r"^\| `(--[a-z-]+)(?: [A-Z0-9]+)?` \|", PAGE, re.MULTILINE)))
+        self.assertIn("--keep-overlaps", PAGE)
+
+
 class JsonLines(unittest.TestCase):
     def test_example(self) -> None:
         shown, = blocks("json")
