@@ -9,6 +9,6 @@ slot_at i = 0x10000 + 128 * i
 abbrev pub table_at : ℕ → ℕ
 table_at j = 0x2000000 + 16 * j
 
--- the slot that is called for function i: slot n where there is no function i
+-- the slot that is called for function i: slot n if there is no function i
 abbrev pub callee : ℕ → ℕ → ℕ
 callee n i = if nat_lt i n then i else n

@@ -38,7 +38,7 @@ jumping_body i j =
     ++ (0x00251513 ∷ 0x00E50533 ∷ 0x00052783 ∷ 0x00E787B3 ∷ 0x00078067 ∷ [])
     ++ (0x00008067 ∷ 0x00008067 ∷ 0x00100513 ∷ 0x00008067 ∷ [])
 
--- what function i has behind its two calls, from offset 16 on
+-- what function i has after its two calls, from offset 16 on
 abbrev pub body : ℕ → ℕ → List ℕ
 body n i =
     if i % 4 == 0 then counting_body

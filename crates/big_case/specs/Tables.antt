@@ -10,7 +10,7 @@ use Rattle.big_case.specs.Places.{slot_at, table_at}
 abbrev pub table_entry : ℕ → ℕ → ℕ
 table_entry j offset = (2 ^ 32 + (slot_at (4 * j + 3) + offset) - table_at j) % 2 ^ 32
 
--- the entries of table j: the four instructions behind the jump through it
+-- the entries of table j: the four instructions after the jump through it
 abbrev pub table : ℕ → List ℕ
 table j = table_entry j 52 ∷ table_entry j 56 ∷ table_entry j 60 ∷ table_entry j 64 ∷ []
 

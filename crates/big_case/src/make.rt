@@ -31,14 +31,15 @@ fn parts_of(alloc: Global, n: u32) -> Result<Parts, Memory>
     })
 }
 
-/// An executable of `n` functions, each in 128 bytes of code: function `i` calls the functions
-/// `2 i + 1` and `2 i + 2`, where they are there, and has by `i` modulo 4 a loop, a longer loop, a
-/// branch round a call that does not return, or a jump through a table of four entries. Behind
-/// them stand a function that returns, which is called in place of those that are not there, and
-/// one that loops without end. The file has no symbols.
+/// An executable of `n` functions, each in 128 bytes of code. Function `i` calls the functions `2 i
+/// + 1` and `2 i + 2`, if they are below `n`. By `i` modulo 4 it has a loop, a longer loop, a
+/// branch round a call that does not return, or a jump through a table of four entries. After them
+/// stand a function that returns, which is called instead of a missing one, and one that loops
+/// without end. The file has no symbols.
 ///
-/// It takes time and memory linear in `n`: at 100,000 the code has 12,800,256 bytes and the
-/// read-only data 400,000. The only error is that memory ran out.
+/// For `n` = 100,000 the code has 12,800,256 bytes and the read-only data 400,000. The only error
+/// is that memory ran out.
+/// Time: O(n). Memory: O(n).
 pub fn big_file(alloc: Global, n: u32) -> Result<Vec<u8>, Memory>
     requires least { 4 ≤ n }
     requires most { n ≤ 100000 }

@@ -1,6 +1,6 @@
-//! Two instructions that reach an address by its distance: AUIPC adds the upper part to the program
-//! counter, and the second instruction adds the rest, which has twelve bits and a sign (RISC-V
-//! psABI, "PC-Relative Symbol Addresses").
+//! Two instructions that reach an address by its distance. AUIPC adds the upper part to the program
+//! counter. The second instruction adds the rest, a signed number of twelve bits (RISC-V psABI,
+//! "PC-Relative Symbol Addresses").
 
 ghost use Rattle.std.specs.Prelude.{◌≡◌, ◌^◌, ◌<◌};
 ghost use Rattle.big_case.specs.Pair.{first_word, second_word};

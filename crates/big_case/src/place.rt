@@ -31,7 +31,7 @@ pub(crate) fn table_at(j: u32) -> u32
     RODATA_AT + TABLE_SIZE * j
 }
 
-/// The slot that is called for slot `i` of a program of `n` functions: slot `n` where there is no
+/// The slot that is called for slot `i` of a program of `n` functions: slot `n` if there is no
 /// function `i`.
 pub(crate) fn callee(n: u32, i: u32) -> u32
     ensures { result ≡ callee n i }

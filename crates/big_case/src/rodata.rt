@@ -18,7 +18,7 @@ fn table_entry(j: u32, offset: u32) -> u32
     (slot_at(4 * j + 3) + offset).wrapping_sub(table_at(j))
 }
 
-/// The entries of table `j`: the four instructions behind the jump through it.
+/// The entries of table `j`: the four instructions after the jump through it.
 fn table_of(j: u32) -> [u32; 4]
     requires { j < 25000 }
     ensures { result ≡ table j }

@@ -1,8 +1,7 @@
 -- What an input has opened.
 use Rattle.std.specs.Prelude.{◌≢◌, ℕ, List, Bool, Option, Some, None, if◌then◌else◌}
 
--- nothing, or something and, where the input tells it, the path that was given to the successful
--- open
+-- nothing, or something and, if the input tells it, the path that was given to the successful open
 pub data Opened : Type 0 where
   Nothing : Opened
   Something : Option (List ℕ) → Opened
@@ -11,6 +10,6 @@ pub data Opened : Type 0 where
 abbrev pub IsOpened : Opened → Type 0
 IsOpened o = o ≢ Nothing
 
--- the path, where the input tells paths
+-- the path, if the input tells paths
 abbrev pub told_path : Bool → List ℕ → Option (List ℕ)
 told_path tells path = if tells then Some path else None

@@ -7,7 +7,7 @@ pub record SafeInputState : Type 0 where
   pub rest : List ℕ
   pub is_open : Bool
 
--- nothing, or something whose path is not told
+-- nothing, or something whose path is unknown
 abbrev pub opened_of : SafeInputState → Opened
 opened_of s = if s.is_open then Something None else Nothing
 

@@ -9,19 +9,19 @@ use crate::Failed;
 
 /// A source of bytes that is opened once, by a path, and then read from front to back.
 ///
-/// What it means is told by four ghost members. Which paths and bytes it tells never changes.
+/// Four ghost members say what it means. Which paths and bytes it tells never changes.
 pub trait Input {
     /// How often the input has failed: a number that never falls, and stays at 2^64 - 1 once it is
     /// there.
     ghost faults: { Self → ℕ };
 
-    /// Whether something is opened and, where the input tells it, by which path.
+    /// Whether something is opened and, if the input tells it, by which path.
     ghost opened: { Self → Opened };
 
     /// Whether the input tells the path that it was opened by.
     ghost tells_path: { Self → Bool };
 
-    /// The bytes still to be read, where the input tells them.
+    /// The bytes still to be read, if the input tells them.
     ghost rest: { Self → Option (List ℕ) };
 
     /// Opens what is at `path`, while nothing is opened.

@@ -5,9 +5,9 @@
 //! say that a failure came from outside and was not made up. [`read_whole`] and [`write_whole`] go
 //! on until all is read or written, or a call fails.
 //!
-//! [`MemInput`] and [`MemSink`] are in memory and fail at the calls that they are told to;
-//! [`SafeInput`] and [`CountSink`] never fail, and so no call over them has a fault to answer;
-//! [`FileInput`] and [`StdSink`] stand on std's files and writers.
+//! [`MemInput`] and [`MemSink`] are in memory and fail at given calls. [`SafeInput`] and
+//! [`CountSink`] never fail, so no call over them has a fault to answer. [`FileInput`] and
+//! [`StdSink`] stand on std's files and writers.
 #![tactic(auto)]
 
 mod count_sink;

@@ -48,11 +48,10 @@ impl Model for MemInput {
 }
 
 impl MemInput {
-    /// An input with these bytes, of which it gives at most `most` per read, at least 1. Nothing is
-    /// opened.
+    /// An input with these bytes. It gives at most `most` bytes per read, and at least 1. Nothing
+    /// is opened.
     ///
-    /// A call fails exactly where its number is in `failing`, or it is an `open` of another path
-    /// than
+    /// A call fails exactly if its number is in `failing`, or it is an `open` of another path than
     /// `name`.
     pub fn new(name: String, bytes: Vec<u8>, most: usize, failing: Vec<u64>) -> Self
         requires { 0 < most }
@@ -91,7 +90,7 @@ impl Input for MemInput {
     fn open(&mut self, path: &str) -> Result<(), Failed>
         requires { opened_of self.old ≡ Nothing }
 
-        // It fails exactly where its number is in the list or the path is another.
+        // It fails exactly if its number is in the list or the path is another.
         ensures fails { OnErr result
             (FailsNext self.old.failing self.old.calls ⊎ (path.now ≢ self.old.name)) }
         ensures ok_number { OnOk result (¬ FailsNext self.old.failing self.old.calls) }
@@ -119,7 +118,7 @@ impl Input for MemInput {
         ensures ends { IfOk result
             (λ n. IfSome (Some self.old.rest) (λ left. (n ≡ 0) ↔ (left ≡ []))) }
 
-        // It fails exactly where its number is in the list.
+        // It fails exactly if its number is in the list.
         ensures fails { OnErr result (FailsNext self.old.failing self.old.calls) }
         ensures ok_number { OnOk result (¬ FailsNext self.old.failing self.old.calls) }
 

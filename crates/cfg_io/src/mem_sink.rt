@@ -45,7 +45,7 @@ impl MemSink {
     /// A sink for `room` bytes, whose memory it takes now. A write takes at most `most` bytes, at
     /// least 1.
     ///
-    /// A write fails exactly where its number is in `failing`, or no room is left.
+    /// A write fails exactly if its number is in `failing`, or no room is left.
     ///
     /// [`Memory`]: there is no memory for that room.
     pub fn new(alloc: Global, room: usize, most: usize, failing: Vec<u64>) -> Result<Self, Memory>
@@ -88,7 +88,7 @@ impl Sink for MemSink {
         ensures some { IfOk result (λ n. 0 < n) }
         ensures in_bounds { IfOk result (λ n. n ≤ length piece.now) }
 
-        // It fails exactly where its number is in the list or no room is left.
+        // It fails exactly if its number is in the list or no room is left.
         ensures fails { OnErr result
             (FailsNext self.old.failing self.old.calls
             ⊎ (self.old.room ≤ length self.old.written)) }

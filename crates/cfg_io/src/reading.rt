@@ -64,7 +64,7 @@ pub fn read_whole<I: Input>(alloc: Global, input: &mut I, limit: usize) -> Resul
     ensures at_end { OnOk result (IfSome (I.rest input.new) (λ left. left ≡ [])) }
     ensures fits { IfOk result (λ bytes. vec_len bytes ≤ limit) }
 
-    // It is over the limit exactly where it took one byte more than that.
+    // It is over the limit exactly if it took one byte more than that.
     ensures over_limit { IsErrOf result ReadEnd.OverLimit
         → TakesCount (I.rest input.old) (limit + 1) (I.rest input.new) }
     ensures read { IsErrOf result ReadEnd.Read
@@ -91,7 +91,7 @@ pub fn read_whole<I: Input>(alloc: Global, input: &mut I, limit: usize) -> Resul
     Err(ReadEnd::OverLimit)
 }
 
-// Reads once into `buffer` behind its first `filled` bytes, and answers how many bytes came.
+// Reads once into `buffer` after its first `filled` bytes, and answers how many bytes came.
 fn read_piece<I: Input>(
     input: &mut I,
     buffer: &mut Vec<u8>,

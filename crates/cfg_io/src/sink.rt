@@ -7,13 +7,13 @@ use crate::Failed;
 
 /// A place that bytes are written to, one piece after another.
 ///
-/// What it means is told by two ghost members. Whether it tells the bytes never changes.
+/// Two ghost members say what it means. Whether it tells the bytes never changes.
 pub trait Sink {
     /// How often the sink has failed: a number that never falls, and stays at 2^64 - 1 once it is
     /// there.
     ghost faults: { Self → ℕ };
 
-    /// The bytes written so far, where the sink tells them.
+    /// The bytes written so far, if the sink tells them.
     ghost written: { Self → Option (List ℕ) };
 
     /// Appends the first bytes of `piece`, which has one at least, and answers how many, from 1 on.

@@ -26,7 +26,7 @@ impl<W: Write> StdSink<W> {
     }
 }
 
-// One write, and a flush; `None` where either failed or nothing was written.
+// One write, and a flush; `None` if either failed or nothing was written.
 fn write_and_flush<W: Write>(writer: &mut W, piece: &[u8]) -> Option<usize>
     ensures some { IfSome result (λ n. 0 < n) }
     ensures in_bounds { IfSome result (λ n. n ≤ length piece.now) }

@@ -6,12 +6,12 @@ use Rattle.elf_maker.specs.declared.parts.Parts.{Parts}
 use Rattle.elf_maker.specs.declared.parts.MadeSymbol.{MadeSymbol}
 use Rattle.elf_maker.specs.Fields.{halves, words}
 
--- a row of which there is a file, and one of its parts
+-- a row that has a file, and one of its parts
 pub record IsRow (row part : ℕ) : Type 0 where
   pub listed : (row ≡ 1) ⊎ ((5 ≤ row) × (row ≤ 17)) ⊎ ((28 ≤ row) × (row ≤ 34))
   pub parted : (part ≡ 0) ⊎ (((row ≡ 5) ⊎ (row ≡ 16)) × (part ≤ 3))
 
--- the entry of a table that has the number n, and `last` where none has
+-- the entry of a table that has the number n, and `last` if none has
 abbrev pub numbered : {X : Type 0} → X → List (ℕ × X) → ℕ → X
 numbered last [] n = last
 numbered last (e ∷ es) n = if e.0 == n then e.1 else numbered last es n
@@ -137,7 +137,7 @@ row_5_table = (
 abbrev pub row_5_last : List MadeSymbol
 row_5_last = record { name = codes "a\\b"; address = 0x10000 } ∷ []
 
--- the symbols of row 31: a function `s` at each of so many halfwords from an address on
+-- the symbols of row 31: a function `s` at each of this many halfwords from an address on
 abbrev pub each_halfword : ℕ → ℕ → List MadeSymbol
 each_halfword address zero = []
 each_halfword address (suc n) =

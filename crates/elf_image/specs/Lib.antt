@@ -3,6 +3,7 @@ pub mod Header
 pub mod Sections
 pub mod Code
 pub mod ReadOnly
+pub mod Fixed
 pub mod Symbols
 pub mod Seeds
 pub mod FaultTests

@@ -31,7 +31,7 @@ symbol_at bytes at = record {
 unfoldable pub symbol_tables : List ℕ → List Section
 symbol_tables bytes = filter is_symbol_table (sections bytes)
 
--- the symbol table, where the file has one
+-- the symbol table, if the file has one
 abbrev pub symbol_table : List ℕ → Option Section
 symbol_table bytes = find is_symbol_table (sections bytes)
 
@@ -74,6 +74,6 @@ is_seed_symbol bytes s =
 unfoldable pub seed_symbols_in : List ℕ → Section → List Symbol
 seed_symbols_in bytes table = filter (is_seed_symbol bytes) (symbols_in bytes table)
 
--- the seed symbols of the file, none where it has no symbol table
+-- the seed symbols of the file, none if it has no symbol table
 abbrev pub seed_symbols : List ℕ → List Symbol
 seed_symbols bytes = option_map_or (seed_symbols_in bytes) (symbol_table bytes) []

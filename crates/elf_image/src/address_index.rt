@@ -1,4 +1,4 @@
-//! Sections kept to be searched by address: in logarithmic time where none shares an address with
+//! Sections kept to be searched by address: in logarithmic time if none shares an address with
 //! another, and else one after the other.
 
 ghost use Rattle.std.specs.Prelude.{◌≡◌, ℕ, ◌+◌, ◌<◌, ◌≤◌, nat_le, not, length, IsTrue, IfOk};
@@ -13,12 +13,12 @@ ghost use Rattle.elf_image.specs.Inner.AddressIndex.{IsLaidOut, HasOverhang, Fin
 use crate::section::Section;
 use std::alloc::{AllocError, Global};
 
-/// Sections that are not empty: in the order of their addresses where none shares an address with
+/// Sections that are not empty: in the order of their addresses if none shares an address with
 /// another, which is how a linker makes them, and else in the order in which they were given.
 #[derive(Drop)]
 pub(crate) struct AddressIndex {
     sections: Vec<Section>,
-    /// The place of the widest of them, where most addresses lie; 0 where there is none.
+    /// The place of the widest of them, where most addresses lie; 0 if there is none.
     widest: usize,
     is_laid_out: bool,
     ghost laid_out: { IsTrue is_laid_out → IsLaidOut sections.items },
@@ -54,9 +54,8 @@ impl AddressIndex {
         !self.is_laid_out
     }
 
-    /// The first section that has the `n` bytes from address `a` on. Where no two sections share an
-    /// address, it asks the widest first, and else takes logarithmic time; where two do, it looks
-    /// through all.
+    /// The first section that has the `n` bytes from address `a` on.
+    /// Time: O(1) in the widest of k sections, else O(log k); O(k) if two share an address.
     #[inline]
     pub(crate) fn find(&self, a: u64, n: u64) -> Option<&Section>
         requires { 0 < n }
@@ -101,7 +100,7 @@ fn find_first(sections: &[Section], a: u64, n: u64) -> Option<&Section>
     sections.iter().find(|s| s.holds_bytes(a, n))
 }
 
-/// The place of the widest section; 0 where there is none.
+/// The place of the widest section; 0 if there is none.
 fn widest(sections: &[Section]) -> usize {
     sections
         .iter()

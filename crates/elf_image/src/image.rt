@@ -6,8 +6,9 @@ ghost use Rattle.std.specs.Option.{option_copied};
 ghost use Rattle.elf_image.specs.Header as header;
 ghost use Rattle.elf_image.specs.Sections.{section, is_code_section, holds_bytes, file_offset};
 ghost use Rattle.elf_image.specs.Code.{is_even, code_section_of, is_code, section_start, half_at};
-ghost use Rattle.elf_image.specs.Code.{word_at};
+ghost use Rattle.elf_image.specs.Code.{word_at, is_code_byte};
 ghost use Rattle.elf_image.specs.ReadOnly.{is_read_only, data_section_of, data_word, span_bytes};
+ghost use Rattle.elf_image.specs.Fixed.{is_fixed, is_fixed_byte};
 ghost use Rattle.elf_image.specs.FaultTests.{is_out_of_file};
 ghost use Rattle.elf_image.specs.Faults.{first_fault, first_image_fault, first_symbol_fault};
 ghost use Rattle.elf_image.specs.Faults.{IsImage};
@@ -42,7 +43,7 @@ impl Model for Image {
 }
 
 impl Image {
-    /// Judges the bytes of a file, and keeps them. `Malformed` names the file's first fault, where
+    /// Judges the bytes of a file, and keeps them. `Malformed` names the file's first fault, if
     /// that is one of those up to [`Fault::Entry`](crate::Fault::Entry); faults of the symbols are
     /// not judged. After a refusal the bytes are gone.
     pub fn parse(alloc: Global, bytes: Vec<u8>) -> Result<Image, ElfError>
@@ -86,8 +87,8 @@ impl Image {
     }
 
     /// Whether `a` is a code address: an even address whose two bytes lie inside one code section.
-    /// The widest code section is asked first; elsewhere it takes time logarithmic in the number of
-    /// code sections. So do the other reads of code.
+    /// The other reads of code take the same time.
+    /// Time: O(1) in the widest of n code sections, else O(log n).
     pub fn is_code(&self, a: u64) -> bool
         ensures value { result ≡ is_code self.now a }
         ensures in_memory { IsTrue result → a + 2 < 2 ^ 64 }
@@ -96,7 +97,7 @@ impl Image {
         self.code_section(a).is_some()
     }
 
-    /// The address of the code section of a code address; `None` where `a` is no code address.
+    /// The address of the code section of a code address; `None` if `a` is no code address.
     pub fn section_start(&self, a: u64) -> Option<u64>
         ensures value { result ≡ section_start self.now a }
         ensures below { IfSome result (λ start. start ≤ a) }
@@ -110,7 +111,7 @@ impl Image {
         Some(s.address)
     }
 
-    /// The halfword at a code address; `None` where `a` is no code address.
+    /// The halfword at a code address; `None` if `a` is no code address.
     pub fn half_at(&self, a: u64) -> Option<u16>
         ensures value { result ≡ half_at self.now a }
         ensures in_memory { OnSome result (a + 2 < 2 ^ 64) }
@@ -120,7 +121,7 @@ impl Image {
         Some(u16_at(&self.bytes, file_offset(s, a)))
     }
 
-    /// The word at a code address; `None` where `a` is no code address or its four bytes leave its
+    /// The word at a code address; `None` if `a` is no code address or its four bytes leave its
     /// code section.
     pub fn word_at(&self, a: u64) -> Option<u32>
         ensures value { result ≡ word_at self.now a }
@@ -134,17 +135,42 @@ impl Image {
         }
     }
 
-    /// Whether the byte at `a` lies in a read-only section. The widest is asked first, and else it
-    /// takes time logarithmic in the number of those sections, where no two of them share an
-    /// address; where two do, it looks through all.
+    /// Whether the byte at `a` lies in a read-only section.
+    /// Time: O(1) in the widest of n sections, else O(log n); O(n) if two share an address.
     pub fn is_read_only(&self, a: u64) -> bool
         ensures { result ≡ is_read_only self.now a }
     {
         self.layout.read_only.find(a, 1).is_some()
     }
 
+    /// Whether the byte at `a` lies in a code section. `a` may be odd.
+    /// Time: as [`is_code`](Self::is_code). Memory: none.
+    pub fn is_code_byte(&self, a: u64) -> bool
+        ensures { result ≡ is_code_byte self.now a }
+    {
+        self.layout.code.find(a, 1).is_some()
+    }
+
+    /// Whether the byte at `a` lies in a code or a read-only section.
+    fn is_fixed_byte(&self, a: u64) -> bool
+        ensures { result ≡ is_fixed_byte self.now a }
+    {
+        self.is_code_byte(a) || self.is_read_only(a)
+    }
+
+    /// Whether one of the `n` bytes from `a` on lies in a code or a read-only section. Addresses
+    /// wrap around at the end of memory.
+    /// Time: `n` times that of [`is_read_only`](Self::is_read_only). Memory: none.
+    #[tactic(auto, unfolding(crate::specs::Fixed::is_fixed))]
+    pub fn is_fixed(&self, a: u64, n: u64) -> bool
+        ensures { result ≡ is_fixed self.now a n }
+    {
+        (0..n).any(|i| self.is_fixed_byte(a.wrapping_add(i)))
+    }
+
     /// The word at `a` in the first read-only section, in table order, that has all four bytes;
-    /// `None` where none has. It takes the time of [`is_read_only`](Self::is_read_only).
+    /// `None` if none has.
+    /// Time: as [`is_read_only`](Self::is_read_only).
     pub fn data_word(&self, a: u64) -> Option<u32>
         ensures value { result ≡ data_word self.now a }
         ensures in_memory { OnSome result (a + 4 < 2 ^ 64) }

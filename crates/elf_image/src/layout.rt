@@ -73,7 +73,7 @@ fn filled_read_only(alloc: Global, sections: &[Section]) -> Result<Vec<Section>,
         .collect(alloc)
 }
 
-/// The section that has both bytes of the halfword at `a`, where `a` is even.
+/// The section that has both bytes of the halfword at `a`, if `a` is even.
 #[inline]
 pub(crate) fn code_section(code: &AddressIndex, a: u64) -> Option<&Section>
     ensures { option_copied result ≡ (if is_even a

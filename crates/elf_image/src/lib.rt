@@ -1,7 +1,7 @@
 //! One statically linked ELF-64 executable for RISC-V, judged and read (System V ABI, ELF-64).
 //!
 //! [`Image::parse`] takes the bytes of a file and names its first [`Fault`], if it has one of the
-//! first eighteen; the two faults of symbols are judged by whoever reads symbols. To a contract an
+//! first eighteen. The reader of symbols judges the two faults of symbols. To a contract an
 //! [`Image`] is the list of the file's bytes, and every answer is a definition of `specs/` on that
 //! list.
 //!

@@ -31,7 +31,7 @@ pub struct Section {
     pub size: u64,
     /// The index of a section that belongs to it, `sh_link`.
     pub link: u32,
-    /// The size of one entry in bytes, where it is a table, `sh_entsize`.
+    /// The size of one entry in bytes, if it is a table, `sh_entsize`.
     pub entry_size: u64,
 }
 

@@ -25,7 +25,7 @@ abbrev pub half_given : Parts → ℕ → Option ℕ
 half_given parts a =
     if is_code_given parts a then Some (u16_at parts.code (a - parts.code_at)) else None
 
--- the word of the code at a code address, where the code has all four bytes
+-- the word of the code at a code address, if the code has all four bytes
 abbrev pub word_given : Parts → ℕ → Option ℕ
 word_given parts a =
     if is_even a && is_in_code parts a 4 then Some (u32_at parts.code (a - parts.code_at)) else None

@@ -15,8 +15,8 @@ section_bytes s =
     ++ words (s.link ∷ s.info ∷ [])
     ++ xwords (s.alignment ∷ s.entry_size ∷ [])
 
--- where the parts stand in the file: behind the header of 64 bytes the code, the read-only data,
--- the symbol table, the string table and the section headers
+-- where the parts stand in the file: after the header of 64 bytes the code, the read-only data, the
+-- symbol table, the string table and the section headers
 abbrev pub code_place : ℕ
 code_place = 64
 

@@ -22,7 +22,7 @@ symbol_entries name [] = []
 symbol_entries name (s ∷ ss) =
     symbol_entry name s.address ++ symbol_entries (name + length (terminated_name s)) ss
 
--- whether a file has a symbol table and a string table: it has where it has a symbol
+-- whether a file has a symbol table and a string table: it has them if it has a symbol
 abbrev pub has_symbols : List MadeSymbol → Bool
 has_symbols symbols = nat_lt 0 (length symbols)
 

@@ -13,10 +13,10 @@ use crate::section::{file_size, layout_of, put_section_table, section_count};
 use crate::symbol::{string_table, symbol_table};
 use std::alloc::Global;
 
-/// Makes an executable of one code section, one section of read-only data and, where there are
-/// symbols, a symbol table and its string table (System V ABI, ELF-64). Behind the ELF header stand
-/// the code, the read-only data, the symbol table, the string table and the section headers, with
-/// zero bytes behind code, read-only data and strings up to a multiple of eight.
+/// Makes an executable of one code section, one section of read-only data and, if there are
+/// symbols, a symbol table and its string table (System V ABI, ELF-64). After the ELF header stand
+/// the code, the read-only data, the symbol table, the string table and the section headers. Zero
+/// bytes follow code, read-only data and strings up to a multiple of eight.
 ///
 /// Room for the file is taken once. The only error is that memory ran out.
 #[tactic(auto, unfolding(crate::specs::MadeFile::made_file))]

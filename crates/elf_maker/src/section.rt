@@ -24,7 +24,7 @@ const SHF_ALLOC: u64 = 2;
 
 const SHF_EXECINSTR: u64 = 4;
 
-/// Where the code stands in the file: behind the ELF header.
+/// Where the code stands in the file: after the ELF header.
 const CODE_PLACE: u64 = 64;
 
 /// The header of one section, an `Elf64_Shdr` (System V ABI, "Section Header"), without its name.
@@ -54,7 +54,7 @@ const NULL: SectionHeader = SectionHeader {
     entry_size: 0,
 };
 
-/// Where the parts behind the code stand in the file, and the sizes of the two tables, in bytes.
+/// Where the parts after the code stand in the file, and the sizes of the two tables, in bytes.
 #[derive(Clone, Copy)]
 pub(crate) struct Layout {
     pub(crate) rodata: u64,
@@ -162,7 +162,7 @@ pub(crate) fn section_count(parts: &Parts) -> u16
     }
 }
 
-/// The length of a file with this layout and so many section headers, which stand at its end.
+/// The length of a file with this layout and this many section headers, which stand at its end.
 pub(crate) fn file_size(layout: &Layout, count: u16) -> usize
     requires { layout.now.headers ≤ 67108864 }
     ensures { result ≡ layout.now.headers + 64 * count }
@@ -184,7 +184,7 @@ fn put_section(file: &mut Vec<u8>, section: &SectionHeader) -> Result<(), Memory
     put_xwords(file, &[section.alignment, section.entry_size])
 }
 
-/// Appends the headers of the symbol table and the string table, where there is a symbol.
+/// Appends the headers of the symbol table and the string table, if there is a symbol.
 #[tactic(auto, using(std::proofs::lemmas::List::append_assoc), unfolding(crate::specs::Sections::symbol_headers))]
 fn put_symbol_sections(file: &mut Vec<u8>, parts: &Parts, layout: &Layout) -> Result<(), Memory>
     requires { layout.now ≡ layout_of parts.now }

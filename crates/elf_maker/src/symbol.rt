@@ -56,7 +56,7 @@ fn put_names(table: &mut Vec<u8>, symbols: &[MadeSymbol]) -> Result<(), Memory>
     Ok(())
 }
 
-/// The symbol table, empty where there is no symbol.
+/// The symbol table, empty if there is no symbol.
 #[tactic(auto, unfolding(crate::specs::Symbols::symbol_table, crate::specs::Symbols::string_table))]
 pub(crate) fn symbol_table(alloc: Global, symbols: &[MadeSymbol]) -> Result<Vec<u8>, Memory>
     requires { length (string_table symbols.now) < 2 ^ 32 }
@@ -72,7 +72,7 @@ pub(crate) fn symbol_table(alloc: Global, symbols: &[MadeSymbol]) -> Result<Vec<
     Ok(table)
 }
 
-/// The string table, empty where there is no symbol.
+/// The string table, empty if there is no symbol.
 #[tactic(auto, unfolding(crate::specs::Symbols::string_table))]
 pub(crate) fn string_table(alloc: Global, symbols: &[MadeSymbol]) -> Result<Vec<u8>, Memory>
     ensures { IfOk result (λ table. table.items ≡ string_table symbols.now) }

@@ -29,7 +29,7 @@ fn lesser_span(image: &Image, s: Span, t: Span) -> Span
     }
 }
 
-/// The lesser of two names, where there are two.
+/// The lesser of two names, if there are two.
 fn lesser_name(image: &Image, s: Option<Span>, t: Option<Span>) -> Option<Span>
     requires first { IfSome s (LiesIn image.now) }
     requires second { IfSome t (LiesIn image.now) }
@@ -64,7 +64,7 @@ fn pop_at(seeds: &mut Vec<Seed>, a: u64) -> Option<Seed>
     if last.address == a { seeds.pop() } else { None }
 }
 
-/// Adds a seed to merged seeds, none of which stands at a higher address.
+/// Adds a seed to merged seeds that all stand at its address or below.
 fn add(image: &Image, merged: &mut Vec<Seed>, seed: Seed) -> Result<(), AllocError>
     requires lie { All (λ s. IfSome s.name (LiesIn image.now)) merged.old.items }
     requires lies { IfSome seed.name (LiesIn image.now) }

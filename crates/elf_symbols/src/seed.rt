@@ -13,7 +13,7 @@ use std::marker::Model;
 pub struct Seed {
     /// The address, a code address of the file.
     pub address: u64,
-    /// Where its name stands in the file; `None` where it has no name.
+    /// Where its name stands in the file; `None` if it has no name.
     pub name: Option<Span>,
 }
 
@@ -56,7 +56,7 @@ impl Seeds {
         &self.addresses
     }
 
-    /// The place of the name of the seed at `a` in the file; `None` exactly where `a` is no seed or
+    /// The place of the name of the seed at `a` in the file; `None` exactly if `a` is no seed or
     /// has no name.
     pub fn name_of(&self, a: u64) -> Option<Span>
         ensures { result ≡ name_in self.now a }

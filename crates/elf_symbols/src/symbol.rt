@@ -95,8 +95,8 @@ fn is_seed_symbol(image: &Image, s: &Symbol) -> bool
     }
 }
 
-/// The length of the string that begins at an offset of a string table; `None` where no zero byte
-/// ends it there.
+/// The length of the string that begins at an offset of a string table; `None` if no zero byte ends
+/// it there.
 fn string_len(strings: &[u8], at: u32) -> Option<usize>
     ensures { result ≡ position (λ b. b == 0) (drop at strings.now) }
 {
@@ -114,7 +114,7 @@ fn first_zero(bytes: &[u8]) -> Option<usize>
     bytes.iter().position(|b| *b == 0)
 }
 
-/// The seed of a symbol; `None` where its name does not stand in the string table.
+/// The seed of a symbol; `None` if its name does not stand in the string table.
 fn seed_of(image: &Image, strings: &Section, s: &Symbol) -> Option<Seed>
     requires { IsInFile image.now strings.now }
     ensures bad { is_none result

@@ -55,7 +55,7 @@ fn first_table(image: &Image) -> Option<Section>
     None
 }
 
-/// The string table of a symbol table; `None` where the symbol table is not one that is read here.
+/// The string table of a symbol table; `None` if the symbol table is not one that is read here.
 fn string_table(image: &Image, table: &Section) -> Option<Section>
     ensures bad { is_none result ≡ is_bad_symbol_table image.now table.now }
     ensures strings { IfSome result (λ s. s ≡ section image.now table.now.link) }

@@ -11,5 +11,5 @@ mod reading;
 mod writing;
 
 pub use line::tell;
-pub use reading::{FILE_LIMIT, Unread, read_file};
+pub use reading::{FILE_LIMIT, Unread, read_file, read_within};
 pub use writing::{Unwritten, write_pieces};

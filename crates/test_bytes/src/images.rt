@@ -6,7 +6,7 @@ use std::alloc::{AllocError, Global};
 use std::process::Abort;
 use std::test::Fail;
 
-/// The name of the fault that the parse answers, or `-` where it accepts the file.
+/// The name of the fault that the parse answers, or `-` if it accepts the file.
 fn verdict(alloc: Global, bytes: Vec<u8>) -> &'static str {
     match Image::parse(alloc, bytes) {
         Ok(_) => "-",
@@ -257,7 +257,7 @@ fn overlapping_data(rt: HostRuntime) -> Result<(), Fail> {
     Ok(())
 }
 
-/// The file with three code sections in place of its own: of each the address, and the offset and
+/// The file with three code sections instead of its own: of each the address, and the offset and
 /// the number of its bytes, which are those of the file.
 fn with_code(alloc: Global, sections: [(u32, u8, u8); 3]) -> Result<Vec<u8>, AllocError> {
     let mut bytes = edited(alloc, &RET_FILE, &[(60, 4)])?;

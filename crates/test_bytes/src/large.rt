@@ -57,7 +57,7 @@ static SLOTS_OF_FOUR: [&[u32]; 6] = [
     &[0x0000_006F],
 ];
 
-/// Its table, which stands behind its code.
+/// Its table, which stands after its code.
 static TABLE_OF_FOUR: [u32; 4] = [0xFE01_01B4, 0xFE01_01B8, 0xFE01_01BC, 0xFE01_01C0];
 
 /// How many functions a program has, the length of its file, and the hash of its bytes.

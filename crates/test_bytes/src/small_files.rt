@@ -2,9 +2,9 @@
 
 use std::alloc::{AllocError, Global};
 
-/// One instruction, `ret` (00008067 in hexadecimal), at the address 10000: a header, the code, and
-/// the headers of a null section, the code (header at 136) and an empty read-only section at 20000
-/// (header at 200).
+/// One instruction, `ret` (00008067 in hexadecimal), at the address 10000. The file has a header,
+/// the code, and the headers of a null section, of the code (at 136) and of an empty read-only
+/// section at 20000 (at 200).
 pub(crate) const RET_FILE: [u8; 264] = [
     0x7F, 0x45, 0x4C, 0x46, 2, 1, 1, 0, 0, 0, 0, 0, 0, 0, 0, 0, 2, 0, 0xF3, 0, 1, 0, 0, 0, 0, 0, 1,
     0, 0, 0, 0, 0, 0, 0, 0, 0, 0, 0, 0, 0, 0x48, 0, 0, 0, 0, 0, 0, 0, 0, 0, 0, 0, 0x40, 0, 0, 0, 0,

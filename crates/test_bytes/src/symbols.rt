@@ -24,7 +24,7 @@ fn verdict(alloc: Global, image: &Image) -> &'static str {
     }
 }
 
-/// The name of a seed, and no byte where it has none.
+/// The name of a seed, and no byte if it has none.
 fn name_at<'a>(image: &'a Image, seeds: &Seeds, a: u64) -> &'a [u8]
     requires { (a : ℕ) → IfSome (name_in seeds.now a) (LiesIn image.now) }
 {

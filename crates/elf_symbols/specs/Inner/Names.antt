@@ -13,7 +13,7 @@ use Rattle.elf_symbols.specs.declared.seed.Seed.{Seed}
 abbrev pub text_of : List ℕ → Seed → Option (List ℕ)
 text_of bytes s = option_map (span_bytes bytes) s.name
 
--- the lesser of two names, where there are two
+-- the lesser of two names, if there are two
 abbrev pub lesser_name : Option (List ℕ) → Option (List ℕ) → Option (List ℕ)
 lesser_name None o = o
 lesser_name (Some s) None = Some s

@@ -19,6 +19,6 @@ pub record IsTableOf (bytes : List ℕ) (table : SymbolTable) : Type 0 where
   pub symbols_within : IsInFile bytes table.symbols
   pub strings_within : IsInFile bytes table.strings
 
--- the table, where the file has one
+-- the table, if the file has one
 abbrev pub IsTable : List ℕ → Option SymbolTable → Type 0
 IsTable bytes o = MatchOption o (spec.symbol_table bytes ≡ None) (IsTableOf bytes)
