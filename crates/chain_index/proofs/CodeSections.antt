@@ -10,7 +10,7 @@ use Rattle.elf_image.specs.declared.fault.Fault.TheVariants.{CodeParity}
 use Rattle.elf_image.specs.Header.{section_count}
 use Rattle.elf_image.specs.Sections.{section, sections, is_code_section, is_progbits, is_allocated, is_executable, is_null, is_nobits, holds_bytes}
 use Rattle.elf_image.specs.Code.{is_even, is_code, code_section_of}
-use Rattle.elf_image.specs.FaultTests.{is_odd_code, has_odd_code}
+use Rattle.elf_image.specs.FaultTests.{is_odd_code, has_odd_code, any_pair, shares_address}
 use Rattle.elf_image.specs.Faults.{has_fault, IsImage}
 use Rattle.elf_image.proofs.Accepted.{no_fault, is_small, is_in_file, is_in_memory}
 use Rattle.elf_image.proofs.Finds.{any-contained}
@@ -19,6 +19,7 @@ use Rattle.elf_image.proofs.OneSection.{code_section-is, code_section-same}
 use Rattle.elf_image.proofs.Ranges.{Contains-section, length-sections, get_or-sections}
 use Rattle.chain_index.specs.Found.{IsCodeOf}
 use Rattle.chain_index.specs.Inner.{AreFirst}
+use Rattle.chain_index.proofs.Apart.{apart_first}
 
 -- what is code has a type, and is in memory
 code-kind : (s : Section) → is_code_section s ≡ true → (is_null s ≡ false) × (is_nobits s ≡ false) × (is_allocated s ≡ true)
@@ -104,9 +105,18 @@ still_in xs s t there = (there.0, omega (arith, there.1, length_push xs s), get_
 pub last_in : (xs : List Section) (s : Section) → Contains (xs ++ s ∷ []) s
 last_in xs s = (length xs, omega (arith, length_push xs s), get_or_push xs s s (length xs) refl)
 
+-- none of the table yet
+pub first_nothing : (bytes : List ℕ) → AreFirst bytes 0 []
+first_nothing bytes = record {
+  code = λ k d below. absurd (omega arith);
+  listed = λ i below code some. absurd (omega arith);
+  before = λ k d below. absurd (omega arith);
+  apart = refl;
+}
+
 -- one more section that is listed, and one that is not
-pub first_more : (bytes : List ℕ) (n : ℕ) (xs : List Section) (s : Section) → s ≡ section bytes n → IsCodeOf bytes s → AreFirst bytes n xs → AreFirst bytes (n + 1) (xs ++ s ∷ [])
-first_more bytes n xs s is of first = record {
+pub first_more : (bytes : List ℕ) → IsImage bytes → (n : ℕ) (xs : List Section) (s : Section) → n < section_count bytes → s ≡ section bytes n → is_code_section s ≡ true → IsCodeOf bytes s → AreFirst bytes n xs → AreFirst bytes (n + 1) (xs ++ s ∷ [])
+first_more bytes accepted n xs s within is kind of first = record {
   code = All-push (IsCodeOf bytes) xs s first.code of;
   listed = λ i below code some. elim (cases_order i n) [
     | inl same ↦ subst (Contains (xs ++ s ∷ [])) (is ∙ ap (section bytes) (sym same)) (last_in xs s)
@@ -115,6 +125,11 @@ first_more bytes n xs s is of first = record {
       | inr more ↦ absurd (omega arith)
     ]
   ];
+  before = All-push (λ t. (i : ℕ) × (i < n + 1) × (section bytes i ≡ t) × (is_code_section t ≡ true)) xs s
+      (λ k d below. let at = first.before k d below in (at.0, omega (arith, at.1), at.2, at.3))
+      (n, omega arith, sym is, kind);
+  apart = subst (λ t. any_pair shares_address (xs ++ t ∷ []) ≡ false) (sym is)
+      (apart_first bytes accepted n xs within (ap is_code_section (sym is) ∙ kind) first.before first.apart);
 }
 
 pub first_none : (bytes : List ℕ) (n : ℕ) (xs : List Section) (s : Section) → s ≡ section bytes n → (is_code_section s ≡ false) ⊎ (s.size < 2) → AreFirst bytes n xs → AreFirst bytes (n + 1) xs
@@ -132,4 +147,6 @@ first_none bytes n xs s is not_one first = record {
       | inr more ↦ absurd (omega arith)
     ]
   ];
+  before = λ k d below. let at = first.before k d below in (at.0, omega (arith, at.1), at.2, at.3);
+  apart = first.apart;
 }

@@ -51,7 +51,7 @@ join_start bytes s t s_of t_of found =
     parts-even even n = let there : (s.address + 2 * n) % 2 ≡ 0 = omega arith in ap (λ m. eqb m 0) there
 
 -- the last of a sorted list has the greatest address
-last_greatest : (rest : List Section) (s t : Section) → IsNonDecreasingBy (λ (u : Section). u.address) (rest ++ s ∷ []) → Contains (rest ++ s ∷ []) t → t.address ≤ s.address
+pub last_greatest : (rest : List Section) (s t : Section) → IsNonDecreasingBy (λ (u : Section). u.address) (rest ++ s ∷ []) → Contains (rest ++ s ∷ []) t → t.address ≤ s.address
 last_greatest rest s t sorted there =
     let size = length_push rest s in
     let up = sorted there.0 (length rest) t (omega (arith, there.1)) (omega arith) in

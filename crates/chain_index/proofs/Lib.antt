@@ -5,4 +5,6 @@ pub mod Lengths
 pub mod Passes
 pub mod Walks
 pub mod Joins
+pub mod Apart
+pub mod Counts
 pub mod Looking

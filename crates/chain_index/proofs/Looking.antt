@@ -2,7 +2,7 @@
 use Rattle.std.proofs.Common.{◌≡◌, ℕ, zero, suc, ◌+◌, ◌-◌, ◌*◌, ◌/◌, ◌%◌, ◌<◌, ◌≤◌, true, false, List, [], ◌∷◌, ◌++◌, length, get_or, Option, Some, None, is_some, refl, sym, ap, ◌∙◌, subst, arith, inl, inr}
 use Rattle.std.specs.Prelude.{IfSome, IfNone}
 use Rattle.std.specs.Option.{option_map}
-use Rattle.std.specs.List.{All}
+use Rattle.std.specs.List.{All, Contains}
 use Rattle.std.specs.List.Sorted.{IsNonDecreasingBy}
 use Rattle.std.proofs.lemmas.Bool.{cases_order, eqb-true}
 use Rattle.std.proofs.lemmas.List.{get_or_append_left, get_or_push, get_or_default, length_push}
@@ -15,22 +15,34 @@ use Rattle.elf_image.proofs.LaidOut.{holds-true}
 use Rattle.elf_image.proofs.OneSection.{code_section-is}
 use Rattle.chain_index.specs.declared.lookup.SectionReaches.{SectionReaches}
 use Rattle.chain_index.specs.Chain.{IsChainEnd}
-use Rattle.chain_index.specs.Found.{IsCodeOf, AreReaches, IsSectionReaches, AreFalling, BeginsAt, AreReachesOf}
-use Rattle.chain_index.specs.Inner.{Reaches, AreRight, IsCountAbove, AreFoundBut, IsReachedAt}
+use Rattle.chain_index.specs.Found.{IsCodeOf, AreReaches, IsSectionReaches, AreFalling, BeginsAt, AreReachesOf, last_count}
+use Rattle.chain_index.specs.Numbers.{codes_below, code_count}
+use Rattle.chain_index.specs.Inner.{Reaches, AreRight, AreRising, IsCountAbove, AreFoundBut, IsReachedAt}
 use Rattle.chain_index.proofs.CodeSections.{section-at, section-half, code-of, holds-at}
-use Rattle.chain_index.proofs.Joins.{one_section, none_behind}
+use Rattle.chain_index.proofs.Counts.{even_code, below_zero, in_section, not_before, begins_after, none_there, counted_from}
+use Rattle.chain_index.proofs.Joins.{one_section, none_behind, last_greatest}
+
+-- sections that rise never fall
+never_falling : (left : List Section) → AreRising left → IsNonDecreasingBy (λ (s : Section). s.address) left
+never_falling left rising i j d up below = elim (cases_order i j) [
+  | inl same ↦ let here : (get_or left i d).address ≡ (get_or left j d).address = ap (λ k. (get_or left k d).address) same in omega (arith, here)
+  | inr other ↦ elim other [
+    | inl less ↦ omega (arith, rising i j d less below)
+    | inr more ↦ absurd (omega arith)
+  ]
+]
 
 -- Some sections are left, in the order of their addresses, and what is found of all others is right.
 pub record IsLeft (bytes : List ℕ) (left : List Section) (found : List SectionReaches) : Type 0 where
   pub code : All (IsCodeOf bytes) left
-  pub sorted : IsNonDecreasingBy (λ (s : Section). s.address) left
+  pub sorted : AreRising left
   pub right : AreRight bytes found
   pub falling : AreFalling found
-  pub above : (i j : ℕ) (d : Section) (e : SectionReaches) → i < length left → j < length found → (get_or left i d).address ≤ (get_or found j e).address
+  pub above : (i j : ℕ) (d : Section) (e : SectionReaches) → i < length left → j < length found → (get_or left i d).address < (get_or found j e).address
   pub but : AreFoundBut bytes left found
 
 -- nothing is found yet
-pub all_left : (bytes : List ℕ) (left : List Section) → All (IsCodeOf bytes) left → IsNonDecreasingBy (λ (s : Section). s.address) left → AreFoundBut bytes left [] → IsLeft bytes left []
+pub all_left : (bytes : List ℕ) (left : List Section) → All (IsCodeOf bytes) left → AreRising left → AreFoundBut bytes left [] → IsLeft bytes left []
 all_left bytes left code sorted but = record {
   code = code;
   sorted = sorted;
@@ -50,9 +62,37 @@ module _ (bytes : List ℕ) (rest : List Section) (s : Section) (found : List Se
     (address : kept.address ≡ s.address)
     (offset : kept.offset ≡ s.offset)
     (size : length kept.reaches.items ≡ s.size / 2)
+    (from : kept.from ≡ last_count 0 found + s.size / 2)
     (right : AreReaches bytes s.address kept.reaches.items) where
+  s_of : IsCodeOf bytes s
+  s_of = last_code bytes rest s found left
+
+  -- no other section that is left holds an address behind it
+  none_left_behind : (x : ℕ) → s.address + 2 * (s.size / 2) ≤ x → (u : Section) → Contains (rest ++ s ∷ []) u → is_even x ≡ true → u.address ≤ x → x + 2 ≤ u.address + u.size → ⊥
+  none_left_behind x behind u there even low within =
+      let u_of : IsCodeOf bytes u = subst (IsCodeOf bytes) there.2 (left.code there.0 u there.1) in
+      not_before bytes s s_of u u_of (last_greatest rest s u (never_falling (rest ++ s ∷ []) left.sorted) there) x behind even within
+
+  -- so many code addresses there are from its first address on
+  counted : codes_below bytes kept.address + kept.from ≡ code_count bytes
+  counted =
+      let end : ℕ = s.address + 2 * (s.size / 2) in
+      let small = s_of.in_memory in
+      let last = Contains-push rest s in
+      let above : (j : ℕ) (e : SectionReaches) → j < length found → end ≤ (get_or found j e).address =
+      λ j e within.
+      let right = left.right j e within in
+      let start : (get_or (rest ++ s ∷ []) last.0 s).address ≡ s.address = ap (λ (t : Section). t.address) last.2 in
+      let up : s.address < right.section.address = omega (arith, left.above last.0 j s e last.1 within, start, right.address) in
+      omega (arith, begins_after bytes s s_of right.section right.of up, right.address) in
+      let behind = counted_from bytes found left.right left.falling end (omega (arith, small)) above
+      (λ x from below. none_there bytes (rest ++ s ∷ []) found left.but x below (none_left_behind x from)) in
+      let inside = in_section bytes s s_of (s.size / 2) (omega arith) in
+      let same : codes_below bytes kept.address ≡ codes_below bytes s.address = ap (codes_below bytes) address in
+      omega (arith, behind, inside, same, from)
+
   kept_right : IsSectionReaches bytes kept
-  kept_right = record { section = s; of = last_code bytes rest s found left; address = address; offset = offset; size = size; reaches = subst (λ a. AreReaches bytes a kept.reaches.items) (sym address) right }
+  kept_right = record { section = s; of = last_code bytes rest s found left; address = address; offset = offset; size = size; counted = counted; reaches = subst (λ a. AreReaches bytes a kept.reaches.items) (sym address) right }
 
   -- it begins no higher than what was found before
   lowest : (i : ℕ) (d : SectionReaches) → i < length found → kept.address ≤ (get_or found i d).address
@@ -84,7 +124,7 @@ module _ (bytes : List ℕ) (rest : List Section) (s : Section) (found : List Se
         ]
       ]
 
-  rest_above : (i j : ℕ) (d : Section) (e : SectionReaches) → i < length rest → j < length (found ++ kept ∷ []) → (get_or rest i d).address ≤ (get_or (found ++ kept ∷ []) j e).address
+  rest_above : (i j : ℕ) (d : Section) (e : SectionReaches) → i < length rest → j < length (found ++ kept ∷ []) → (get_or rest i d).address < (get_or (found ++ kept ∷ []) j e).address
   rest_above i j d e inside below =
       let size_more = length_push found kept in
       let size_left = length_push rest s in
@@ -128,7 +168,7 @@ module _ (bytes : List ℕ) (rest : List Section) (s : Section) (found : List Se
 pub behind_reaches : (bytes : List ℕ) (rest : List Section) (s : Section) (found : List SectionReaches) (e : ℕ) (o : Option ℕ) → IsLeft bytes (rest ++ s ∷ []) found → e ≡ s.address + 2 * (s.size / 2)
     → IfSome o (λ _. (file : List ℕ) → AreRight file found → Reaches file e o) → IfNone o ((file : List ℕ) → AreRight file found → BeginsAt found e → ⊥) → Reaches bytes e o
 behind_reaches bytes rest s found e None left at some none =
-    none_behind bytes rest s found (last_code bytes rest s found left) left.sorted left.but e at (none bytes left.right)
+    none_behind bytes rest s found (last_code bytes rest s found left) (never_falling (rest ++ s ∷ []) left.sorted) left.but e at (none bytes left.right)
 behind_reaches bytes rest s found e (Some reach) left at some none = some bytes left.right
 
 -- nothing is left where nothing was taken
@@ -138,8 +178,14 @@ none_left (suc n) some = let wrong = some (omega arith) in absurd (cc)
 
 -- all is found
 pub index_of : (bytes : List ℕ) (left : List Section) (found : List SectionReaches) → IsLeft bytes left found → length left ≡ 0 → AreReachesOf bytes found
-index_of bytes left found all none = record { right = all.right; falling = all.falling; whole = λ a. at (code_section_of bytes a) a refl }
+index_of bytes left found all none = record { right = all.right; falling = all.falling; whole = λ a. at (code_section_of bytes a) a refl; counted = counted }
   where
+    counted : last_count 0 found ≡ code_count bytes
+    counted =
+        let below = counted_from bytes found all.right all.falling 0 (omega arith) (λ j e within. omega arith)
+        (λ x from below. none_there bytes left found all.but x below (λ u there even low within. absurd (omega (arith, there.1)))) in
+        omega (arith, below, below_zero bytes)
+
     at : (o : Option Section) (a : ℕ) → code_section_of bytes a ≡ o → IfSome o (λ s. BeginsAt found s.address)
     at None a is = tt
     at (Some s) a is =
@@ -171,14 +217,6 @@ module _ (found : List SectionReaches) (a count : ℕ) (counted : IsCountAbove f
 
 -- ---- looking up
 
--- a code address is even
-even_code : (bytes : List ℕ) (a : ℕ) → is_code bytes a ≡ true → is_even a ≡ true
-even_code bytes a code = at (code_section_of bytes a) refl code
-  where
-    at : (o : Option Section) → code_section_of bytes a ≡ o → is_some o ≡ true → is_even a ≡ true
-    at None is there = absurd (cc)
-    at (Some s) is there = (code_section-is bytes a s is).0
-
 -- a section that is kept is that of each code address of its halfwords
 pub reached : (bytes : List ℕ) (a : ℕ) (kept : SectionReaches) → is_code bytes a ≡ true → IsSectionReaches bytes kept → kept.address ≤ a → (a - kept.address) / 2 < length kept.reaches.items → IsReachedAt bytes a kept
 reached bytes a kept code right low within =
@@ -190,6 +228,8 @@ reached bytes a kept code right low within =
     let at_s : s.address + 2 * i ≡ a = omega (arith, at, right.address) in
     let inside : 2 * i + 2 ≤ s.size = omega (arith, within, right.size) in
     let is : code_section_of bytes a ≡ Some s = subst (λ b. code_section_of bytes b ≡ Some s) at_s (section-half bytes s right.of i inside) in
+    let numbered : codes_below bytes a ≡ codes_below bytes s.address + i = ap (codes_below bytes) (sym at_s) ∙ in_section bytes s right.of i (omega (arith, inside)) in
+    let start_number : codes_below bytes kept.address ≡ codes_below bytes s.address = ap (codes_below bytes) right.address in
     let place : file_offset s a ≡ kept.offset + (a - kept.address) = omega (arith, right.offset, right.address) in
     record {
       image = right.of.image;
@@ -199,6 +239,8 @@ reached bytes a kept code right low within =
       half = ap (option_map (λ t. u16_at bytes (file_offset t a))) is ∙ ap (λ o. Some (u16_at bytes o)) place;
       in_file = omega (arith, right.of.in_file, at, inside, right.offset);
       small = right.of.small;
+      counted = omega (arith, right.counted);
+      number = omega (arith, right.counted, numbered, start_number);
     }
 
 module _ (bytes : List ℕ) (found : List SectionReaches) (index : AreReachesOf bytes found) (a : ℕ) (code : is_code bytes a ≡ true) (count : ℕ) (counted : IsCountAbove found a count) where

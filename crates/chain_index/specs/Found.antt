@@ -1,5 +1,5 @@
 -- What is kept of an image, beside it: how far the chains of its code reach.
-use Rattle.std.specs.Prelude.{◌≡◌, ℕ, ◌+◌, ◌*◌, ◌/◌, ◌<◌, ◌≤◌, ◌^◌, true, IfSome, Some}
+use Rattle.std.specs.Prelude.{◌≡◌, ℕ, ◌+◌, ◌*◌, ◌/◌, ◌<◌, ◌≤◌, ◌^◌, true, IfSome, Some, [], ◌∷◌}
 use Rattle.std.specs.Prelude.{List, length, get_or, All, Contains}
 use Rattle.elf_image.specs.declared.section.Section.{Section}
 use Rattle.elf_image.specs.Sections.{holds_bytes}
@@ -7,6 +7,7 @@ use Rattle.elf_image.specs.Code.{is_even, is_code, code_section_of}
 use Rattle.elf_image.specs.Faults.{IsImage}
 use Rattle.chain_index.specs.declared.lookup.SectionReaches.{SectionReaches}
 use Rattle.chain_index.specs.Chain.{IsChainEnd}
+use Rattle.chain_index.specs.Numbers.{codes_below, code_count}
 
 -- A code section of an accepted file that holds a halfword: its bytes are in the file and in
 -- memory, and it is that of each code address in it.
@@ -28,13 +29,15 @@ pub record AreReaches (bytes : List ℕ) (start : ℕ) (reaches : List ℕ) : Ty
   pub ends : (i d : ℕ) → i < length reaches
       → IsChainEnd bytes (start + 2 * i) (start + 2 * i + 2 * get_or reaches i d)
 
--- What is kept of a code section: its place, and the reaches of all its halfwords.
+-- What is kept of a code section: its place, how many code addresses there are from its first
+-- address on, and the reaches of all its halfwords.
 pub record IsSectionReaches (bytes : List ℕ) (kept : SectionReaches) : Type 0 where
   pub section : Section
   pub of : IsCodeOf bytes section
   pub address : kept.address ≡ section.address
   pub offset : kept.offset ≡ section.offset
   pub size : length kept.reaches.items ≡ section.size / 2
+  pub counted : codes_below bytes kept.address + kept.from ≡ code_count bytes
   pub reaches : AreReaches bytes kept.address kept.reaches.items
 
 -- The addresses of the sections fall.
@@ -47,10 +50,16 @@ AreFalling found =
 abbrev pub BeginsAt : List SectionReaches → ℕ → Type 0
 BeginsAt found a = (kept : SectionReaches) × Contains found kept × (kept.address ≡ a)
 
--- These are the reaches of the chains of the image with these bytes, what an index of it keeps:
--- those of a code section each, from the highest address down, and the section of each code address
+-- What the last of them counts; count, if there is none.
+abbrev pub last_count : ℕ → List SectionReaches → ℕ
+last_count count [] = count
+last_count count (kept ∷ more) = last_count kept.from more
+
+-- These are the reaches of the chains of the image with these bytes, which an index of it keeps.
+-- Each item is of one code section, from the highest address down. The section of each code address
 -- is among them.
 pub record AreReachesOf (bytes : List ℕ) (found : List SectionReaches) : Type 0 where
   pub right : All (IsSectionReaches bytes) found
   pub falling : AreFalling found
   pub whole : (a : ℕ) → IfSome (code_section_of bytes a) (λ s. BeginsAt found s.address)
+  pub counted : last_count 0 found ≡ code_count bytes

@@ -1,3 +1,4 @@
 pub mod Chain
 pub mod Found
 pub mod Inner
+pub mod Numbers

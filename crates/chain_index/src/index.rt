@@ -5,9 +5,10 @@ ghost use Rattle.std.specs.List.Sorted.{IsNonDecreasing};
 ghost use Rattle.elf_image.specs.Code.{is_code};
 ghost use Rattle.chain_index.specs.Chain.{next_of, IsChainEnd};
 ghost use Rattle.chain_index.specs.Found.{AreReachesOf, IsCodeOf};
+ghost use Rattle.chain_index.specs.Numbers.{codes_below, code_count};
 ghost use Rattle.chain_index.specs.Inner.{IsReachedAt, Reaches, length_by};
 
-use crate::lookup::{SectionReaches, count_above, widest};
+use crate::lookup::{SectionReaches, count_above, halfwords, widest};
 use crate::memory::Memory;
 use crate::over_sections::over_sections;
 use crate::reach::section_reaches;
@@ -24,7 +25,9 @@ pub struct ChainIndex<'a> {
     image: &'a Image,
     /// The code sections that hold a halfword, from the highest address down.
     sections: Vec<SectionReaches>,
-    /// The place of the widest of them, where most addresses lie; 0 where there is none.
+    /// How many code addresses there are.
+    numbers: u32,
+    /// The place of the widest of them, where most addresses lie; 0 if there is none.
     widest: usize,
 }
 
@@ -35,13 +38,16 @@ impl<'a> Model for ChainIndex<'a> {
 
     ghost view = { λ index. index.image.now };
 
+    ghost use Rattle.std.specs.Prelude.{◌≡◌};
     ghost use Rattle.chain_index.specs.Found.{AreReachesOf};
+    ghost use Rattle.chain_index.specs.Numbers.{code_count};
 
-    ghost invariant = { λ index. AreReachesOf index.image.now index.sections.items };
+    ghost invariant = { λ index. AreReachesOf index.image.now index.sections.items
+        × (index.numbers ≡ code_count index.image.now) };
 }
 
-/// What an index keeps beside the image, so that it can be made where no image can be borrowed for
-/// so long. Contracts see what is kept of each section.
+/// What an index keeps beside the image, so that it can be made if no image can be borrowed for
+/// that long. Contracts see what is kept of each section.
 #[derive(Drop)]
 pub struct ChainReaches {
     sections: Vec<SectionReaches>,
@@ -57,9 +63,9 @@ impl Model for ChainReaches {
 }
 
 impl ChainReaches {
-    /// What an index keeps of an image. It takes time and memory linear in the sizes of the code
-    /// sections: four bytes for each halfword, taken once a section. The only error is that memory
-    /// ran out.
+    /// What an index keeps of an image. Memory is taken once a section, four bytes for each
+    /// halfword. The only error is that memory ran out.
+    /// Time: O(bytes of code). Memory: O(bytes of code).
     pub fn new(alloc: Global, image: &Image) -> Result<ChainReaches, Memory>
         ensures { IfOk result (AreReachesOf image.now) }
     {
@@ -69,11 +75,10 @@ impl ChainReaches {
         Ok(ChainReaches { sections })
     }
 
-    /// The same, made by so many workers, from 1 to 64. With one worker no thread is started, nor
+    /// The same, made by `workers` workers, from 1 to 64. With one worker no thread is started, nor
     /// for a section of fewer than 65,536 halfwords. In a longer one each worker makes the reaches
-    /// of a stretch; before that it walks the chains of the two halfwords behind its stretch, which
-    /// takes time linear in their lengths, and so on one long straight run in that of all the rest
-    /// of the section.
+    /// of a range. Before that it walks the chains of the two halfwords after its range. On one
+    /// long straight run these have the length of all the rest of the section.
     pub fn new_by<R: Threads + Sync>(
         rt: &R,
         alloc: Global,
@@ -134,14 +139,15 @@ impl<'a> ChainIndex<'a> {
     {
         ChainIndex {
             image,
+            numbers: halfwords(&reaches.sections),
             widest: widest(&reaches.sections),
             sections: reaches.sections,
         }
     }
 
-    /// The last address of the chain of the code address `a`: the first one from there on behind
-    /// which control does not go straight on to code. The widest code section is asked first;
-    /// elsewhere it takes time logarithmic in the number of code sections.
+    /// The last address of the chain of the code address `a`: the first one from there on after
+    /// which control does not go straight on to code.
+    /// Time: O(1) in the widest of n code sections, else O(log n).
     pub fn term(&self, a: u64) -> u64
         requires { IsTrue (is_code self.now a) }
         ensures { IsChainEnd self.now a result }
@@ -150,9 +156,9 @@ impl<'a> ChainIndex<'a> {
         a + 2 * u64::from(s.reach(a))
     }
 
-    /// The address behind the instruction at the code address `a`, where control goes straight on
-    /// to code there; `None` exactly where `a` ends its chain. It decodes nothing, and takes the
-    /// time of [`term`](Self::term).
+    /// The address after the instruction at the code address `a`, if control goes straight on to
+    /// code there; `None` exactly if `a` ends its chain. It decodes nothing.
+    /// Time: as [`term`](Self::term).
     pub fn next(&self, a: u64) -> Option<u64>
         requires { IsTrue (is_code self.now a) }
         ensures { result ≡ next_of self.now a }
@@ -164,15 +170,33 @@ impl<'a> ChainIndex<'a> {
         Some(a + straight_length(s.half(self.image, a)))
     }
 
-    /// Addresses that cut the code into so many stretches of about the same size in bytes, over all
-    /// code sections in the order of their addresses: one fewer than stretches, where memory
-    /// suffices. They may be equal where there is little code.
+    /// The number of the code address `a`: how many code addresses lie below it. So different ones
+    /// have different numbers, in the order of the addresses. Time: that of [`term`](Self::term).
+    pub fn number(&self, a: u64) -> u32
+        requires { IsTrue (is_code self.now a) }
+        ensures number { result ≡ codes_below self.now a }
+        ensures below { result < code_count self.now }
+    {
+        let s = self.section(a);
+        self.numbers - s.from + ((a - s.address) / 2) as u32
+    }
+
+    /// How many code addresses there are: all numbers are below.
+    pub fn numbers(&self) -> u32
+        ensures { result ≡ code_count self.now }
+    {
+        self.numbers
+    }
+
+    /// `count - 1` addresses that cut the code into `count` ranges of about the same size in bytes,
+    /// over all code sections in the order of their addresses. They may be equal if there is little
+    /// code.
     pub fn bounds(&self, alloc: Global, count: u32) -> Result<Vec<u64>, Memory>
         requires { 1 ≤ count }
         ensures few { IfOk result (λ bounds. vec_len bounds ≤ count) }
         ensures rising { IfOk result (λ bounds. IsNonDecreasing bounds.items) }
     {
-        let share = self.halfwords() / u64::from(count);
+        let share = u64::from(self.numbers) / u64::from(count);
         let mut bounds = Vec::new(alloc);
         for i in 1..count {
             bounds.push(self.nth_halfword(share.saturating_mul(u64::from(i))))?;
@@ -181,14 +205,7 @@ impl<'a> ChainIndex<'a> {
         Ok(bounds)
     }
 
-    /// How many halfwords of code there are.
-    fn halfwords(&self) -> u64 {
-        self.sections
-            .iter()
-            .fold(0u64, |sum, s| sum.saturating_add(s.reaches.len() as u64))
-    }
-
-    /// The address of the `n`-th halfword of the code, from 0 on; 0 where there are not so many.
+    /// The address of the `n`-th halfword of the code, from 0 on; 0 if there is none.
     fn nth_halfword(&self, n: u64) -> u64 {
         let mut left = n;
         for s in self.sections.iter().rev() {
@@ -222,8 +239,8 @@ impl<'a> ChainIndex<'a> {
     }
 }
 
-/// The length in bytes of an instruction that begins with the halfword `half` and behind which
-/// control goes straight on: its low two bits tell a 16-bit one.
+/// The length in bytes of an instruction that begins with the halfword `half` and goes straight on:
+/// its low two bits tell a 16-bit one.
 fn straight_length(half: u16) -> u64
     ensures { result ≡ length_by half }
 {

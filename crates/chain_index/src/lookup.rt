@@ -4,7 +4,7 @@ ghost use Rattle.std.specs.Prelude.{◌≡◌, ℕ, ◌+◌, ◌-◌, ◌*◌, �
 ghost use Rattle.std.specs.Prelude.{IfSome, IfNone, nat_le, nat_lt, ◌&&◌};
 ghost use Rattle.elf_image.specs.Code.{half_at};
 ghost use Rattle.chain_index.specs.Chain.{IsChainEnd};
-ghost use Rattle.chain_index.specs.Found.{AreFalling, BeginsAt};
+ghost use Rattle.chain_index.specs.Found.{AreFalling, BeginsAt, last_count};
 ghost use Rattle.chain_index.specs.Inner.{AreRight, IsCountAbove};
 ghost use Rattle.chain_index.specs.Inner.{IsReachedAt, Reaches};
 
@@ -17,6 +17,8 @@ pub(crate) struct SectionReaches {
     pub(crate) address: u64,
     /// Where its bytes begin in the file.
     pub(crate) offset: u64,
+    /// How many halfwords of code there are from its address on, in this section and those above.
+    pub(crate) from: u32,
     /// Of each of its halfwords, how many halfwords the last address of the chain lies ahead.
     pub(crate) reaches: Vec<u32>,
 }
@@ -55,7 +57,7 @@ impl SectionReaches {
     }
 }
 
-/// The place of the section with the most halfwords; 0 where there is none.
+/// The place of the section with the most halfwords; 0 if there is none.
 pub(crate) fn widest(sections: &[SectionReaches]) -> usize {
     sections
         .iter()
@@ -64,8 +66,19 @@ pub(crate) fn widest(sections: &[SectionReaches]) -> usize {
         .map_or(0, |(place, _)| place)
 }
 
-/// How many of the sections begin above `a`: the next one, where there is one, is the last that
-/// begins at `a` or before.
+/// How many halfwords of code the sections have together, of which the last begins at the lowest
+/// address.
+pub(crate) fn halfwords(sections: &[SectionReaches]) -> u32
+    ensures { result ≡ last_count 0 sections.now }
+{
+    match sections.last() {
+        None => 0,
+        Some(lowest) => lowest.from,
+    }
+}
+
+/// How many of the sections begin above `a`: the next one, if there is one, is the last that begins
+/// at `a` or before.
 pub(crate) fn count_above(sections: &[SectionReaches], a: u64) -> usize
     requires { AreFalling sections.now }
     ensures { IsCountAbove sections.now a result }
@@ -73,7 +86,7 @@ pub(crate) fn count_above(sections: &[SectionReaches], a: u64) -> usize
     sections.partition_point(|s| s.address > a)
 }
 
-/// How far the chain of the address `a` reaches, where one of the sections begins there.
+/// How far the chain of the address `a` reaches, if one of the sections begins there.
 pub(crate) fn first_reach(sections: &[SectionReaches], a: u64) -> Option<u32>
     requires { AreFalling sections.now }
     ensures some { IfSome result

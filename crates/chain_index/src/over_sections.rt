@@ -1,10 +1,10 @@
 //! The passes over all code sections, one after the other.
 
-ghost use Rattle.std.specs.Prelude.{◌≡◌, ◌+◌, ◌*◌, ◌/◌, IfOk, length};
+ghost use Rattle.std.specs.Prelude.{◌≡◌, ◌+◌, ◌*◌, ◌/◌, ◌^◌, ◌<◌, IfOk, length};
 ghost use Rattle.chain_index.specs.Found.{IsCodeOf, AreReaches, AreReachesOf};
 ghost use Rattle.chain_index.specs.Inner.{Reaches};
 
-use crate::lookup::{SectionReaches, first_reach};
+use crate::lookup::{SectionReaches, first_reach, halfwords};
 use crate::memory::Memory;
 use crate::sections::code_sections;
 use elf_image::{Image, Section};
@@ -12,8 +12,9 @@ use rv_flow::StraightForms;
 use std::alloc::Global;
 
 /// The code sections that hold a halfword, from the highest address down, with the reaches that
-/// `pass` makes of each. It gets the forms that all passes on this thread share, and how far the
-/// chain of the address behind the section's last halfword reaches, where code stands there.
+/// `pass` makes of each. It gets the forms that all passes on this thread share. If code stands at
+/// the address after the section's last halfword, it also gets how far the chain of that address
+/// reaches.
 pub(crate) fn over_sections<F>(
     alloc: Global,
     image: &Image,
@@ -35,12 +36,26 @@ where
     let mut forms = StraightForms::new(alloc);
     while let Some(s) = left.pop() {
         let behind = first_reach(&found, s.address + s.size / 2 * 2);
+        let from = more_numbers(halfwords(&found), s.size / 2)?;
         let reaches = pass(&mut forms, s, behind)?;
         found.push(SectionReaches {
             address: s.address,
             offset: s.offset,
+            from,
             reaches,
         })?;
     }
     Ok(found)
+}
+
+/// So many numbers and so many more. The only error is that there are more than 32 bits hold, so
+/// that what is kept of them takes 16 GiB.
+fn more_numbers(count: u32, more: u64) -> Result<u32, Memory>
+    requires { more < 2 ^ 63 }
+    ensures { IfOk result (λ all. all ≡ count + more) }
+{
+    match u32::try_from(u64::from(count) + more) {
+        Ok(all) => Ok(all),
+        Err(_) => Err(Memory),
+    }
 }

@@ -1,4 +1,4 @@
-//! The pass over one code section, or over a stretch of it.
+//! The pass over one code section, or over a range of it.
 
 ghost use Rattle.std.specs.Prelude.{◌≡◌, ℕ, ◌+◌, ◌*◌, ◌/◌, ◌^◌, ◌≤◌, ◌<◌, ◌⊎◌, IfOk, IfSome};
 ghost use Rattle.std.specs.Prelude.{length, take, drop, slice_index_or};
@@ -13,8 +13,8 @@ use elf_image::{Image, Section, Span, u16_at, u32_at};
 use rv_flow::StraightForms;
 use std::alloc::Global;
 
-/// How far the chain of each halfword of the code section `s` reaches, in halfwords; `behind` is
-/// how far that of the address behind its last halfword does, where code stands there.
+/// How far the chain of each halfword of the code section `s` reaches, in halfwords. `behind` is
+/// how far that of the address after its last halfword does, if code stands there.
 pub(crate) fn section_reaches(
     alloc: Global,
     image: &Image,
@@ -47,7 +47,7 @@ pub(crate) fn room_for(alloc: Global, s: Section, behind: Option<u32>) -> Result
     Ok(vec![in alloc; 0; count as usize]?)
 }
 
-/// Makes the reaches of a stretch of a section's halfwords, from the number `from` on, going back
+/// Makes the reaches of a range of a section's halfwords, from the number `from` on, going back
 /// from its last one.
 pub(crate) fn pass_back(
     image: &Image,
@@ -86,8 +86,8 @@ pub(crate) fn section_bytes(image: &Image, s: Section) -> &[u8]
     })
 }
 
-/// The length of the instruction at an offset of a section's bytes, where control goes straight on
-/// behind it.
+/// The length of the instruction at an offset of a section's bytes, if control goes straight on
+/// after it.
 pub(crate) fn length_at(forms: &mut StraightForms, code: &[u8], at: usize) -> Option<u8>
     requires { at + 2 ≤ length code.now }
     ensures answer { IsStraightLength (u16_at code.now at) (word_of code.now at) result }
@@ -101,9 +101,9 @@ pub(crate) fn length_at(forms: &mut StraightForms, code: &[u8], at: usize) -> Op
     forms.length(u16_at(code, at), word)
 }
 
-/// How far a chain reaches over its first instruction, where control goes straight on behind that
-/// and it has this length; `near` and `far` are how far the chains of the first and the second
-/// halfword behind its first one reach, where code stands there.
+/// How far a chain reaches over its first instruction, if control goes straight on after that and
+/// it has this length. `near` and `far` are how far the chains of the first and the second halfword
+/// after its first one reach, if code stands there.
 pub(crate) fn reach_over(length: Option<u8>, near: Option<u32>, far: Option<u32>) -> u32
     requires fits { reach_over length near far < 2 ^ 32 }
     ensures { result ≡ reach_over length near far }

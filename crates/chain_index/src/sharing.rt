@@ -19,7 +19,7 @@ pub const MOST_WORKERS: u32 = 64;
 /// How many halfwords a section has at least for which threads are started.
 const LEAST_SHARED: u64 = 1 << 16;
 
-/// How many of the workers a section of so many halfwords takes: one, if it is short.
+/// How many of the workers a section of this many halfwords takes: one, if it is short.
 pub(crate) fn workers_for(halfwords: u64, workers: usize) -> usize
     requires { 0 < workers }
     ensures { 0 < result }
@@ -27,8 +27,8 @@ pub(crate) fn workers_for(halfwords: u64, workers: usize) -> usize
     if halfwords < LEAST_SHARED { 1 } else { workers }
 }
 
-/// The answer of [`section_reaches`]. Each worker makes the reaches of a stretch; where there are
-/// several, each has forms of its own.
+/// The answer of [`section_reaches`]. Each worker makes the reaches of a range. If there are
+/// several workers, each has forms of its own.
 pub(crate) fn reaches_by<R: Threads + Sync>(
     rt: &R,
     alloc: Global,
@@ -52,8 +52,8 @@ pub(crate) fn reaches_by<R: Threads + Sync>(
     Ok(reaches)
 }
 
-/// Makes the reaches of all halfwords, a stretch of them on a thread of its own for each worker.
-/// Each decodes for itself, so that nothing has to be decoded before the threads start.
+/// Makes the reaches of all halfwords, a range of them on a thread of its own for each worker. Each
+/// decodes for itself, so that nothing has to be decoded before the threads start.
 fn pass_all<R: Threads + Sync>(
     rt: &R,
     alloc: Global,

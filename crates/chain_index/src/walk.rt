@@ -8,9 +8,9 @@ use crate::reach::{length_at, reach_over, section_bytes};
 use elf_image::{Image, Section};
 use rv_flow::StraightForms;
 
-/// How far the chain of the halfword with the number `i` of a section reaches, or of the address
-/// behind its last halfword, of which that is `behind`. It takes time linear in the length of the
-/// chain in the section.
+/// How far the chain of the halfword with the number `i` of a section reaches. For the address
+/// after its last halfword that is `behind`.
+/// Time: O(length of the chain in the section).
 pub(crate) fn reach_at(
     image: &Image,
     forms: &mut StraightForms,
@@ -55,8 +55,8 @@ fn walked(
     }
 }
 
-/// How many halfwords an instruction of this length takes; none where control does not go straight
-/// on behind it.
+/// How many halfwords an instruction of this length takes; none if control does not go straight on
+/// after it.
 fn halfwords(length: Option<u8>) -> usize
     ensures { result ≡ halfwords length }
 {

@@ -1,5 +1,5 @@
 //! Prints the expansion of each halfword that it reads: a line for each line of standard input,
-//! both in hexadecimal, as `479d 00700793`, or `9c41 none` where no compressed form holds.
+//! both in hexadecimal, as `479d 00700793`, or `9c41 none` if no compressed form holds.
 #![tactic(auto)]
 
 use num_traits::Num;

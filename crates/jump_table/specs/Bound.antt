@@ -1,4 +1,4 @@
--- The bound test in front of a jump table (this project's profile).
+-- The bound test before a jump table (this project's profile).
 use Rattle.std.specs.Prelude.{ℕ, ◌+◌, ◌-◌, ◌==◌, ◌&&◌, not, nat_le, is_some, Bool, true, false}
 use Rattle.std.specs.Prelude.{List, zero, suc, ℤ, pos, negsuc, Option, Some, None, if◌then◌else◌}
 use Rattle.std.specs.Option.{option_map, option_and_then}
@@ -66,14 +66,14 @@ constant_before bytes start b r =
     (if nat_le (start + 2) b then short_constant bytes start (b - 2) r else None)
     (if nat_le (start + 4) b then whole_constant bytes start (b - 4) r else None)
 
--- How many values of the index pass, where the limit is good: up to the limit, or below it.
+-- How many values of the index pass, if the limit is good: up to the limit, or below it.
 abbrev pub bound_by : Bool → ℤ → Option ℕ
 bound_by false (pos n) = Some (n + 1)
 bound_by true (pos zero) = None
 bound_by true (pos (suc n)) = Some (suc n)
 bound_by _ (negsuc n) = None
 
--- The straight run from behind b to the jump at j has at most 16 instructions.
+-- The straight run from after b to the jump at j has at most 16 instructions.
 abbrev pub run_behind : List ℕ → ℕ → ℕ → ℕ → Option (List ℕ)
 run_behind bytes start j b = straight_run bytes start j 16 (b + 4)
 
@@ -85,8 +85,8 @@ test_by bytes start j b c =
     (constant_before bytes start b c.limit)
     else None
 
--- The bound test at b for the jump at j, where there is one: a comparison, a constant set just
--- before it, and a straight run from behind it to the jump.
+-- The bound test at b for the jump at j, if there is one: a comparison, a constant set just before
+-- it, and a straight run from after it to the jump.
 abbrev pub test_at : List ℕ → ℕ → ℕ → ℕ → Option BoundTest
 test_at bytes start j b =
     option_and_then (test_by bytes start j b)

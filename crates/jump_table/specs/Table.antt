@@ -28,8 +28,8 @@ word_extended word = if nat_lt word (2 ^ 31) then word else word + (2 ^ 64 - 2 ^
 abbrev pub doubleword : ℕ → ℕ → ℕ
 doubleword low high = low + 2 ^ 32 * high
 
--- The entry at p, where it is read-only data: a word, sign extended, or a doubleword, of which each
--- half is read by itself.
+-- The entry at p, if it is read-only data: a word, sign extended, or a doubleword, whose halves are
+-- each read by themselves.
 abbrev pub entry_at : List ℕ → ℕ → ℕ → Option ℕ
 entry_at bytes width p =
     if width == 8
@@ -44,7 +44,7 @@ target_by_entry add entry = (entry + add) % 2 ^ 64 / 2 * 2
 abbrev pub kept_target : List ℕ → ℕ → Option ℕ
 kept_target bytes target = if is_code bytes target then Some target else None
 
--- The target of entry i of a table at a base, where the entry is read-only data and leads into the
+-- The target of entry i of a table at a base, if the entry is read-only data and leads into the
 -- code. Data has no address past the last one, so a table does not go on at address 0.
 abbrev pub entry_target : List ℕ → ℕ → ℕ → ℕ → ℕ → Option ℕ
 entry_target bytes base width add i =
@@ -53,7 +53,7 @@ entry_target bytes base width add i =
     (entry_at bytes width (base + width * i))
     else None
 
--- The targets of entry i and those behind it, at most n of them, up to the first that has none.
+-- The targets of entry i and those after it, at most n of them, up to the first that has none.
 abbrev pub targets_from : List ℕ → ℕ → ℕ → ℕ → ℕ → ℕ → List ℕ
 targets_from bytes base width add i zero = []
 targets_from bytes base width add i (suc n) =
@@ -73,13 +73,13 @@ place_of is_open bound (EntryPlus v w k) =
     Some (record { base = v; width = w; add = k; bound = bound; is_open = is_open })
 place_of is_open bound _ = None
 
--- What register r holds at the jump behind the straight run from a, where there is one of at most
--- 16 instructions.
+-- What register r holds at the jump after the straight run from a, if there is one of at most 16
+-- instructions.
 abbrev pub value_behind : Bool → List ℕ → ℕ → ℕ → ℕ → Registers → ℕ → Option Value
 value_behind is_open bytes start j r before a =
     option_map (λ run. after_run is_open bytes run before r) (straight_run bytes start j 16 a)
 
--- The bounded form: what the jump's register holds behind the bound test, whose bound is good.
+-- The bounded form: what the jump's register holds after the bound test, whose bound is good.
 abbrev pub place_by_test : List ℕ → ℕ → ℕ → ℕ → BoundTest → Option Place
 place_by_test bytes start j r test =
     option_and_then
@@ -91,7 +91,7 @@ abbrev pub bounded_place : List ℕ → ℕ → ℕ → ℕ → Option Place
 bounded_place bytes start j r =
     option_and_then (place_by_test bytes start j r) (bound_test bytes start j)
 
--- The open form: what the jump's register holds behind a run in front of which nothing is known.
+-- The open form: what the jump's register holds after a run, if nothing is known before it.
 abbrev pub place_from : List ℕ → ℕ → ℕ → ℕ → ℕ → Option Place
 place_from bytes start j r a =
     option_and_then (place_of true 1024) (value_behind true bytes start j r forgotten a)
@@ -141,7 +141,7 @@ table_through bytes start j r =
     (option_and_then (table_at_place bytes) (bounded_place bytes start j r))
     (option_and_then (table_at_place bytes) (open_place bytes start j r))
 
--- The jump table of the instruction at the code address j, where it is a jump of the pattern.
+-- The jump table of the instruction at the code address j, if it is a jump of the pattern.
 unfoldable pub table_at : List ℕ → ℕ → Option Table
 table_at bytes j =
     option_and_then (λ start. option_and_then (table_through bytes start j)

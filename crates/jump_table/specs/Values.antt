@@ -27,7 +27,7 @@ bytes_of Double = 8
 abbrev pub Registers : Type 0
 Registers = ℕ → Value
 
--- Behind the bound test the index register holds the index, and x0 always holds 0.
+-- After the bound test the index register holds the index, and x0 always holds 0.
 abbrev pub at_test : ℕ → Registers
 at_test index r = if r == 0 then Const 0 else (if r == index then Index else Unknown)
 
@@ -49,7 +49,7 @@ abbrev pub moved_by : ℤ → Value → Value
 moved_by imm (Const v) = Const (address_plus v imm)
 moved_by imm _ = Unknown
 
--- `addi`: a copy where the immediate is 0.
+-- `addi`: a copy if the immediate is 0.
 abbrev pub addi_value : ℤ → Value → Value
 addi_value (pos zero) value = value
 addi_value imm value = moved_by imm value
@@ -81,7 +81,7 @@ add_value before rs1 rs2 =
     if rs2 == 0 then before rs1
     else (if rs1 == 0 then before rs2 else sum_of (before rs1) (before rs2))
 
--- `lw` and `ld` of an address in the table, where the index was scaled by as many bytes.
+-- `lw` and `ld` of an address in the table, if the index was scaled by as many bytes.
 abbrev pub lw_value : ℤ → Value → Value
 lw_value offset (Addr v Word) = Entry (address_plus v offset) Word
 lw_value offset _ = Unknown
@@ -105,7 +105,7 @@ load_value loads.Lw offset value = lw_value offset value
 load_value loads.Ld offset value = ld_value offset value
 load_value _ offset value = Unknown
 
--- What the registers hold behind an instruction at address a.
+-- What the registers hold after an instruction at address a.
 abbrev pub after : Bool → ℕ → Insn → Registers → Registers
 after is_open a (insns.Lui rd imm) before = written before rd (Const (cast_unsigned w64 imm))
 after is_open a (insns.Auipc rd imm) before = written before rd (Const (address_plus a imm))
@@ -130,7 +130,7 @@ abbrev pub after_placed : Bool → ℕ → Option Insn → Registers → Registe
 after_placed is_open a None before = before
 after_placed is_open a (Some insn) before = after is_open a insn before
 
--- What the registers hold behind a run of instructions at these addresses.
+-- What the registers hold after a run of instructions at these addresses.
 abbrev pub after_run : Bool → List ℕ → List ℕ → Registers → Registers
 after_run is_open bytes [] before = before
 after_run is_open bytes (a ∷ run) before =

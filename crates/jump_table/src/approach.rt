@@ -10,7 +10,7 @@ use elf_image::Image;
 /// How far before the jump a run to it begins, in parcels of two bytes: 16 instructions of four.
 pub(crate) const MOST_PARCELS: usize = 32;
 
-/// The instructions in front of a jump that lead straight to it, within its code section.
+/// The instructions before a jump that lead straight to it, within its code section.
 #[derive(Clone, Copy)]
 pub(crate) struct Approach<'a> {
     pub(crate) image: &'a Image,
@@ -18,7 +18,7 @@ pub(crate) struct Approach<'a> {
     pub(crate) start: u64,
     /// The address of the jump.
     pub(crate) jump: u64,
-    /// The instruction so many parcels of two bytes before the jump; none where no straight run
+    /// The instruction this many parcels of two bytes before the jump; none if no straight run
     /// leads from there to the jump. The place 0 is that of the jump and stays empty.
     pub(crate) steps: [Option<Step>; MOST_PARCELS + 1],
     pub(crate) ghost inside: { start ≤ jump },
@@ -43,9 +43,8 @@ impl<'a> Approach<'a> {
     }
 }
 
-/// The steps in front of the jump at `jump`, found from it backwards. Of two parcels that follow
-/// each other a run to the jump stands on one, so where neither leads there nothing further away
-/// does.
+/// The steps before the jump at `jump`, found from it backwards. Of two parcels that follow each
+/// other a run to the jump stands on one, so if neither leads there nothing further away does.
 fn steps_before(image: &Image, start: u64, jump: u64) -> [Option<Step>; MOST_PARCELS + 1]
     requires { start ≤ jump }
     ensures { AreSteps image.now start jump result }
@@ -64,7 +63,7 @@ fn steps_before(image: &Image, start: u64, jump: u64) -> [Option<Step>; MOST_PAR
     steps
 }
 
-/// The step that is `parcels` before the jump, where those nearer to it are known.
+/// The step that is `parcels` before the jump, if those nearer to it are known.
 fn step_at(
     image: &Image,
     start: u64,

@@ -1,4 +1,4 @@
-//! The bound test in front of a jump table.
+//! The bound test before a jump table.
 
 ghost use Rattle.std.specs.Prelude.{◌≡◌, ◌+◌, ◌-◌, ◌*◌, ◌<◌, ◌≤◌, IfSome};
 ghost use Rattle.jump_table.specs.Inner.Operands.{IsRegister, IsImmediate, HasOperands};
@@ -14,27 +14,27 @@ use elf_image::Image;
 use rv_decode::{BranchKind, ImmKind, Insn, decode};
 use rvc_expand::expand;
 
-/// A comparison that leaves the pattern where the index passes its limit: `bltu limit, index`, or
-/// `bgeu index, limit`, which leaves it where they are equal too.
+/// A comparison that leaves the pattern if the index passes its limit: `bltu limit, index`, or
+/// `bgeu index, limit`, which leaves it if they are equal too.
 #[derive(Clone, Copy)]
-pub(crate) struct Comparison {
+pub struct Comparison {
     /// The register of the index.
-    index: u8,
+    pub index: u8,
     /// The register of the limit.
-    limit: u8,
+    pub limit: u8,
     /// Whether an index that equals the limit is excluded.
-    excludes_equal: bool,
+    pub excludes_equal: bool,
 }
 
 /// A bound test.
 #[derive(Clone, Copy)]
-pub(crate) struct BoundTest {
+pub struct BoundTest {
     /// The address of its comparison.
-    pub(crate) at: u64,
+    pub at: u64,
     /// The register of the index.
-    pub(crate) index: u8,
-    /// How many values of the index pass; `None` where the limit is not good.
-    pub(crate) bound: Option<u32>,
+    pub index: u8,
+    /// How many values of the index pass; `None` if the limit is not good.
+    pub bound: Option<u32>,
 }
 
 /// The bound test of the jump: the one nearest to it, from 4 up to 68 bytes before it. No other is
@@ -55,8 +55,8 @@ pub(crate) fn bound_test(way: &Approach) -> Option<BoundTest>
     None
 }
 
-/// The bound test so many parcels before the jump, where there is one: a comparison, a constant set
-/// just before it, and a straight run from behind it to the jump.
+/// The bound test this many parcels before the jump, if there is one: a comparison, a constant set
+/// just before it, and a straight run from after it to the jump.
 fn test_at(way: &Approach, parcels: usize) -> Option<BoundTest>
     requires some { 2 ≤ parcels }
     requires few { parcels < 35 }

@@ -10,7 +10,7 @@ use elf_image::Image;
 
 /// The target of entry number `i`, from 0, of a table of this image: a code address.
 ///
-/// Only this entry is read: one data word, or two where entries are doublewords.
+/// Only this entry is read: one data word, or two if entries are doublewords.
 pub fn entry_target(image: &Image, table: &Table, i: u32) -> u64
     requires found { IsTableOf image.now table.now }
     requires inside { i < table.now.count }
@@ -32,8 +32,8 @@ pub(crate) fn count_entries(image: &Image, base: u64, width: u8, add: u64, bound
     bound
 }
 
-/// The target of entry number `i` of a table at `base`, where it is read-only data and leads into
-/// the code.
+/// The target of entry number `i` of a table at `base`, if it is read-only data and leads into the
+/// code.
 pub(crate) fn target_at(image: &Image, base: u64, width: u8, add: u64, i: u32) -> Option<u64>
     ensures { result ≡ entry_target image.now base width add i }
 {

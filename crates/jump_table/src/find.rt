@@ -15,7 +15,7 @@ use crate::table::Table;
 use elf_image::Image;
 use rv_flow::{RawFlow, raw_flow};
 
-/// The jump table of the instruction at the code address `j`; `None` exactly where it is no jump of
+/// The jump table of the instruction at the code address `j`; `None` exactly if it is no jump of
 /// the pattern.
 pub fn find_table(image: &Image, j: u64) -> Option<Table>
     requires { IsTrue (is_code image.now j) }
@@ -27,9 +27,9 @@ pub fn find_table(image: &Image, j: u64) -> Option<Table>
 /// The target of entry number `i`, from 0, of the jump table of the jump at the code address `j`: a
 /// code address.
 ///
-/// It is what [`entry_target`](crate::entry_target) gives of the table that [`find_table`] finds,
-/// and takes the time of one look at the pattern, whatever the number of entries. Who goes over
-/// many entries finds the table once and asks `entry_target` for each.
+/// It is what [`entry_target`](crate::entry_target) gives of the table that [`find_table`] finds. A
+/// caller that goes over many entries finds the table once and asks `entry_target` for each.
+/// Time: one look at the pattern, for any number of entries.
 pub fn target_of(image: &Image, j: u64, i: u32) -> u64
     requires code { IsTrue (is_code image.now j) }
     requires entry { HasEntry image.now j i }
@@ -66,7 +66,7 @@ fn jump_register(image: &Image, j: u64) -> Option<u8>
     }
 }
 
-// Where the table of the jump at `j` through `register` would stand: by its bound test where that
+// Where the table of the jump at `j` through `register` would stand: by its bound test if that
 // gives a table, and else without one.
 fn place_through(image: &Image, start: u64, j: u64, register: u8) -> Option<Place>
     requires below { start ≤ j }

@@ -1,5 +1,4 @@
-//! The jump table behind a jump through a register: by the pattern of a bounds check, or without
-//! one.
+//! The jump table of a jump through a register: by the pattern of a bounds check, or without one.
 //!
 //! `specs/` says what the pattern is: the bound test, the values that registers hold on the way to
 //! the jump, and the table that they tell.
@@ -16,6 +15,10 @@ mod table;
 mod values;
 mod width;
 
+pub use bound::{BoundTest, Comparison};
 pub use entries::entry_target;
 pub use find::{find_table, target_of};
+pub use place::Place;
 pub use table::Table;
+pub use values::Value;
+pub use width::Width;

@@ -17,17 +17,17 @@ const MOST_OPEN_ENTRIES: u32 = 1024;
 
 /// Where a jump table stands, whose entries are not counted yet.
 #[derive(Clone, Copy)]
-pub(crate) struct Place {
+pub struct Place {
     /// The address of the first entry.
-    pub(crate) base: u64,
+    pub base: u64,
     /// The size of an entry.
-    pub(crate) width: Width,
+    pub width: Width,
     /// What is added to an entry.
-    pub(crate) add: u64,
+    pub add: u64,
     /// How many entries may count.
-    pub(crate) bound: u32,
+    pub bound: u32,
     /// Whether it was found without a bound test.
-    pub(crate) is_open: bool,
+    pub is_open: bool,
 }
 
 /// Where the table of the jump through `register` would stand by its bound test.
@@ -73,7 +73,7 @@ pub(crate) fn open_place(way: &Approach, register: u8) -> Option<Place>
     None
 }
 
-// Where the table would stand by the run that begins so many parcels before the jump.
+// Where the table would stand by the run that begins this many parcels before the jump.
 fn place_from(way: &Approach, parcels: usize, register: u8) -> Option<Place>
     requires few { parcels < 33 }
     requires inside { way.now.start + 2 * parcels ≤ way.now.jump }
@@ -86,8 +86,8 @@ fn place_from(way: &Approach, parcels: usize, register: u8) -> Option<Place>
     place_of(true, MOST_OPEN_ENTRIES, value)
 }
 
-// Where the table stands of which `bound` entries may count: the value of the jump's register tells
-// it.
+// Where the table stands, if `bound` of its entries may count: the value of the jump's register
+// tells it.
 fn place_of(is_open: bool, bound: u32, value: Value) -> Option<Place>
     ensures { result ≡ place_of is_open bound value }
 {

@@ -1,4 +1,4 @@
-//! Straight runs of instructions to a jump, and what registers hold behind them.
+//! Straight runs of instructions to a jump, and what registers hold after them.
 
 ghost use Rattle.std.specs.Prelude.{◌≡◌, ◌+◌, ◌-◌, ◌*◌, ◌<◌, ◌≤◌, Bool, is_some};
 ghost use Rattle.jump_table.specs.Inner.Operands.{IsRegister};
@@ -12,7 +12,7 @@ use crate::values::{Registers, Value};
 /// How many instructions may stand in a run.
 const MOST_INSTRUCTIONS: u32 = 16;
 
-/// Whether a run leads from so many parcels before the jump to it.
+/// Whether a run leads from this many parcels before the jump to it.
 pub(crate) fn reaches(way: &Approach, parcels: usize) -> bool
     requires few { parcels < 33 }
     requires inside { way.now.start + 2 * parcels ≤ way.now.jump }
@@ -33,8 +33,8 @@ pub(crate) fn reaches(way: &Approach, parcels: usize) -> bool
     left == 0
 }
 
-/// What `register` holds at the jump behind the run from so many parcels before it, where there is
-/// one, if the registers hold this in front of the run.
+/// What `register` holds at the jump after the run from this many parcels before it, if there is
+/// such a run and the registers hold this before it.
 pub(crate) fn value_behind(
     way: &Approach,
     parcels: usize,

@@ -1,4 +1,4 @@
-//! One straight instruction in front of a jump.
+//! One straight instruction before a jump.
 
 ghost use Rattle.std.specs.Prelude.{◌≡◌, IsTrue, IfSome};
 ghost use Rattle.elf_image.specs.Code.{is_code};
@@ -10,7 +10,7 @@ use elf_image::Image;
 use rv_decode::{Insn, decode};
 use rv_flow::{Placed, RawFlow, flow_of, insn_at};
 
-/// An instruction that goes straight on, in front of a jump to which it leads.
+/// An instruction that goes straight on, before a jump to which it leads.
 #[derive(Clone, Copy)]
 pub(crate) struct Step {
     /// What it is.
@@ -42,8 +42,7 @@ pub(crate) fn whole_insn_at(image: &Image, start: u64, a: u64) -> Option<Insn>
     }
 }
 
-/// The instruction at `a`, where it lies in the section that starts at `start` and goes straight
-/// on.
+/// The instruction at `a`, if it lies in the section that starts at `start` and goes straight on.
 pub(crate) fn straight_at(image: &Image, start: u64, a: u64) -> Option<Placed>
     ensures value { result ≡ straight_at image.now start a }
     ensures length { IfSome result (λ placed. IsLength placed.length) }

@@ -12,7 +12,7 @@ use rv_decode::{ImmKind, Insn, LoadKind, RegKind};
 
 /// What is known of a register's value. Sums are modulo 2 to the power 64.
 #[derive(Clone, Copy)]
-pub(crate) enum Value {
+pub enum Value {
     /// Nothing.
     Unknown,
     /// A constant.
@@ -29,7 +29,14 @@ pub(crate) enum Value {
     /// An entry of the table at this address: a word, sign extended to 64 bits, or a doubleword.
     Entry(u64, Width),
     /// An entry of the table at an address, plus a constant.
-    EntryPlus { table: u64, width: Width, add: u64 },
+    EntryPlus {
+        /// The address of the table.
+        table: u64,
+        /// The size of an entry.
+        width: Width,
+        /// The constant.
+        add: u64,
+    },
 }
 
 /// What the 32 registers hold. The place of x0 says nothing: it always holds 0.
@@ -40,7 +47,7 @@ pub(crate) struct Registers {
 }
 
 impl Registers {
-    /// Behind a bound test of the register `index`.
+    /// After a bound test of the register `index`.
     pub(crate) fn at_test(index: u8) -> Registers
         requires { IsRegister index }
         ensures { held_by result.values ≡ at_test index }
@@ -50,7 +57,7 @@ impl Registers {
         registers
     }
 
-    /// Where nothing is known but of x0.
+    /// Registers of which only x0 is known.
     pub(crate) fn unknown() -> Registers
         ensures { held_by result.values ≡ forgotten }
     {
@@ -129,7 +136,7 @@ fn imm_value(is_open: bool, kind: ImmKind, imm: i64, value: Value) -> Value
     }
 }
 
-// `addi` copies where the immediate is 0, and else moves a constant.
+// `addi` copies if the immediate is 0, and else moves a constant.
 fn addi_value(imm: i64, value: Value) -> Value
     ensures { result ≡ addi_value imm value }
 {
@@ -214,7 +221,7 @@ fn sum_of(first: Value, second: Value) -> Value
     }
 }
 
-// `lw` and `ld` of an address in the table, where the index was scaled by as many bytes.
+// `lw` and `ld` of an address in the table, if the index was scaled by as many bytes.
 fn load_value(kind: LoadKind, offset: i64, value: Value) -> Value
     ensures { result ≡ load_value kind offset value }
 {

@@ -5,7 +5,7 @@ ghost use Rattle.jump_table.specs.Values.{bytes_of};
 
 /// The size of an entry of a table, by which the index was scaled.
 #[derive(Clone, Copy)]
-pub(crate) enum Width {
+pub enum Width {
     /// Four bytes.
     Word,
     /// Eight bytes.
@@ -14,7 +14,7 @@ pub(crate) enum Width {
 
 impl Width {
     /// The size in bytes.
-    pub(crate) fn bytes(self) -> u8
+    pub fn bytes(self) -> u8
         ensures value { result ≡ bytes_of self }
         ensures some { 0 < result }
     {

@@ -64,15 +64,15 @@ i_immediate w = sign_extended 12 (field w 31 20)
 abbrev pub s_immediate : ℕ → ℤ
 s_immediate w = sign_extended 12 (field w 31 25 * 2 ^ 5 + field w 11 7)
 
--- B-immediate (section 2.3): bit 31 is its bit 12, bit 7 its bit 11, bits 30 to 25 its bits 10 to
--- 5, bits 11 to 8 its bits 4 to 1, and its bit 0 is 0
+-- B-immediate (section 2.3): bits 12 and 11 are the word's bits 31 and 7. Bits 10 to 5 are its bits
+-- 30 to 25, bits 4 to 1 its bits 11 to 8, and bit 0 is 0
 abbrev pub b_offset : ℕ → ℤ
 b_offset w =
     sign_extended 13
     (field w 31 31 * 2 ^ 12 + field w 7 7 * 2 ^ 11 + field w 30 25 * 2 ^ 5 + field w 11 8 * 2)
 
--- J-immediate (section 2.3): bit 31 is its bit 20, bits 19 to 12 its bits 19 to 12, bit 20 its bit
--- 11, bits 30 to 21 its bits 10 to 1, and its bit 0 is 0
+-- J-immediate (section 2.3): bits 20 and 11 are the word's bits 31 and 20. Bits 19 to 12 are its
+-- bits 19 to 12, bits 10 to 1 its bits 30 to 21, and bit 0 is 0
 abbrev pub j_offset : ℕ → ℤ
 j_offset w =
     sign_extended 21

@@ -18,7 +18,7 @@ AtMostOneRowHolds =
     → IsTrue (holds s w)
     → i ≡ j
 
--- A word of which a row holds is what this row means, wherever the row stands in the table.
+-- If a row holds of a word, the word is what this row means, wherever the row stands in the table.
 abbrev pub ARowDecides : Type 0
 ARowDecides =
     (w i : ℕ) (r : Row) → IsRowAt i r → IsTrue (holds r w) → instruction w ≡ Some (r.meaning w)
@@ -30,7 +30,7 @@ EachComesFromARow =
     → instruction w ≡ Some found
     → (i : ℕ) × (r : Row) × IsRowAt i r × IsTrue (holds r w) × (found ≡ r.meaning w)
 
--- A word is no instruction exactly where no row holds of it.
+-- A word is no instruction exactly if no row holds of it.
 abbrev pub NoneWhereNoRowHolds : Type 0
 NoneWhereNoRowHolds =
     (w : ℕ) → (instruction w ≡ None) ↔ ((i : ℕ) (r : Row) → IsRowAt i r → IsFalse (holds r w))

@@ -349,7 +349,6 @@ rows =
     upper_rows ++ jump_rows ++ branch_rows ++ load_rows ++ store_rows ++ imm_rows ++ imm_w_rows
     ++ reg_rows ++ reg_w_rows ++ atomic_rows ++ fence_rows ++ system_rows
 
--- The instruction that a word is: the meaning of the row that holds of it, and none where none
--- does.
+-- The instruction that a word is: the meaning of the row that holds of it, and none if none does.
 unfoldable pub instruction : ℕ → Option Insn
 instruction w = first_meaning rows w

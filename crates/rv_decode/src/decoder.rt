@@ -19,8 +19,8 @@ use crate::opcodes::{
     AMO, AUIPC, BRANCH, JAL, JALR, LOAD, LUI, MISC_MEM, OP, OP_32, OP_IMM, OP_IMM_32, STORE, SYSTEM,
 };
 
-/// The instruction of RV64IMA with Zicsr and Zifencei that a 32-bit word encodes, or `None` where
-/// no row of the instruction table holds of the word.
+/// The instruction of RV64IMA with Zicsr and Zifencei that a 32-bit word encodes, or `None` if no
+/// row of the instruction table holds of the word.
 ///
 /// Whether the word's length is 32 bits is not asked: each row's opcode ends in 11, and none ends
 /// in 11111. Bits that a row leaves free, as those of FENCE, change nothing.

@@ -79,7 +79,7 @@ pub enum Insn {
         rs1: u8,
         rs2: u8,
     },
-    /// An atomic operation at the address in `rs1`, on 8 bytes where `wide`, else on 4, with the
+    /// An atomic operation at the address in `rs1`, on 8 bytes if `wide`, else on 4, with the
     /// ordering bits `aq` and `rl` of the word (chapter 14, "A").
     Atomic {
         kind: AtomicKind,

@@ -8,7 +8,7 @@ pub fn at_most_one_row_holds()
     ensures { AtMostOneRowHolds }
 {}
 
-/// A word of which a row holds is the instruction that this row means.
+/// If a row holds of a word, the word is the instruction that this row means.
 pub fn a_row_decides()
     ensures { ARowDecides }
 {}
@@ -18,7 +18,7 @@ pub fn each_comes_from_a_row()
     ensures { EachComesFromARow }
 {}
 
-/// A word is no instruction exactly where no row holds of it.
+/// A word is no instruction exactly if no row holds of it.
 pub fn none_where_no_row_holds()
     ensures { NoneWhereNoRowHolds }
 {}

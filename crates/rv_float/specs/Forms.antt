@@ -28,6 +28,6 @@ float_forms =
     ∷ form (λ h. is_at h 0b10 0b101) (λ h. fsd (second_register h) stack_pointer (sdsp_offset h))
     ∷ []
 
--- the 32-bit instruction that a halfword stands for, where it is one of the four
+-- the 32-bit instruction that a halfword stands for, if it is one of the four
 unfoldable pub float_expansion : ℕ → Option ℕ
 float_expansion half = first_word float_forms half

@@ -94,6 +94,6 @@ abbrev pub first_meaning : List Row → ℕ → Option Insn
 first_meaning [] w = None
 first_meaning (r ∷ rs) w = if r.holds w then Some (r.meaning w) else first_meaning rs w
 
--- the instruction of the F and D extensions that a word is, where a row holds of it
+-- the instruction of the F and D extensions that a word is, if a row holds of it
 unfoldable pub float_instruction : ℕ → Option Insn
 float_instruction w = first_meaning float_rows w

@@ -26,7 +26,7 @@ const NMADD: u8 = 0x4f;
 const OP_FP: u8 = 0x53;
 
 /// The instruction of the F or D extension that a 32-bit word encodes (RISC-V Unprivileged ISA
-/// 20240411, chapters 21 and 22), or `None` where no row of the table holds of the word.
+/// 20240411, chapters 21 and 22), or `None` if no row of the table holds of the word.
 ///
 /// Whether the word's length is 32 bits is not asked: each row's opcode ends in 11, and none ends
 /// in
@@ -93,7 +93,7 @@ fn is_precise(word: u32) -> bool
     (word >> 25 & 0b11) <= 1
 }
 
-/// An operation that uses no integer register, where the word `fits` it.
+/// An operation that uses no integer register, if the word `fits` it.
 fn within(fits: bool) -> Option<Insn>
     ensures { result ≡ if fits then Some (Insn.Float 0 0) else None }
 {

@@ -15,7 +15,7 @@ const STACK_POINTER: u32 = 2;
 
 /// The 32-bit load or store of a doubleword that the 16-bit instruction `half` stands for: C.FLD,
 /// C.FSD, C.FLDSP or C.FSDSP (RISC-V Unprivileged ISA 20240411, chapter "C" Extension for
-/// Compressed Instructions). `None` exactly where `half` is none of the four.
+/// Compressed Instructions). `None` exactly if `half` is none of the four.
 #[tactic(auto, unfolding(crate::specs::Forms::float_expansion, crate::specs::Forms::float_forms))]
 pub fn expand_float(half: u16) -> Option<u32>
     ensures { result ≡ float_expansion half }

@@ -9,7 +9,7 @@ use Rattle.rv_flow.specs.declared.straight.ShortForm.TheVariants.{Unasked, GoesO
 use Rattle.rv_flow.specs.Placed.{compressed_insn}
 use Rattle.rv_flow.specs.Raw.{is_unimp}
 
--- Control goes straight on behind an instruction, wherever that stands.
+-- Control goes straight on after an instruction, wherever that stands.
 abbrev pub goes_on : Insn → Bool
 goes_on (insns.Jal rd offset) = false
 goes_on (insns.Jalr rd rs1 imm) = false
@@ -23,7 +23,7 @@ abbrev pub goes_on_behind : Option Insn → Bool
 goes_on_behind None = false
 goes_on_behind (Some insn) = goes_on insn
 
--- Control goes straight on behind a halfword as a 16-bit instruction.
+-- Control goes straight on after a halfword as a 16-bit instruction.
 abbrev pub short_goes_on : ℕ → Bool
 short_goes_on half = goes_on_behind (compressed_insn half)
 

@@ -23,8 +23,8 @@ abbrev pub EveryExpansionDecodes : Type 0
 EveryExpansionDecodes = (half word : ℕ) → expansion half ≡ Some word → IsSome (instruction word)
 
 -- What the compressed table writes as `lw rd rs1 offset`, and so on, is the instruction LW with
--- these registers and this offset: its immediate is the value of the number of 12, 13, 21 or 32
--- bits in two's complement that was written, and a shift's is its amount.
+-- these registers and this offset. Its immediate is the value in two's complement of the 12, 13, 21
+-- or 32 bits that were written. A shift's immediate is its amount.
 pub record EachWordIsItsInstruction : Type 0 where
   pub addi_is : (rd rs1 immediate : ℕ) → rd < 2 ^ 5 → rs1 < 2 ^ 5 → immediate < 2 ^ 12
       → instruction (addi rd rs1 immediate) ≡ Some (Imm Addi rd rs1 (sign_extended 12 immediate))

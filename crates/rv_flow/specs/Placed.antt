@@ -26,7 +26,7 @@ expanded half = option_or (expansion half) (float_expansion half)
 abbrev pub compressed_insn : ℕ → Option Insn
 compressed_insn half = option_and_then word_insn (expanded half)
 
--- A 32-bit form is an instruction where all its four bytes are there and a row of a table holds.
+-- A 32-bit form is an instruction if all its four bytes are there and a row of a table holds.
 abbrev pub whole_insn : Option ℕ → Option Insn
 whole_insn word = option_and_then word_insn word
 
@@ -34,8 +34,8 @@ abbrev pub whole : Option Insn → Placed
 whole None = bad
 whole (Some insn) = record { length = 4; insn = Some insn }
 
--- The lowest two bits of the first halfword tell a 16-bit form, where they are not 11; bits 4 to 2
--- tell a form longer than 32 bits, where they are 111.
+-- The lowest two bits of the first halfword tell a 16-bit form, if they are not 11; bits 4 to 2
+-- tell a form longer than 32 bits, if they are 111.
 abbrev pub placed_by : List ℕ → ℕ → ℕ → Placed
 placed_by bytes a half =
     if half % 4 == 3

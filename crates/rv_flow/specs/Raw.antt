@@ -19,9 +19,9 @@ use Rattle.rv_flow.specs.Placed.{placed_at}
 abbrev pub address_plus : ℕ → ℤ → ℕ
 address_plus a offset = (a + cast_unsigned w64 offset) % 2 ^ 64
 
--- ---- pairs: a JALR right behind the AUIPC or LUI that sets its register
+-- ---- pairs: a JALR right after the AUIPC or LUI that sets its register
 
--- The word right before the instruction at a, where it lies in the same code section.
+-- The word right before the instruction at a, if it lies in the same code section.
 abbrev pub word_before : List ℕ → ℕ → Option ℕ
 word_before bytes a =
     option_and_then (λ start. if nat_le (start + 4) a then word_at bytes (a - 4) else None)
@@ -33,13 +33,13 @@ upper_of at r (insns.Lui rd imm) = if rd == r then Some (cast_unsigned w64 imm) 
 upper_of at r (insns.Auipc rd imm) = if rd == r then Some (address_plus at imm) else None
 upper_of at r _ = None
 
--- What the instruction word right before a leaves in register r, where it is an AUIPC or LUI of it.
+-- What the instruction word right before a leaves in register r, if it is an AUIPC or LUI of it.
 abbrev pub upper_before : List ℕ → ℕ → ℕ → Option ℕ
 upper_before bytes a r =
     option_and_then (upper_of (a - 4) r) (option_and_then instruction (word_before bytes a))
 
 -- The target of a paired JALR at a: what is in its register, which is not x0, plus the immediate,
--- with bit 0 cleared; none where it is not paired.
+-- with bit 0 cleared; none if it is not paired.
 abbrev pub pair_target : List ℕ → ℕ → ℕ → ℤ → Option ℕ
 pair_target bytes a rs1 imm =
     if rs1 == 0 then None

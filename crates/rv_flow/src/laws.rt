@@ -1,5 +1,5 @@
 //! What the compressed table and the instruction table keep together, each law proved as the
-//! contract of a function that does nothing. So a 16-bit instruction has a meaning exactly where it
+//! contract of a function that does nothing. So a 16-bit instruction has a meaning exactly if it
 //! has an expansion, and the meaning is the one that the compressed table names.
 
 ghost use Rattle.rv_flow.specs.Laws.{EveryExpansionDecodes, EachWordIsItsInstruction};

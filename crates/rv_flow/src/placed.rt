@@ -16,8 +16,7 @@ use rvc_expand::expand;
 pub struct Placed {
     /// Its length in bytes: 2 or 4.
     pub length: u8,
-    /// Its meaning; `None` where the bytes are no instruction of RV64GC,
-    /// and then the length is 2.
+    /// Its meaning; `None` if the bytes are no instruction of RV64GC, and then the length is 2.
     pub insn: Option<Insn>,
 }
 
@@ -59,7 +58,7 @@ pub(crate) fn compressed_insn(half: u16) -> Option<Insn>
     word_insn(expanded(half)?)
 }
 
-// The instruction that a whole word is, where the word is there.
+// The instruction that a whole word is, if the word is there.
 pub(crate) fn whole_insn(word: Option<u32>) -> Option<Insn>
     ensures { result ≡ whole_insn word }
 {

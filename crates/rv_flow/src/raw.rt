@@ -22,7 +22,7 @@ const AUIPC: u8 = 0x17;
 /// the code.
 #[derive(Clone, Copy, Debug, PartialEq, Eq)]
 pub enum RawFlow {
-    /// Control goes on behind the instruction.
+    /// Control goes on after the instruction.
     Straight,
     /// A conditional branch to `target`.
     Branch { target: u64 },
@@ -97,7 +97,7 @@ pub(crate) fn is_unimp(kind: CsrKind, rd: u8, source: u8, csr: u16) -> bool
     matches!(kind, CsrKind::Csrrw) && rd == 0 && source == 0 && csr == 0xC00
 }
 
-// The flow of a JALR whose target is known where it is paired.
+// The flow of a JALR whose target is known if it is paired.
 fn jalr_flow(rd: u8, rs1: u8, imm: i64, paired: Option<u64>) -> RawFlow
     ensures { result ≡ jalr_flow rd rs1 imm paired }
 {
@@ -113,7 +113,7 @@ fn jalr_flow(rd: u8, rs1: u8, imm: i64, paired: Option<u64>) -> RawFlow
     }
 }
 
-// The target of a JALR at `a` through `rs1`, where the word before it sets that register.
+// The target of a JALR at `a` through `rs1`, if the word before it sets that register.
 fn pair_target(image: &Image, a: u64, rs1: u8, imm: i64) -> Option<u64>
     ensures { result ≡ pair_target image.now a rs1 imm }
 {
@@ -124,7 +124,7 @@ fn pair_target(image: &Image, a: u64, rs1: u8, imm: i64) -> Option<u64>
     Some(base.wrapping_add_signed(imm) / 2 * 2)
 }
 
-// What the word right before `a` leaves in `register`, where it is an AUIPC or LUI of it.
+// What the word right before `a` leaves in `register`, if it is an AUIPC or LUI of it.
 fn upper_before(image: &Image, a: u64, register: u8) -> Option<u64>
     ensures { result ≡ upper_before image.now a register }
 {
@@ -144,8 +144,8 @@ fn upper_before(image: &Image, a: u64, register: u8) -> Option<u64>
     }
 }
 
-// Whether a word is a LUI or an AUIPC, told by its opcode: most words in front of a JALR are
-// neither, and are not decoded.
+// Whether a word is a LUI or an AUIPC, told by its opcode: most words before a JALR are neither,
+// and are not decoded.
 fn is_upper(word: u32) -> bool
     ensures { result ≡ is_upper word }
 {

@@ -1,5 +1,5 @@
-//! Whether control goes straight on behind an instruction, told from its bytes alone: that depends
-//! neither on its address nor on what stands before it.
+//! Whether control goes straight on after an instruction, by its bytes alone. That depends neither
+//! on its address nor on what stands before it.
 
 ghost use Rattle.std.specs.Prelude.{◌≡◌, ◌⊎◌, IfSome, IsSome};
 ghost use Rattle.rv_flow.specs.Straight.{IsStraightLength};
@@ -19,7 +19,7 @@ const HALFWORDS: usize = 1 << 16;
 enum ShortForm {
     /// It was not asked for.
     Unasked,
-    /// Control goes straight on behind it.
+    /// Control goes straight on after it.
     GoesOn,
     /// Control does not, or it is no instruction.
     Stops,
@@ -28,19 +28,19 @@ enum ShortForm {
 // A byte each, so that all of them are quickly set.
 const _: () = prove!(size_of::<ShortForm>() == 1);
 
-/// Instructions behind which control goes straight on. Each 16-bit one is decoded when it is first
+/// Instructions after which control goes straight on. Each 16-bit one is decoded when it is first
 /// asked for and kept in mind, so that to ask for each halfword of a file takes little time.
 #[derive(Drop)]
 pub struct StraightForms {
-    /// Of each halfword, what was found of it. Empty where memory for it was missing: then each is
+    /// Of each halfword, what was found of it. Empty if memory for it was missing: then each is
     /// decoded anew.
     shorts: Vec<ShortForm>,
     ghost told: { AreTold shorts.items },
 }
 
 impl StraightForms {
-    /// Nothing is decoded yet. It takes 64 KiB of memory; where these are missing, nothing is kept
-    /// in mind.
+    /// Nothing is decoded yet. It takes 64 KiB of memory; if these are missing, nothing is kept in
+    /// mind.
     pub fn new(alloc: Global) -> StraightForms {
         match vec![in alloc; ShortForm::Unasked; HALFWORDS] {
             Ok(shorts) => StraightForms { shorts },
@@ -50,8 +50,8 @@ impl StraightForms {
         }
     }
 
-    /// The length of the instruction that begins with the halfword `half`, where control goes
-    /// straight on behind it; `word` are its four bytes, where all of them are there.
+    /// The length of the instruction that begins with the halfword `half`, if control goes straight
+    /// on after it. `word` are its four bytes, if all of them are there.
     pub fn length(&mut self, half: u16, word: Option<u32>) -> Option<u8>
         ensures answer { IsStraightLength half word result }
         ensures bytes { IfSome result (λ n. (n ≡ 2) ⊎ ((n ≡ 4) × IsSome word)) }
@@ -65,7 +65,7 @@ impl StraightForms {
         }
     }
 
-    // Whether control goes straight on behind a halfword as a 16-bit instruction.
+    // Whether control goes straight on after a halfword as a 16-bit instruction.
     fn short_goes_on(&mut self, half: u16) -> bool
         ensures { result ≡ short_goes_on half }
     {
@@ -76,7 +76,7 @@ impl StraightForms {
         }
     }
 
-    // The same, decoded, and kept in mind where there is room for it.
+    // The same, decoded, and kept in mind if there is room for it.
     #[cold]
     fn decode(&mut self, half: u16) -> bool
         ensures { result ≡ short_goes_on half }
@@ -93,7 +93,7 @@ impl StraightForms {
     }
 }
 
-// Whether control goes straight on behind what is an instruction.
+// Whether control goes straight on after what is an instruction.
 fn goes_on_behind(insn: Option<Insn>) -> bool
     ensures { result ≡ goes_on_behind insn }
 {
@@ -103,7 +103,7 @@ fn goes_on_behind(insn: Option<Insn>) -> bool
     }
 }
 
-// Whether control goes straight on behind an instruction, wherever that stands.
+// Whether control goes straight on after an instruction, wherever that stands.
 fn goes_on(insn: Insn) -> bool
     ensures { result ≡ goes_on insn }
 {

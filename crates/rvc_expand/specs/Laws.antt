@@ -18,8 +18,8 @@ AtMostOneFormHolds =
     → IsTrue (g.holds half)
     → i ≡ j
 
--- A halfword of which a form holds expands to this form's word, wherever the form stands in the
--- table.
+-- If a form holds of a halfword, the halfword expands to this form's word, wherever the form stands
+-- in the table.
 abbrev pub AFormDecides : Type 0
 AFormDecides =
     (half i : ℕ) (f : Form)
@@ -33,7 +33,7 @@ EachComesFromAForm =
     (half word : ℕ) → expansion half ≡ Some word
     → (i : ℕ) × (f : Form) × IsFormAt i f × IsTrue (f.holds half) × (word ≡ f.word half)
 
--- A halfword does not expand exactly where no form holds of it.
+-- A halfword does not expand exactly if no form holds of it.
 abbrev pub NoneWhereNoFormHolds : Type 0
 NoneWhereNoFormHolds =
     (half : ℕ)

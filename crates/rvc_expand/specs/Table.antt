@@ -160,6 +160,6 @@ abbrev pub first_word : List Form → ℕ → Option ℕ
 first_word [] half = None
 first_word (row ∷ rest) half = if row.holds half then Some (row.word half) else first_word rest half
 
--- the 32-bit instruction that a halfword stands for, where the table has one
+-- the 32-bit instruction that a halfword stands for, if the table has one
 unfoldable pub expansion : ℕ → Option ℕ
 expansion half = first_word forms half

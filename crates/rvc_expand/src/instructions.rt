@@ -97,7 +97,7 @@ pub fn addiw(rd: u32, rs1: u32, immediate: u32) -> u32
     i_type(OP_IMM_32, 0, rd, rs1, immediate)
 }
 
-/// `lui rd, immediate`, of which bits 11 to 0 are not kept.
+/// `lui rd, immediate`; bits 11 to 0 of the immediate are not kept.
 #[inline]
 pub fn lui(rd: u32, immediate: u32) -> u32
     requires rd_fits { rd < 2 ^ 5 }

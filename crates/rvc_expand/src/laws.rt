@@ -8,7 +8,7 @@ pub fn at_most_one_form_holds()
     ensures { AtMostOneFormHolds }
 {}
 
-/// A halfword of which a form holds expands to the word of this form.
+/// If a form holds of a halfword, the halfword expands to the word of this form.
 pub fn a_form_decides()
     ensures { AFormDecides }
 {}
@@ -18,7 +18,7 @@ pub fn each_comes_from_a_form()
     ensures { EachComesFromAForm }
 {}
 
-/// A halfword does not expand exactly where no form holds of it.
+/// A halfword does not expand exactly if no form holds of it.
 pub fn none_where_no_form_holds()
     ensures { NoneWhereNoFormHolds }
 {}

@@ -28,10 +28,10 @@ const STACK_POINTER: u32 = 2;
 /// The 32-bit instruction that the 16-bit instruction `half` stands for (RISC-V Unprivileged ISA
 /// 20240411, chapter "C" Extension for Compressed Instructions, "RVC Instruction Set Listings").
 ///
-/// `None` exactly where no form of the table holds of `half`: the forms of the F and D extensions,
-/// reserved encodings, the defined illegal instruction 0000, and each halfword whose lowest two
-/// bits are 11, which begins a longer instruction. An expanded jump or branch counts its offset
-/// from the address of the 16-bit instruction.
+/// `None` exactly if no form of the table holds of `half`. None holds of the forms of the F and D
+/// extensions, reserved encodings and the defined illegal instruction 0000. None holds of a
+/// halfword whose lowest two bits are 11, which begins a longer instruction. An expanded jump or
+/// branch counts its offset from the address of the 16-bit instruction.
 pub fn expand(half: u16) -> Option<u32>
     ensures { result ≡ expansion half }
 {
@@ -96,7 +96,7 @@ fn expand_quadrant_1(half: u32) -> Option<u32>
     }
 }
 
-/// C.ADDI16SP where rd is the stack pointer, else C.LUI.
+/// C.ADDI16SP if rd is the stack pointer, else C.LUI.
 #[inline]
 #[tactic(auto, unfolding(crate::specs::Table::quadrant_1))]
 fn expand_addi16sp_or_lui(half: u32) -> Option<u32>
@@ -194,7 +194,7 @@ fn expand_move_or_jump(half: u32) -> Option<u32>
     }
 }
 
-/// The number, where it is not 0: an immediate of 0 is refused by some forms.
+/// The number, if it is not 0: an immediate of 0 is refused by some forms.
 #[inline]
 fn nonzero(number: u32) -> Option<u32>
     ensures { result ≡ (if is_nonzero number then Some number else None) }

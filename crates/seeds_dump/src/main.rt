@@ -1,7 +1,7 @@
 //! Prints the seeds of a file and their names, for a comparison with another reader of ELF files.
 //!
 //! The one argument names the file. Each seed gets a line, in rising order: its address as sixteen
-//! hexadecimal digits, a space, and the bytes of its name, or `-` where it has none. A file that is
+//! hexadecimal digits, a space, and the bytes of its name, or `-` if it has none. A file that is
 //! not read here gets the single line `fault NAME`.
 #![tactic(auto)]
 

@@ -1,11 +1,10 @@
 //! Prints the jump tables of a file, for a comparison with those that a compiler wrote.
 //!
-//! The one argument names the file. Each even address of code at which a jump with a table stands
-//! gets a line, in the order of the sections: the address of the jump as sixteen hexadecimal
-//! digits, the same of the table, the size of an entry, how many entries count, how many may count,
-//! `bounded` or
-//! `open`, and the target of each entry. A file that is not read here gets the single line
-//! `fault NAME`.
+//! The one argument names the file. Each even address of code with a jump through a table gets a
+//! line, in the order of the sections. The line has the addresses of the jump and of the table,
+//! each in sixteen hexadecimal digits, and the size of an entry. Then come how many entries count,
+//! how many may count, `bounded` or `open`, and the target of each entry. A file that is not read
+//! here gets the single line `fault NAME`.
 #![tactic(auto)]
 
 ghost use Rattle.jump_table.specs.Table.{IsTableOf};

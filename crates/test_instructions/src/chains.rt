@@ -9,9 +9,9 @@ use std::process::Abort;
 use std::test::Fail;
 
 /// Six code sections, not in the order of their addresses. At 10000 (hexadecimal): `addi x0, x0, 0`
-/// and two `c.nop`; at 10008: `c.nop` and `addi x0, x0, 0`; at 1000E: `c.nop` and the lower half of
-/// `addi x0, x0, 0`, whose upper half is the first of the section at 10012, then `c.nop` and a
-/// single byte; at 10018: `c.jr x1`; at 10020: `c.nop`.
+/// and two `c.nop`. At 10008: `c.nop` and `addi x0, x0, 0`. At 1000E: `c.nop` and the lower half of
+/// `addi x0, x0, 0`. Its upper half is the first of the section at 10012; then come `c.nop` and a
+/// single byte. At 10018: `c.jr x1`. At 10020: `c.nop`.
 const FILE: [u8; 480] = [
     0x7F, 0x45, 0x4C, 0x46, 2, 1, 1, 0, 0, 0, 0, 0, 0, 0, 0, 0, 2, 0, 0xF3, 0, 1, 0, 0, 0, 0, 0, 1,
     0, 0, 0, 0, 0, 0, 0, 0, 0, 0, 0, 0, 0, 0x60, 0, 0, 0, 0, 0, 0, 0, 0, 0, 0, 0, 0x40, 0, 0, 0, 0,
@@ -48,7 +48,7 @@ const CASES: [(u64, u64, Option<u64>); 13] = [
     (0x10020, 0x10020, None),
 ];
 
-/// The image of the file with so many bytes of code at 10020 (hexadecimal), up to 10: behind its
+/// The image of the file with this many bytes of code at 10020 (hexadecimal), up to 10. After its
 /// `c.nop` they are zeros, which are no instruction.
 fn image(alloc: Global, last_size: u8) -> Result<Image, ElfError> {
     let mut bytes = Vec::from_slice(alloc, &FILE)?;
@@ -117,7 +117,7 @@ fn bounds_cut_evenly(rt: HostRuntime) -> Result<(), Fail> {
     Ok(())
 }
 
-/// So many workers give what one does; for sections as short as these no thread is started.
+/// This many workers give what one does; for sections as short as these no thread is started.
 #[test]
 fn more_workers(rt: HostRuntime) -> Result<(), Fail> {
     let image = image(rt.alloc(), 2)?;
@@ -141,9 +141,8 @@ const ITS_REST: [u8; 24] = [
 ];
 
 /// An image with one long run at 20000 (hexadecimal), over two sections that join: `addi x0, x0, 0`
-/// and `c.nop` by turns, 75,016 halfwords, of which the second section has the last 16, and behind
-/// them a single byte. The last halfword is the lower half of an instruction that is not there
-/// whole.
+/// and `c.nop` by turns, 75,016 halfwords. The second section has the last 16 of them, and a single
+/// byte after them. The last halfword is the lower half of an instruction that is not there whole.
 fn long_run(alloc: Global) -> Result<Image, ElfError> {
     let mut bytes = Vec::new(alloc);
     let parts = [
@@ -162,8 +161,8 @@ fn long_run(alloc: Global) -> Result<Image, ElfError> {
     Image::parse(alloc, bytes)
 }
 
-/// The run goes over several stretches, which begin at either instruction and in the middle of the
-/// one of four bytes.
+/// The run goes over several ranges, which begin at either instruction and in the middle of the one
+/// of four bytes.
 #[test]
 fn long_run_in_stretches(rt: HostRuntime) -> Result<(), Fail> {
     let image = long_run(rt.alloc())?;

@@ -61,9 +61,8 @@ fn flows_of_a_small_file(rt: HostRuntime) -> Result<(), Fail> {
     Ok(())
 }
 
-/// First halfwords, their words, and the lengths where control goes straight on: `c.nop`,
-/// `c.jr x5`, no instruction, `addi x0, x0, 0`, its lower half alone, `jal x0, 0`, and a longer
-/// form.
+/// First halfwords, their words, and the lengths if control goes straight on: `c.nop`, `c.jr x5`,
+/// no instruction, `addi x0, x0, 0`, its lower half alone, `jal x0, 0`, and a longer form.
 const FORMS: [(u16, Option<u32>, Option<u8>); 7] = [
     (1, None, Some(2)),
     (0x8282, None, None),
@@ -74,7 +73,7 @@ const FORMS: [(u16, Option<u32>, Option<u8>); 7] = [
     (0x1F, Some(0x1F), None),
 ];
 
-/// A form is told the same when it is asked for again.
+/// A form is answered the same when it is asked for again.
 #[test]
 fn straight_forms(rt: HostRuntime) -> Result<(), Fail> {
     let mut forms = StraightForms::new(rt.alloc());

@@ -64,8 +64,8 @@ impl Form {
 }
 
 /// A count is the product of how many values each field of the form may have. A field of three bits
-/// names a register in 8 ways, one of five bits in 32 ways, or 31 where x0 is refused; an immediate
-/// of n bits has 2 ^ n values, or one less where 0 is refused.
+/// names a register in 8 ways. One of five bits does so in 32 ways, or 31 if x0 is refused. An
+/// immediate of n bits has 2 ^ n values, or one less if 0 is refused.
 fn forms() -> [Form; 32] {
     [
         Form::new("C.ADDI4SPN", 0xe003, 0x0000, 255 * 8),
@@ -103,8 +103,8 @@ fn forms() -> [Form; 32] {
     ]
 }
 
-/// Of each form as many halfwords expand as its fields have values, and none beside them: the
-/// counts add up to 38,551.
+/// The number of halfwords that expand by a form is the number of its fields' values. The counts
+/// add up to 38,551, and no other halfword expands.
 #[test]
 fn expands_as_many_of_each_form(rt: HostRuntime) {
     for form in forms() {

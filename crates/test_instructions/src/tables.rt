@@ -26,7 +26,7 @@ const SECTIONS: [u32; 48] = [
     0, 0, 0, 0, 1, 2, 0, 0x20000, 0, 128, 0, 64, 0, 0, 0, 0, 0, 0, 0,
 ];
 
-/// Eight words, a bound test `bltu` at 10004 behind `addi x15, x0, 7`, and four returns.
+/// Eight words, a bound test `bltu` at 10004 after `addi x15, x0, 7`, and four returns.
 const BOUNDED: Case = Case {
     code: [
         0x00700793, 0x02A7E263, 0x00020737, 0x00251513, 0x00E50533, 0x00052783, 0x00E787B3,
@@ -51,7 +51,7 @@ const BOUNDED: Case = Case {
     )),
 };
 
-/// Two words, and nothing in front of the shift.
+/// Two words, and nothing before the shift.
 const OPEN: Case = Case {
     code: [
         0x00020737, 0x00251513, 0x00E50533, 0x00052783, 0x00E787B3, 0x00078067, 0x00008067,
@@ -130,7 +130,7 @@ const MIXED_WIDTHS: Case = Case {
     ..OPEN
 };
 
-/// An ECALL behind the shift.
+/// An ECALL after the shift.
 const ECALL: Case = Case {
     code: [
         0x00251513, 0x00000073, 0x00020737, 0x00E50533, 0x00052783, 0x00E787B3, 0x00078067,

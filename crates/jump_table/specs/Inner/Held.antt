@@ -4,6 +4,6 @@ use Rattle.jump_table.specs.declared.values.Value.{Value}
 use Rattle.jump_table.specs.declared.values.Value.TheVariants.{Unknown, Const}
 use Rattle.jump_table.specs.Values.{Registers}
 
--- What the registers of a list hold, of which nothing is known past its end. x0 always holds 0.
+-- What the registers of a list hold. Registers past its end are unknown, and x0 always holds 0.
 abbrev pub held_by : List Value → Registers
 held_by values r = if r == 0 then Const 0 else unwrap_or (slice_get values r) Unknown

@@ -1,11 +1,12 @@
--- The straight instructions in front of a jump.
+-- The straight instructions before a jump.
 use Rattle.std.specs.Prelude.{◌≡◌, ℕ, ◌+◌, ◌-◌, ◌*◌, ◌<◌, ◌≤◌, true, List}
 use Rattle.std.specs.Prelude.{Option, None, IfSome, IfNone, length, get_or}
 use Rattle.rv_flow.specs.Placed.{placed_at}
 use Rattle.jump_table.specs.declared.step.Step.{Step}
 use Rattle.jump_table.specs.Section.{goes_on, straight_run}
 
--- A step is the instruction so many parcels before the jump, and the next one is where it goes on.
+-- A step is the instruction this many parcels before the jump, and the next one is where it goes
+-- on.
 pub record IsStep (bytes : List ℕ) (start j parcels : ℕ) (step : Step) : Type 0 where
   pub straight : goes_on bytes start (j - 2 * parcels) ≡ true
   pub insn : step.insn ≡ (placed_at bytes (j - 2 * parcels)).insn
@@ -16,7 +17,7 @@ pub record IsStep (bytes : List ℕ) (start j parcels : ℕ) (step : Step) : Typ
 abbrev pub LeadsNowhere : List ℕ → ℕ → ℕ → ℕ → Type 0
 LeadsNowhere bytes start j parcels = (n : ℕ) → straight_run bytes start j n (j - 2 * parcels) ≡ None
 
--- The step so many parcels before the jump, or none where no straight run leads from there to it.
+-- The step this many parcels before the jump, or none if no straight run leads from there to it.
 pub record IsStepAt (bytes : List ℕ) (start j parcels : ℕ) (step : Option Step) : Type 0 where
   pub leads : IfSome step (IsStep bytes start j parcels)
   pub nowhere : IfNone step (LeadsNowhere bytes start j parcels)

@@ -1,7 +1,7 @@
-use Rattle.std.proofs.Common.{◌≡◌, ℕ, ◌+◌, ◌*◌, ◌/◌, ◌++◌, List, [], ◌∷◌, refl, sym, subst, arith}
+use Rattle.std.proofs.Common.{◌≡◌, ℕ, ◌+◌, ◌*◌, ◌/◌, ◌++◌, List, [], ◌∷◌, refl, sym, ap, ◌∙◌, subst, arith}
 use Rattle.std.specs.Prelude.{IfSome, IfNone}
 use Rattle.chain_index.specs.declared.lookup.SectionReaches.{SectionReaches}
-use Rattle.chain_index.specs.Found.{BeginsAt, IsCodeOf}
+use Rattle.chain_index.specs.Found.{BeginsAt, IsCodeOf, last_count}
 use Rattle.chain_index.specs.Inner.{AreRight, Reaches}
 use Rattle.chain_index.proofs.Looking.{IsLeft, last_code, less_left, behind_reaches, none_left, index_of}
 use Rattle.chain_index.proofs.over_sections.over_sections.Goals as goal
@@ -38,10 +38,11 @@ loop-s-preserved g c =
     let s = c.in-Some.s in
     let rest = c.pop.new.self.items in
     let found : List SectionReaches = c.loop-s.found.items in
-    let kept : SectionReaches = record { address = s.address; offset = s.offset; reaches = c.in_ok-reaches.reaches } in
+    let kept : SectionReaches = record { address = s.address; offset = s.offset; from = c.in_ok-from.from; reaches = c.in_ok-reaches.reaches } in
     let at = (goal.at.loop-s-preserved g c).After-first_reach-behind in
     let made = c.requires.right _ s c.first_reach-behind.result _ _ (code g at) (behind g at) c.in_ok-reaches.ensures in
-    let more : IsLeft bytes rest (found ++ kept ∷ []) = less_left bytes rest s found kept (taken g at) refl refl made.0 made.1 in
+    let from : c.in_ok-from.from ≡ last_count 0 found + s.size / 2 = c.in_ok-from.ensures ∙ ap (λ n. n + s.size / 2) (c.halfwords.ensures ∙ ap (last_count 0) c.deref-in-Some.ensures.value) in
+    let more : IsLeft bytes rest (found ++ kept ∷ []) = less_left bytes rest s found kept (taken g at) refl refl made.0 from made.1 in
     subst (IsLeft bytes rest) (sym c.in_ok-push.ensures.items) more
 
 pub returns : goal.returns

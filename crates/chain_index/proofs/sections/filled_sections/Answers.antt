@@ -19,7 +19,7 @@ loop-i-preserved c =
           let code : is_code_section (section bytes n) ≡ true = ap is_code_section (sym is) ∙ sym c.is_code.ensures ∙ w.if-is_code.true in
           let size : (section bytes n).size ≡ s.size = ap (λ (t : Section). t.size) (sym is) in
           let of : IsCodeOf bytes s = subst (IsCodeOf bytes) (sym is) (code-of bytes c.section-s.ensures.image n (omega (arith, c.loop-i-test.true, c.section_count-i-end.ensures.count)) code (omega (arith, w.if-s-ge2.true))) in
-          rw (w.sections-is, w.in_ok-push.ensures.items) (first_more bytes n xs s is of so_far)
+          rw (w.sections-is, w.in_ok-push.ensures.items) (first_more bytes c.section-s.ensures.image n xs s (omega (arith, c.loop-i-test.true, c.section_count-i-end.ensures.count)) is (ap is_code_section is ∙ code) of so_far)
       | else-is_code w ↦ elim w.else-is_code.branch [
         | else-is_code-via-then-is_code+else-s-ge2 v ↦ rw w.sections-is (first_none bytes n xs s is (inr (omega (arith, v.if-s-ge2.false))) so_far)
         | else-is_code-via-else-is_code v ↦ rw w.sections-is (first_none bytes n xs s is (inl (sym c.is_code.ensures ∙ v.if-is_code.false)) so_far)

@@ -17,7 +17,7 @@ pub index-requires : goal.index-requires
 index-requires c =
     omega (
       arith,
-      look_within c.self.inside.image.now c.self.inside.sections.items c.self.invariant c.args.a (code c) c.count_above.result (counted c),
+      look_within c.self.inside.image.now c.self.inside.sections.items c.self.invariant.0 c.args.a (code c) c.count_above.result (counted c),
       c.deref.ensures.len,
       ap (λ (found : List SectionReaches). length found) c.deref.ensures.value,
     )
@@ -27,4 +27,4 @@ returns c =
     let at = (goal.at.returns c).After-count_above in
     subst (λ file. IsReachedAt file c.args.a c.index.result.now) c.self.view_is
     (subst (IsReachedAt c.self.inside.image.now c.args.a) (sym c.index.ensures)
-    (look c.self.inside.image.now c.self.inside.sections.items c.self.invariant c.args.a (code at) c.count_above.result (counted at) c.index.result.now))
+    (look c.self.inside.image.now c.self.inside.sections.items c.self.invariant.0 c.args.a (code at) c.count_above.result (counted at) c.index.result.now))
