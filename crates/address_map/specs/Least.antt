@@ -11,7 +11,7 @@ abbrev pub IsAbove : Option ℕ → ℕ → Type 0
 IsAbove None x = Unit {0}
 IsAbove (Some a) x = a < x
 
--- The lesser of two numbers, either of which may be none.
+-- The lesser of two numbers; each may be none.
 abbrev pub lesser_of : Option ℕ → Option ℕ → Option ℕ
 lesser_of None y = y
 lesser_of (Some x) None = Some x

@@ -23,8 +23,8 @@ use std::marker::Model;
 #[derive(Drop)]
 pub(crate) struct Chunk<T> {
     alloc: Global,
-    /// Of each page, by its place, how many entries there are up to its last one; 0 where it has
-    /// none. Empty, where there are no addresses.
+    /// Of each page, by its place, how many entries there are up to its last one; 0 if it has none.
+    /// Empty, if there are no addresses.
     upto: Vec<u32>,
     entries: Vec<Entry<T>>,
 }
@@ -80,8 +80,8 @@ impl<T> Chunk<T> {
         &mut entry.value
     }
 
-    /// Adds `k` with this value, where it is not there. Answers whether it is new. More than
-    /// 2^32 - 1 addresses would be answered as want of memory; 64 pages have 2^18.
+    /// Adds `k` with this value, if it is not there. Answers whether it is new. More than 2^32 - 1
+    /// addresses would be answered as want of memory; 64 pages have 2^18.
     pub(crate) fn add(&mut self, k: u64, value: T) -> Result<bool, AllocError>
     where
         T: Drop,
@@ -112,8 +112,8 @@ impl<T> Chunk<T> {
         self.least_above(page(a), Some(a))
     }
 
-    /// The least address above `a`, or the least of all where there is no `a`; none lies in a page
-    /// in front of the one at `start`.
+    /// The least address above `a`, or the least of all if there is no `a`; none lies in a page
+    /// before the one at `start`.
     pub(crate) fn after(&self, start: usize, a: Option<u64>) -> Option<u64>
         requires together { AreTogether self.now }
         requires ahead { (x : ℕ) → IsKeyAbove self.now a x → start ≤ page_of x }
@@ -127,7 +127,7 @@ impl<T> Chunk<T> {
         None
     }
 
-    /// The least address above `a`, or the least of all where there is no `a`, in the page.
+    /// The least address above `a`, or the least of all if there is no `a`, in the page.
     fn least_above(&self, page: usize, a: Option<u64>) -> Option<u64>
         ensures { IsLeast (λ k. IsKeyAbove self.now a k × (page_of k ≡ page)) result }
     {
@@ -149,7 +149,7 @@ impl<T> Chunk<T> {
     }
 }
 
-/// Makes the table of the pages, where there is none yet.
+/// Makes the table of the pages, if there is none yet.
 fn fill(alloc: Global, upto: &mut Vec<u32>) -> Result<(), AllocError>
     ensures same { (p : ℕ) → slice_index_or upto.new.items p 0
         ≡ slice_index_or upto.old.items p 0 }

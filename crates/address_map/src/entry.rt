@@ -1,5 +1,5 @@
-//! The entries of a chunk: addresses with their values, which lie one behind the other in the order
-//! in which they came, and the way along those of a page, from the last one to the first.
+//! The entries of a chunk: addresses with their values, one after another in the order in which
+//! they came. They also hold the way along the entries of a page, from the last one to the first.
 
 ghost use Rattle.std.specs.Prelude.{◌≡◌, ◌↔◌, ◌+◌, ◌++◌, ◌∷◌, [], slice_index_or};
 ghost use Rattle.std.specs.Prelude.{None, IsTrue, IsSome, OnOk, OnErr, IfOk, IfSome, IfNone};
@@ -20,7 +20,7 @@ use std::mem::size_of;
 pub(crate) struct Entry<T> {
     pub(crate) key: u64,
     pub(crate) value: T,
-    /// How many entries there are up to the last one of its page that came before it; 0 where none
+    /// How many entries there are up to the last one of its page that came before it; 0 if none
     /// came before it.
     pub(crate) before: u32,
 }
@@ -36,7 +36,7 @@ pub(crate) fn page(k: u64) -> usize
 }
 
 /// How many entries there are up to the last one of the page, by the table `upto`, which has that
-/// of each page by its place; 0 where the page has none.
+/// of each page by its place; 0 if the page has none.
 fn up_to(upto: &[u32], page: usize) -> usize
     ensures { result ≡ slice_index_or upto.now page 0 }
 {
@@ -65,7 +65,7 @@ pub(crate) fn place_in_page<T>(upto: &[u32], entries: &[Entry<T>], k: u64) -> Op
     None
 }
 
-/// The least address above `a`, or the least of all where there is no `a`, in the page, by a look at
+/// The least address above `a`, or the least of all if there is no `a`, in the page, by a look at
 /// those there.
 pub(crate) fn least_in_page<T>(
     upto: &[u32],
@@ -87,7 +87,7 @@ pub(crate) fn least_in_page<T>(
     least
 }
 
-/// The lesser of `least` and `key`, where that one lies above `a`.
+/// The lesser of `least` and `key`, if that one lies above `a`.
 fn with_above(least: Option<u64>, key: u64, a: Option<u64>) -> Option<u64>
     ensures above { IsAbove a key → result ≡ lesser_of least (Some key) }
     ensures not_above { ¬ IsAbove a key → result ≡ least }
@@ -99,7 +99,7 @@ fn with_above(least: Option<u64>, key: u64, a: Option<u64>) -> Option<u64>
     }
 }
 
-/// Whether `key` lies above `a`, where there is an `a`.
+/// Whether `key` lies above `a`, if there is an `a`.
 fn is_above(key: u64, a: Option<u64>) -> bool
     ensures { IsTrue result ↔ IsAbove a key }
 {
@@ -133,7 +133,7 @@ pub(crate) fn append<T: Drop>(
     Ok(())
 }
 
-/// `len` and one more, where that is less than 2^32.
+/// `len` and one more, if that is less than 2^32.
 pub(crate) fn one_more(len: usize) -> Result<u32, AllocError>
     ensures { IfOk result (λ n. n ≡ len + 1) }
 {

@@ -3,7 +3,8 @@
 ghost use Rattle.std.specs.Prelude.{◌≡◌};
 ghost use Rattle.address_map.specs.Least.{lesser_of};
 
-/// The lesser of two addresses; the other one if one is `None`. Time: constant. Memory: none.
+/// The lesser of two addresses; the other one if one is `None`.
+/// Time: constant. Memory: none.
 pub fn lesser(x: Option<u64>, y: Option<u64>) -> Option<u64>
     ensures { result ≡ lesser_of x y }
 {

@@ -46,7 +46,8 @@ impl<T> Model for AddressMap<T> {
 }
 
 impl<T> AddressMap<T> {
-    /// A map without addresses. It takes no memory before one is added. Time: constant. Memory: none.
+    /// A map without addresses. It takes no memory before one is added.
+    /// Time: constant. Memory: none.
     pub fn new(alloc: Global) -> Self
         ensures { result ≡ maps.empty }
     {
@@ -57,8 +58,8 @@ impl<T> AddressMap<T> {
         }
     }
 
-    /// The value at `k`; `None` if `k` is not in the map. Time: O(p), far ones O(log n + p). Memory:
-    /// none.
+    /// The value at `k`; `None` if `k` is not in the map.
+    /// Time: O(p), far ones O(log n + p). Memory: none.
     pub fn get(&self, k: u64) -> Option<&T>
         ensures { option_copied result ≡ maps.get self.now k }
     {
@@ -70,7 +71,8 @@ impl<T> AddressMap<T> {
     }
 
     /// The value at `k`, which is in the map, for writing: what is written is its value from then
-    /// on. Time: as [`AddressMap::get`]. Memory: none.
+    /// on.
+    /// Time: as [`AddressMap::get`]. Memory: none.
     pub fn value_mut(&mut self, k: u64) -> &mut T
         requires { IsSome (maps.get self.old k) }
         ensures* writes_back { sem 𝓛 (lends_of_map T.row self.entry k result) }
@@ -83,9 +85,10 @@ impl<T> AddressMap<T> {
         }
     }
 
-    /// Adds `k` with this value, if it is not in the map; else nothing changes. Answers whether it is
-    /// new; [`AllocError`] if memory ran out, and then nothing has changed. Time: as
-    /// [`AddressMap::get`], amortised. Memory: O(1) for each address, and 256 bytes for each chunk.
+    /// Adds `k` with this value, if it is not in the map; else nothing changes. Answers whether it
+    /// is new; [`AllocError`] if memory ran out, and then nothing has changed.
+    /// Time: as [`AddressMap::get`], amortised. Memory: O(1) for each address, and 256 bytes for
+    /// each chunk.
     pub fn add(&mut self, k: u64, value: T) -> Result<bool, AllocError>
     where
         T: Drop,
@@ -112,7 +115,7 @@ impl<T> AddressMap<T> {
         }
     }
 
-    /// Makes the region of `k` the near one, where there are no addresses yet.
+    /// Makes the region of `k` the near one, if there are no addresses yet.
     fn begin(&mut self, k: u64)
         ensures { self.new ≡ self.old }
     {
@@ -122,8 +125,8 @@ impl<T> AddressMap<T> {
     }
 
     /// The least address of the map above `a`, or the least of all if there is no `a`; `None` if
-    /// there is none. Time: O(pages up to it + p), at most O(log n) more for each far chunk. Memory:
-    /// none.
+    /// there is none.
+    /// Time: O(pages up to it + p), at most O(log n) more for each far chunk. Memory: none.
     pub fn after(&self, a: Option<u64>) -> Option<u64>
         ensures { IsLeast (IsKeyAbove self.now a) result }
     {
@@ -131,7 +134,8 @@ impl<T> AddressMap<T> {
     }
 
     /// The least address of the map above `a` in the page of 4096 bytes that `a` lies in; `None` if
-    /// there is none. Time: O(p), far ones O(log n + p). Memory: none.
+    /// there is none.
+    /// Time: O(p), far ones O(log n + p). Memory: none.
     pub fn after_in_page(&self, a: u64) -> Option<u64>
         ensures { IsLeast (IsNextInPage self.now a) result }
     {

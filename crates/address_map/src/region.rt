@@ -97,7 +97,7 @@ impl<T> Region<T> {
         chunk.value_mut(k)
     }
 
-    /// Adds `k` with this value, where it is not there. Answers whether it is new.
+    /// Adds `k` with this value, if it is not there. Answers whether it is new.
     pub(crate) fn add(&mut self, k: u64, value: T) -> Result<bool, AllocError>
     where
         T: Drop,
@@ -110,7 +110,7 @@ impl<T> Region<T> {
         self.chunks[place].add(k, value)
     }
 
-    /// The least address above `a`, or the least of all where there is no `a`. All addresses lie in
+    /// The least address above `a`, or the least of all if there is no `a`. All addresses lie in
     /// the region of this number.
     pub(crate) fn after(&self, number: u64, a: Option<u64>) -> Option<u64>
         requires { AreInRegion self.now number }
@@ -120,8 +120,8 @@ impl<T> Region<T> {
         self.after_from(place, page, a)
     }
 
-    /// The least address above `a`, or the least of all where there is no `a`; none lies in front of
-    /// that page of the chunk at `start`.
+    /// The least address above `a`, or the least of all if there is no `a`; none lies before that
+    /// page of the chunk at `start`.
     fn after_from(&self, start: usize, page: usize, a: Option<u64>) -> Option<u64>
         requires together { (n : ℕ) × AreInRegion self.now n }
         requires ahead { (x : ℕ) → IsKeyAbove self.now a x → IsFrom start page x }
@@ -164,7 +164,7 @@ impl<T> Region<T> {
 }
 
 /// The place and the page at which a region's addresses above `a` begin, in the region of this
-/// number; none where there are none.
+/// number; none if there are none.
 fn start(number: u64, a: Option<u64>) -> Option<(usize, usize)>
     ensures some { IfSome result (λ from. (x : ℕ) → region_of x ≡ number → IsAbove a x
         → IsFrom from.0 from.1 x) }
@@ -190,7 +190,7 @@ fn page_at(place: usize, start: usize, page: usize) -> usize
     if place == start { page } else { 0 }
 }
 
-/// Adds chunks without addresses until there are so many.
+/// Adds chunks without addresses until there are `count`.
 fn extend<T: Drop>(
     alloc: Global,
     chunks: &mut Vec<Chunk<T>>,

@@ -52,7 +52,7 @@ fn chunk(k: u64) -> u64
     k / 262_144
 }
 
-/// The number of the chunk that `a` lies in, where there is an `a`.
+/// The number of the chunk that `a` lies in, if there is an `a`.
 fn chunk_before(a: Option<u64>) -> Option<u64>
     ensures { result ≡ option_map chunk_of a }
 {
@@ -116,7 +116,7 @@ impl<T> Scattered<T> {
         chunk.value_mut(k)
     }
 
-    /// Adds `k` with this value, where it is not there. Answers whether it is new.
+    /// Adds `k` with this value, if it is not there. Answers whether it is new.
     pub(crate) fn add(&mut self, k: u64, value: T) -> Result<bool, AllocError>
     where
         T: Drop,
@@ -134,7 +134,7 @@ impl<T> Scattered<T> {
         Ok(new)
     }
 
-    /// The least address above `a`, or the least of all where there is no `a`.
+    /// The least address above `a`, or the least of all if there is no `a`.
     pub(crate) fn after(&self, a: Option<u64>) -> Option<u64>
         ensures { IsLeast (IsKeyAbove self.now a) result }
     {
@@ -180,7 +180,7 @@ impl<T> Scattered<T> {
         None
     }
 
-    /// The least address above `a` in the chunk of `a`, where there is an `a`.
+    /// The least address above `a` in the chunk of `a`, if there is an `a`.
     fn after_in_chunk(&self, a: Option<u64>) -> Option<u64>
         ensures { IsLeast (IsNextInChunk self.now a) result }
     {

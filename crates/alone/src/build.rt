@@ -10,7 +10,7 @@ use std::alloc::Global;
 use work_ops::finish;
 
 /// The closed state of the program `code` whose seeds are `seeds`, built on the caller's thread.
-/// [`Memory`] where memory ran out.
+/// [`Memory`] if memory ran out.
 pub fn build_alone<C: Chains>(alloc: Global, code: &C, seeds: &[u64]) -> Result<State, Memory>
     requires seeds { AreSeeds (C.map code.now) seeds.now }
     ensures closed { IfOk result (λ state. IsClosed (C.map code.now) seeds.now state.maps) }

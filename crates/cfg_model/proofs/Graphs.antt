@@ -9,3 +9,4 @@ pub mod OneGraph
 pub mod EdgeOrder
 pub mod Cover
 pub mod Joined
+pub mod Places

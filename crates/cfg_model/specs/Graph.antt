@@ -6,4 +6,5 @@ pub mod Listing
 pub mod Function
 pub mod Graph
 pub mod Unique
+pub mod Places
 pub mod Joined

@@ -16,7 +16,8 @@ pub fn term<C: Chains>(code: &C, a: u64) -> u64
     code.term(a)
 }
 
-/// Whether `k` is on the chain of `s`. It takes time linear in the chain of `s` up to `k`.
+/// Whether `k` is on the chain of `s`.
+/// Time: O(length of the chain of `s` up to `k`).
 pub fn on_chain<C: Chains>(code: &C, s: u64, k: u64) -> bool
     requires { IsSome (C.map code.now s) }
     ensures { IsTrue result ↔ OnChain (C.map code.now) s k }
@@ -24,8 +25,8 @@ pub fn on_chain<C: Chains>(code: &C, s: u64, k: u64) -> bool
     climb(code, s, k) == k
 }
 
-/// The address just before `m` on the chain of `s`. It takes time linear in the chain of `s` up to
-/// `m`.
+/// The address just before `m` on the chain of `s`.
+/// Time: O(length of the chain of `s` up to `m`).
 pub fn before<C: Chains>(code: &C, s: u64, m: u64) -> u64
     requires start { IsSome (C.map code.now s) }
     requires behind { OnChain (C.map code.now) s m }
@@ -42,8 +43,8 @@ pub fn before<C: Chains>(code: &C, s: u64, m: u64) -> u64
     at
 }
 
-/// The first address that is on the chains of both `p` and `q`, where both lead to `k`. It takes
-/// time linear in the two chains up to `k`.
+/// The first address that is on the chains of both `p` and `q`, if both lead to `k`.
+/// Time: O(length of the two chains up to `k`).
 pub fn meet<C: Chains>(code: &C, p: u64, q: u64, k: u64) -> u64
     requires first { IsSome (C.map code.now p) }
     requires second { IsSome (C.map code.now q) }
@@ -60,7 +61,7 @@ pub fn meet<C: Chains>(code: &C, p: u64, q: u64, k: u64) -> u64
     a
 }
 
-/// The last address on the chain of `s` that does not lie above `k`, or `s` where that one does.
+/// The last address on the chain of `s` that does not lie above `k`, or `s` if that one does.
 fn climb<C: Chains>(code: &C, s: u64, k: u64) -> u64
     requires { IsSome (C.map code.now s) }
     ensures lawful { IsLawful (C.map code.now) }
@@ -80,7 +81,7 @@ fn climb<C: Chains>(code: &C, s: u64, k: u64) -> u64
     at
 }
 
-/// The address behind `a` on the way to `k`.
+/// The address after `a` on the way to `k`.
 fn towards<C: Chains>(code: &C, a: u64, k: u64) -> u64
     requires start { IsSome (C.map code.now a) }
     requires leads { OnChain (C.map code.now) a k }
@@ -96,7 +97,7 @@ fn towards<C: Chains>(code: &C, a: u64, k: u64) -> u64
     }
 }
 
-/// The address behind the instruction at `k`, where it goes straight on.
+/// The address after the instruction at `k`, if it goes straight on.
 fn behind<C: Chains>(code: &C, k: u64) -> Option<u64>
     requires { IsSome (C.map code.now k) }
     ensures lawful { IsLawful (C.map code.now) }

@@ -6,7 +6,7 @@ use std::marker::Sync;
 /// Where control goes from one instruction. Every address is that of an instruction of the program.
 #[derive(Clone, Copy, Debug, PartialEq, Eq)]
 pub enum Flow {
-    /// Execution goes on at `next`, right behind the instruction. The only flow that does not end a
+    /// Execution goes on at `next`, right after the instruction. The only flow that does not end a
     /// basic block.
     Straight {
         next: u64,
@@ -21,17 +21,17 @@ pub enum Flow {
     Jump {
         target: u64,
     },
-    /// A call of a known address; `fall` is the address it returns to, where that is code.
+    /// A call of a known address; `fall` is the address it returns to, if that is code.
     Call {
         target: u64,
         fall: Option<u64>,
     },
-    /// A call through a register; `fall` is the address it returns to, where that is code.
+    /// A call through a register; `fall` is the address it returns to, if that is code.
     IndirectCall {
         fall: Option<u64>,
     },
-    /// A jump through a table of `entries` kept targets. `full` says that these are as many as the
-    /// table's bound allows, and `is_open` that no bound test was found in front of the jump.
+    /// A jump through a table of `entries` kept targets. `full` says that the table's bound allows
+    /// no more than these, and `is_open` that no bound test was found before the jump.
     Table {
         entries: u32,
         full: bool,
@@ -81,14 +81,14 @@ pub trait Chains: Sync {
         ensures lawful { IsLawful (map self.now) };
 
     /// The kept targets of the table jump at `a`, in the order of the table; none of any other
-    /// instruction. [`Memory`] where memory ran out.
+    /// instruction. [`Memory`] if memory ran out.
     fn targets(&self, a: u64) -> Result<Vec<u64>, Memory>
         requires { IsSome (map self.now a) }
         ensures targets { IfOk result (λ v. v.items ≡ targets_at (map self.now) a) }
         ensures lawful { IsLawful (map self.now) };
 
-    /// The terminator of the chain of `a`, its last address. Where a program has no shorter way it
-    /// is found by walking the chain, in time linear in it.
+    /// The terminator of the chain of `a`, its last address.
+    /// Time: O(length of the chain) by default, since it walks the chain.
     fn term(&self, a: u64) -> u64
         requires { IsSome (map self.now a) }
         ensures term { IsTerminatorOf (map self.now) a result }

@@ -7,9 +7,9 @@ use std::marker::Model;
 /// What a basic block ends with.
 #[derive(Clone, Copy, Debug, PartialEq, Eq)]
 pub enum EndKind {
-    /// It ends in front of another block that starts at its end.
+    /// Another block starts at its end.
     Fall,
-    /// A conditional branch, both ways of which are in the graph.
+    /// A conditional branch with both its ways in the graph.
     Branch,
     /// A conditional branch that is cut off: one of its ways leads out of the code.
     BranchOut,
@@ -23,10 +23,10 @@ pub enum EndKind {
     Return,
     /// A jump through a table, all of whose entries are in the graph.
     Table,
-    /// A jump through a table, of which fewer entries are kept than its bound test allows.
+    /// A jump through a table with fewer kept entries than its bound test allows.
     TableCut,
     /// A jump through a table without a bound test: more entries may be in use than are in the
-    /// graph, and fewer.
+    /// graph, or fewer.
     TableOpen,
     /// A jump whose target is not known.
     Unknown,
@@ -37,13 +37,13 @@ pub enum EndKind {
 /// How control goes from one block to another. The order of the kinds is that of the report.
 #[derive(Clone, Copy, Debug, PartialEq, Eq, PartialOrd, Ord)]
 pub enum EdgeKind {
-    /// On to the instruction behind: of a straight instruction, or a branch that is not taken.
+    /// On to the next instruction: of a straight instruction, or a branch that is not taken.
     Fall,
     /// A branch that is taken.
     Taken,
     /// A jump within a function.
     Jump,
-    /// A jump to the entry of another function, in place of a call and a return.
+    /// A jump to the entry of another function, instead of a call and a return.
     Tail,
     /// A call.
     Call,
@@ -58,7 +58,7 @@ pub enum EdgeKind {
 pub struct Block {
     /// The address of its first instruction.
     pub start: u64,
-    /// The address behind its last instruction.
+    /// The address after its last instruction.
     pub end: u64,
     /// What it ends with.
     pub kind: EndKind,
@@ -78,6 +78,17 @@ pub struct Function {
     pub entry: u64,
     pub returns: bool,
     pub body: Addresses,
+}
+
+/// The outline of a program: its basic blocks and the edges between them, before tail calls are told
+/// from other jumps.
+#[derive(Drop)]
+pub struct Outline {
+    /// The blocks, by where they start.
+    pub blocks: Blocks,
+    /// The edges, by the start of the block that they leave, then of the block that they enter,
+    /// then by kind.
+    pub edges: Edges,
 }
 
 /// The control-flow graph of a program: functions, blocks and edges, each list in its own order.

@@ -3,6 +3,7 @@
 ghost use Rattle.cfg_model.specs.Program.Cuts.{CutsAreUnique};
 ghost use Rattle.cfg_model.specs.Graph.Joined.{EdgesJoinBlocks, EntriesStartBlocks};
 ghost use Rattle.cfg_model.specs.Graph.Joined.{BodiesListBlocks};
+ghost use Rattle.cfg_model.specs.Graph.Places.{EachAddressHasABlock, BlocksAreApart};
 ghost use Rattle.cfg_model.specs.Graph.Unique.{GraphIsUnique, OutlineIsUnique};
 ghost use Rattle.cfg_model.specs.Graph.Unique.{BlockIsUnique, FunctionIsUnique};
 
@@ -25,4 +26,10 @@ pub fn parts_are_blocks()
     ensures edges { EdgesJoinBlocks }
     ensures entries { EntriesStartBlocks }
     ensures bodies { BodiesListBlocks }
+{}
+
+/// Every reachable address lies in one block of an outline, and in no other.
+pub fn one_block_for_each_address()
+    ensures each { EachAddressHasABlock }
+    ensures apart { BlocksAreApart }
 {}

@@ -4,6 +4,7 @@
 //!   from addresses to instructions.
 //! - [`chain`]: places on chains.
 //! - [`graph`]: functions, basic blocks and edges as plain data, and their lists.
+//! - [`live`]: live registers of blocks as plain data, and their lists.
 //! - [`laws`]: laws of these definitions, above all that a program has one graph.
 //! - [`outline`]: blocks and edges, read off the last instruction of a block.
 //! - [`state`]: what a builder notes of a start and of a terminator that waits.
@@ -17,6 +18,7 @@ pub mod chain;
 pub mod flow;
 pub mod graph;
 pub mod laws;
+pub mod live;
 pub mod memory;
 pub mod outline;
 pub mod state;
@@ -24,9 +26,10 @@ pub mod state;
 pub use chain::{before, meet, on_chain, term};
 pub use flow::{Chains, Flow};
 pub use graph::{
-    Addresses, Block, Blocks, Edge, EdgeKind, Edges, EndKind, Function, Functions, Graph,
+    Addresses, Block, Blocks, Edge, EdgeKind, Edges, EndKind, Function, Functions, Graph, Outline,
 };
-pub use laws::{one_graph, one_map_of_cuts, parts_are_blocks};
+pub use laws::{one_block_for_each_address, one_graph, one_map_of_cuts, parts_are_blocks};
+pub use live::{AllLives, Live, Lives};
 pub use memory::Memory;
 pub use outline::{add_edges, add_edges_by, block_by, block_of, edges_in_order};
 pub use state::{Mark, WaitKind, Waiter};

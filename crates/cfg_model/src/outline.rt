@@ -68,9 +68,9 @@ fn end_kind_of(flow: Flow) -> EndKind
     }
 }
 
-/// Adds the edges of the block that starts at `s` and whose last instruction stands at `k`. Where
-/// that is a call of a known address, `returns` says whether its target returns. [`Memory`] where
-/// memory ran out.
+/// Adds the edges of the block that starts at `s` and whose last instruction stands at `k`. If that
+/// is a call of a known address, `returns` says whether its target returns. [`Memory`] if memory
+/// ran out.
 pub fn add_edges<C: Chains>(
     code: &C,
     s: u64,

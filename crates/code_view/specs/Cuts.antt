@@ -13,8 +13,8 @@ Counts = map.FinMap nat_cmp ℕ
 abbrev pub cut_of : Counts → ℕ → Option ℕ
 cut_of cuts j = map.get cuts j
 
--- So many entries can be kept of the table of the jump at j: it has one, of at least so many
--- entries, and one is kept at least.
+-- This many entries can be kept of the table of the jump at j: it has a table with at least this
+-- many entries, and one is kept at least.
 pub record CanBeKept (bytes : List ℕ) (j count : ℕ) : Type 0 where
   pub table : Table
   pub at_jump : table_at bytes j ≡ Some table

@@ -10,16 +10,16 @@ use Rattle.jump_table.specs.Table.{table_targets}
 use Rattle.cfg_model.specs.declared.flow.Flow.{Flow}
 use Rattle.cfg_model.specs.declared.flow.Flow.TheVariants as flow
 
--- An address, where it is one of code.
+-- An address, if it is one of code.
 abbrev pub in_code : List ℕ → ℕ → Option ℕ
 in_code bytes a = if is_code bytes a then Some a else None
 
--- Straight on to the address behind, or a stop where no code is there.
+-- Straight on to the next address, or a stop if no code is there.
 abbrev pub straight_flow : Option ℕ → Flow
 straight_flow None = flow.Stop
 straight_flow (Some next) = flow.Straight next
 
--- A jump or a call, whose target is not known where it is outside the code.
+-- A jump or a call, whose target is not known if it is outside the code.
 abbrev pub jump_flow : Option ℕ → Flow
 jump_flow None = flow.Unknown
 jump_flow (Some target) = flow.Jump target
@@ -32,16 +32,14 @@ call_flow (Some target) fall = flow.Call target fall
 abbrev pub kept_entries : Option ℕ → Table → ℕ
 kept_entries cut table = unwrap_or cut table.count
 
--- A jump through a table, which is full where as many entries are kept as its bound allows, and
--- open where it has no bound test; a jump through a register without a table goes nobody knows
--- where.
+-- A jump through a table. It is full if all entries are kept that its bound allows, and open if it
+-- has no bound test. A jump through a register without a table goes to an unknown target.
 abbrev pub table_flow : Option ℕ → Option Table → Flow
 table_flow cut None = flow.Unknown
 table_flow cut (Some table) =
     flow.Table (kept_entries cut table) (kept_entries cut table == table.bound) table.is_open
 
--- The flow of an instruction that alone has this one: `behind` is the address behind it, `table`
--- and
+-- The flow of an instruction that alone has this one: `behind` is the address after it, `table` and
 -- `cut` are those of its address.
 abbrev pub flow_by : List ℕ → ℕ → Option ℕ → Option Table → RawFlow → Flow
 flow_by bytes behind cut table raw.Straight = straight_flow (in_code bytes behind)

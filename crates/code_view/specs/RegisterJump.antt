@@ -15,9 +15,9 @@ is_jump_by_c_jr half =
     half % 2 ^ 7 == 0b10 && half / 2 ^ 12 % 16 == 0b1000
     && not (is_link_register (half / 2 ^ 7 % 32))
 
--- The first halfword of a jump through a register that links to x0 and is not a return by C.JR: of
--- a JALR, whose opcode is 67 and whose rd is 0, or of such a C.JR. A JALR counts whatever its
--- register, which its first halfword does not tell.
+-- The first halfword of a jump through a register that links to x0 and is not a return by C.JR. It
+-- is that of a JALR, whose opcode is 67 and whose rd is 0, or of such a C.JR. A JALR counts
+-- whatever its register, which its first halfword does not tell.
 abbrev pub is_register_jump : ℕ → Bool
 is_register_jump half =
     if half % 4 == 3 then half % 2 ^ 12 == 0x67 else is_jump_by_c_jr half
@@ -30,7 +30,7 @@ is_register_jump_at bytes a = option_map_or is_register_jump (half_at bytes a) f
 abbrev pub AreRegisterJumps : List ℕ → List ℕ → Type 0
 AreRegisterJumps bytes jumps = (a : ℕ) → Contains jumps a ↔ IsTrue (is_register_jump_at bytes a)
 
--- a lies above `after` and up to `last`, where there are these.
+-- a lies above `after` and up to `last`, if there are these.
 abbrev pub IsBetween : Option ℕ → Option ℕ → ℕ → Type 0
 IsBetween after last a = IfSome after (λ b. b < a) × IfSome last (λ b. a ≤ b)
 

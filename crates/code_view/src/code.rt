@@ -18,9 +18,8 @@ use std::marker::Model;
 ///
 /// Targets outside the code are dropped: a jump or a call whose target is outside is one whose
 /// target is not known, and a branch that loses one of its ways is cut off. A straight instruction
-/// with no code behind it stops. A jump through a register that is no return goes through its jump
-/// table, of which as many entries are kept as its cut says, and where it has none nobody knows
-/// where.
+/// with no code after it stops. A jump through a register that is no return goes through its jump
+/// table, and its cut says how many entries are kept. Without a table its targets are unknown.
 #[derive(Drop)]
 pub struct Code<'a> {
     image: &'a Image,
@@ -48,6 +47,7 @@ impl<'a> Code<'a> {
     ghost use Rattle.std.specs.List.Sorted.{IsNonDecreasing};
     ghost use Rattle.std.specs.Option.{option_map_or};
     ghost use Rattle.elf_image.specs.Code.{is_code, half_at};
+    ghost use Rattle.elf_image.specs.Faults.{IsImage};
     ghost use Rattle.rv_flow.specs.Placed.{placed_at};
     ghost use Rattle.jump_table.specs.Table.{table_at};
     ghost use Rattle.code_view.specs.Cuts.{cut_of, CutsFit};
@@ -59,8 +59,8 @@ impl<'a> Code<'a> {
     ghost use Rattle.code_view.specs.JumpWord.{is_jump_word};
     ghost use Rattle.cfg_model.specs.Program.Instructions.{flow_at, IsLawful};
 
-    /// The code of `image`, whose chains end as `index` says, under `cuts`, each of which is one of
-    /// a table of that image: at least 1, and at most as many as the table has entries.
+    /// The code of `image`, whose chains end as `index` says, under `cuts`. Each of the cuts is of
+    /// a table of that image: at least 1, and at most the number of the table's entries.
     pub fn new(image: &'a Image, index: &'a ChainIndex<'a>, cuts: &'a Cuts) -> Code<'a>
         requires index { index.now ≡ image.now }
         requires cuts { CutsFit image.now (cut_of cuts.now) }
@@ -73,7 +73,7 @@ impl<'a> Code<'a> {
         Code { image, index, cuts }
     }
 
-    /// The same code under other cuts, each of which is one of a table of that image.
+    /// The same code under other cuts, each of a table of that image.
     pub fn under<'b>(&'b self, cuts: &'b Cuts) -> Code<'b>
         requires cuts { CutsFit self.now.bytes (cut_of cuts.now) }
         ensures bytes { result.bytes ≡ self.now.bytes }
@@ -83,11 +83,11 @@ impl<'a> Code<'a> {
     }
 
     /// The code addresses whose first halfword is that of a jump through a register that links to
-    /// x0 and is not a return by C.JR, through x1 or x5, the link registers (RISC-V Unprivileged
-    /// ISA 20240411, section 2.5.1, the table of return-address stack hints), whether an
-    /// instruction of the program begins there or not: no other has a jump table. A return by JALR
-    /// is among them, since its first halfword does not tell its register. It takes time linear in
-    /// the sizes of the code sections.
+    /// x0 and is not a return by C.JR. No other address has a jump table. An instruction of the
+    /// program may begin there or not. A return by C.JR goes through x1 or x5, the link registers
+    /// (RISC-V Unprivileged ISA 20240411, section 2.5.1, the table of return-address stack hints).
+    /// A return by JALR is among the answers, since its first halfword does not tell its register.
+    /// Time: O(bytes of code).
     pub fn register_jumps(&self, alloc: Global) -> Result<Vec<u64>, Memory>
         ensures exact { IfOk result (λ jumps. AreRegisterJumps self.now.bytes jumps.items) }
         ensures tables { IfOk result
@@ -99,8 +99,8 @@ impl<'a> Code<'a> {
     }
 
     /// Those of [`register_jumps`](Self::register_jumps) that lie above `after` and up to `last`,
-    /// where there are such bounds. It takes time linear in the number of sections and in the size
-    /// of the code there, so that several threads can each search a part of the code.
+    /// if there are such bounds. So several threads can each search a part of the code.
+    /// Time: O(number of sections + bytes of code between the bounds).
     pub fn register_jumps_between(
         &self,
         alloc: Global,
@@ -117,7 +117,7 @@ impl<'a> Code<'a> {
         register_jumps_between(alloc, self.image, after, last)
     }
 
-    /// The jump table of the jump at the code address `j`, before cuts; `None` exactly where it has
+    /// The jump table of the jump at the code address `j`, before cuts; `None` exactly if it has
     /// none.
     pub fn table(&self, j: u64) -> Option<Table>
         requires { IsTrue (is_code self.now.bytes j) }
@@ -127,7 +127,7 @@ impl<'a> Code<'a> {
     }
 
     /// Whether the instruction at the code address `a` is a jump through a register that links to
-    /// x0 and is not a return by C.JR, told by its first halfword: no other instruction has a jump
+    /// x0 and is not a return by C.JR, by its first halfword. No other instruction has a jump
     /// table. It decodes nothing.
     pub fn jumps_by_register(&self, a: u64) -> bool
         requires { IsTrue (is_code self.now.bytes a) }
@@ -141,7 +141,16 @@ impl<'a> Code<'a> {
         }
     }
 
-    /// Addresses that cut the code into so many stretches of about the same size in bytes:
+    /// The index of the image, by which its code addresses are numbered.
+    pub fn index(&self) -> &ChainIndex<'a>
+        ensures index { result.now ≡ self.now.bytes }
+        ensures accepted { IsImage self.now.bytes }
+        ensures lawful { IsLawful (program_of self.now) }
+    {
+        self.index
+    }
+
+    /// Addresses that cut the code into `count` ranges of about the same size in bytes:
     /// [`ChainIndex::bounds`].
     pub fn bounds(&self, alloc: Global, count: u32) -> Result<Vec<u64>, chain_index::Memory>
         requires { 1 ≤ count }
@@ -161,8 +170,8 @@ impl<'a> Code<'a> {
         self.flow_by(a, behind, flow_of(self.image, a, placed.insn))
     }
 
-    /// The length of the instruction at `a`. It is decoded only where its first halfword does not
-    /// tell its length: what is no instruction has the length 2.
+    /// The length of the instruction at `a`. It is decoded only if its first halfword does not tell
+    /// its length: what is no instruction has the length 2.
     fn end_length(&self, a: u64) -> u8
         requires { IsTrue (is_code self.now.bytes a) }
         ensures { result ≡ (placed_at self.now.bytes a).length }
@@ -174,7 +183,7 @@ impl<'a> Code<'a> {
         }
     }
 
-    /// The length of a jump, a call or a branch of 32 bits at `a`, where its word is there.
+    /// The length of a jump, a call or a branch of 32 bits at `a`, if its word is there.
     fn jump_length(&self, a: u64) -> u8
         requires code { IsTrue (is_code self.now.bytes a) }
         requires jump { option_map_or is_jump_word (half_at self.now.bytes a) false ≡ true }
@@ -187,7 +196,7 @@ impl<'a> Code<'a> {
     }
 
     /// The flow of the instruction at `a`, which alone has the flow `raw`; `behind` is the address
-    /// behind it.
+    /// after it.
     fn flow_by(&self, a: u64, behind: u64, raw: RawFlow) -> Flow
         requires { IsTrue (is_code self.now.bytes a) }
         ensures { result ≡ flow_by self.now.bytes behind (cut_of self.now.cuts a)

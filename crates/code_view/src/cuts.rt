@@ -53,15 +53,15 @@ impl Cuts {
         self.counts.is_empty()
     }
 
-    /// The cut of the jump at `j`; `None` exactly where it has no cut.
+    /// The cut of the jump at `j`; `None` exactly if it has no cut.
     pub fn count(&self, j: u64) -> Option<u32>
         ensures { result ≡ cut_of self.now j }
     {
         self.counts.get(&j).copied()
     }
 
-    /// Cuts the table of the jump at `j` to `count` entries, at least 1, in place of what its cut
-    /// was. Every other cut stays.
+    /// Cuts the table of the jump at `j` to `count` entries, at least 1. A cut that it had is
+    /// replaced. Every other cut stays.
     ///
     /// The only error is that memory ran out; then all cuts stay.
     pub fn put(&mut self, j: u64, count: u32) -> Result<(), Memory>

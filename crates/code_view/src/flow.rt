@@ -8,14 +8,14 @@ use cfg_model::Flow;
 use elf_image::Image;
 use jump_table::Table;
 
-/// `a`, where it is a code address.
+/// `a`, if it is a code address.
 pub fn in_code(image: &Image, a: u64) -> Option<u64>
     ensures { result ≡ in_code image.now a }
 {
     if image.is_code(a) { Some(a) } else { None }
 }
 
-/// Straight on to `next`, where there is code, and else a stop.
+/// Straight on to `next`, if there is code, and else a stop.
 pub fn straight_flow(next: Option<u64>) -> Flow
     ensures { result ≡ straight_flow next }
 {
@@ -25,7 +25,7 @@ pub fn straight_flow(next: Option<u64>) -> Flow
     }
 }
 
-/// A jump to `target`, where there is code.
+/// A jump to `target`, if there is code.
 pub fn jump_flow(target: Option<u64>) -> Flow
     ensures { result ≡ jump_flow target }
 {
@@ -35,7 +35,7 @@ pub fn jump_flow(target: Option<u64>) -> Flow
     }
 }
 
-/// A call of `target`, where there is code, that returns to `fall`.
+/// A call of `target`, if there is code, that returns to `fall`.
 pub fn call_flow(target: Option<u64>, fall: Option<u64>) -> Flow
     ensures { result ≡ call_flow target fall }
 {
@@ -45,7 +45,7 @@ pub fn call_flow(target: Option<u64>, fall: Option<u64>) -> Flow
     }
 }
 
-/// A jump through `table`, where there is one, of which `cut` says how many entries are kept.
+/// A jump through `table`, if there is one; `cut` says how many of its entries are kept.
 pub fn table_flow(cut: Option<u32>, table: Option<Table>) -> Flow
     ensures { result ≡ table_flow cut table }
 {

@@ -1,4 +1,4 @@
-//! Jumps, calls and branches of 32 bits, told by their first halfword.
+//! Jumps, calls and branches of 32 bits, by their first halfword.
 
 ghost use Rattle.std.specs.Prelude.{◌≡◌};
 ghost use Rattle.code_view.specs.JumpWord.{is_jump_word};

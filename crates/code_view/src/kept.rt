@@ -9,8 +9,8 @@ use elf_image::Image;
 use jump_table::{Table, entry_target};
 use std::alloc::Global;
 
-/// The kept targets of a table of this image, in its order: as many of the first as `cut` says, and
-/// all where it says nothing. The only error is that memory ran out.
+/// The kept targets of a table of this image, in its order: the first `cut` of them, or all if
+/// there is no cut. The only error is that memory ran out.
 pub fn kept_targets(
     alloc: Global,
     image: &Image,

@@ -1,4 +1,4 @@
-//! Jumps through a register that may have a table, told by their first halfword.
+//! Jumps through a register that may have a table, by their first halfword.
 
 ghost use Rattle.std.specs.Prelude.{◌≡◌, ◌↔◌, ℕ, ◌+◌, ◌*◌, ◌<◌, ◌≤◌, IfOk, IfSome, OnOk};
 ghost use Rattle.elf_image.specs.Header as header;
@@ -11,9 +11,9 @@ use elf_image::{Image, Span, u16_at};
 use std::alloc::Global;
 
 /// Whether an instruction that begins with the halfword `half` jumps through a register, links to
-/// x0 and is not a return by C.JR: a JALR, whose opcode is 67 and whose rd is 0, or a C.JR through
-/// another register than a link register. No halfword is both: the low two bits of a JALR are 11,
-/// and those of a C.JR are 10.
+/// x0 and is not a return by C.JR. It is a JALR, whose opcode is 67 and whose rd is 0, or a C.JR
+/// through another register than a link register. No halfword is both: the low two bits of a JALR
+/// are 11, and those of a C.JR are 10.
 pub(crate) fn is_register_jump(half: u16) -> bool
     ensures { result ≡ is_register_jump half }
 {
@@ -31,8 +31,8 @@ fn is_jump_by_c_jr(half: u16) -> bool
 }
 
 /// The code addresses of an image, above `after` and up to `last`, whose first halfword is that of
-/// a jump through a register that links to x0 and is not a return by C.JR, whether an instruction
-/// begins there or not.
+/// a jump through a register that links to x0 and is not a return by C.JR. An instruction may begin
+/// there or not.
 pub(crate) fn register_jumps_between(
     alloc: Global,
     image: &Image,
@@ -49,7 +49,7 @@ pub(crate) fn register_jumps_between(
     Ok(jumps)
 }
 
-/// Adds those of section number `i`, where that is a code section.
+/// Adds those of section number `i`, if that is a code section.
 fn add_register_jumps(
     image: &Image,
     i: u32,
@@ -91,7 +91,7 @@ fn first_above(start: u64, count: usize, after: Option<u64>) -> usize
     }
 }
 
-/// The place behind the last of them that lies up to `last`.
+/// The place after the last of them that lies up to `last`.
 fn end_up_to(start: u64, count: usize, last: Option<u64>) -> usize
     ensures most { result ≤ count }
     ensures exact { (place : ℕ) → place < count

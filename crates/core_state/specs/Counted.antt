@@ -4,7 +4,7 @@ use Rattle.std.specs.Coded.{Coded, code_by, coded×, coded_ℕ}
 use Rattle.cfg_model.specs.Builder.State.{BuilderState}
 use Rattle.cfg_model.specs.Builder.Codes.{coded_state}
 
--- The maps, and how many changes were made of them. A change counts also where it adds nothing.
+-- The maps, and how many changes were made of them. A change counts also if it adds nothing.
 pub record CountedState : Type 0 where
   pub maps : BuilderState
   pub changes : ℕ

@@ -3,7 +3,6 @@ use Rattle.std.specs.Prelude.{◌≡◌, ◌<◌, ◌/◌, ℕ, Option}
 use Rattle.cfg_model.specs.Builder.State.{StartMap, IsStart}
 use Rattle.core_state.specs.Least.{IsLeast}
 
--- It is the least start above a of those in a's line; there is none where the line has none above
--- a.
+-- It is the least start above a of those in a's line; there is none if the line has none above a.
 abbrev pub IsNextInLine : StartMap → ℕ → Option ℕ → Type 0
 IsNextInLine starts a = IsLeast (λ t. IsStart starts t × (a < t) × (t / 64 ≡ a / 64))

@@ -1,4 +1,4 @@
--- What a place that a builder works on tells: what it knows, and what becomes of its maps where it
+-- What a place that a builder works on tells: what it knows, and what becomes of its maps if it
 -- tells them.
 use Rattle.std.specs.Prelude.{◌≡◌, ◌<◌, ℕ, List, [], ◌∷◌, Option, Some, None}
 use Rattle.std.specs.Option.{ForSome}
@@ -17,18 +17,18 @@ use Rattle.core_state.specs.declared.answer.PlaceEnd.{PlaceEnd}
 use Rattle.core_state.specs.declared.answer.PlaceEnd.TheVariants.{Busy, Memory}
 use Rattle.core_state.specs.Answer.{arrival_of}
 
--- Where the maps are told, they are kept.
+-- If the place tells its maps, they are kept.
 abbrev pub AreKept : InstructionMap → List ℕ → Option BuilderState → Type 0
 AreKept map seeds maps = ForSome maps (IsKept map seeds)
 
--- Where the maps are told, they go from one state to another as R says. Whether they are told never
--- changes.
+-- If the place tells its maps, they go from one state to another as R says. Whether it tells them
+-- never changes.
 abbrev pub WhereTold : (BuilderState → BuilderState → Type 0) → Option BuilderState
     → Option BuilderState → Type 0
 WhereTold R None new = new ≡ None
 WhereTold R (Some old) new = (state : BuilderState) × (new ≡ Some state) × R old state
 
--- Where the maps are told, they allowed the event and made its step.
+-- If the place tells its maps, they allowed the event and made its step.
 abbrev pub Makes : InstructionMap → List ℕ → Event → Option BuilderState
     → Option BuilderState → Type 0
 Makes map seeds event = WhereTold (λ old new. May map seeds old event × Steps map old event new)
@@ -52,14 +52,14 @@ near_after s First = s
 near_after s Same = s
 near_after s (Split near first second) = near
 
--- Where the maps are told, the arrival is the one that they answer: by the starts that were and are
--- near at k.
+-- If the place tells its maps, the arrival is the one that they answer: by the starts that were and
+-- are near at k.
 abbrev pub IsArrival : ℕ → ℕ → Option BuilderState → Option BuilderState → Arrival → Type 0
 IsArrival k s before after arrival =
     (old new : BuilderState) → before ≡ Some old → after ≡ Some new → (m : ℕ) → IsNear new.ends k m
     → arrival ≡ arrival_of s (near_at old.ends k) m
 
--- A refusal for want of a shard names the one of the key, and comes only where the count rose.
+-- A refusal for want of a shard names the one of the key, and comes only if the count rose.
 abbrev pub IsBusyAt : ShardKind → ℕ → ℕ → ℕ → PlaceEnd → Type 0
 IsBusyAt kind key before after (Busy k shard) =
     (k ≡ kind) × (shard ≡ shard_of key) × (before < after)

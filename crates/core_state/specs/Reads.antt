@@ -7,7 +7,7 @@ use Rattle.cfg_model.specs.Builder.Waiter.{waiter_cmp}
 use Rattle.cfg_model.specs.Builder.State.{TerminatorMap, IsReturned, IsUntold}
 use Rattle.core_state.specs.Least.{IsLeastBy}
 
--- Whether the terminator k is dealt with, and whether it is known to return; none where k is not
+-- Whether the terminator k is dealt with, and whether it is known to return; none if k is not
 -- entered.
 abbrev pub done_at : TerminatorMap → ℕ → Option Bool
 done_at terminators k = option_map (λ entry. entry.done) (maps.get terminators k)
@@ -15,8 +15,8 @@ done_at terminators k = option_map (λ entry. entry.done) (maps.get terminators 
 abbrev pub returned_at : TerminatorMap → ℕ → Option Bool
 returned_at terminators k = option_map (λ entry. entry.returned) (maps.get terminators k)
 
--- It is the first waiter that is to be told of the return of k; none where k is not known to
--- return, or all its waiters were told.
+-- It is the first waiter that is to be told of the return of k; none if k is not known to return,
+-- or all its waiters were told.
 abbrev pub IsNextToTell : TerminatorMap → ℕ → Option Waiter → Type 0
 IsNextToTell terminators k =
     IsLeastBy waiter_cmp (λ w. IsReturned terminators k × IsUntold terminators k w)

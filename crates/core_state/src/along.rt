@@ -11,7 +11,7 @@ use cfg_model::{Chains, Flow};
 /// straight instruction the way on. A [`Chains`] value is walked [`Along`].
 ///
 /// Unlike a `Chains` value it need not be shared between threads. So a method of a trait that was
-/// handed a `Chains` value of any type can pass it on: a [`Place`](crate::place::Place) does, where
+/// handed a `Chains` value of any type can pass it on: a [`Place`](crate::place::Place) does, when
 /// a start arrives.
 pub trait Walk {
     ghost use Rattle.std.specs.Prelude.{◌↔◌, IsTrue, IsSome, IfSome, IfNone};
@@ -25,7 +25,7 @@ pub trait Walk {
     fn stands(&self, a: u64) -> bool
         ensures { IsTrue result ↔ IsSome (map self.now a) };
 
-    /// The address behind the instruction at `k`, where it goes straight on.
+    /// The address after the instruction at `k`, if it goes straight on.
     fn behind(&self, k: u64) -> Option<u64>
         requires { IsSome (map self.now k) }
         ensures lawful { IsLawful (map self.now) }
@@ -52,8 +52,8 @@ impl<C: Chains> Walk for Along<'_, C> {
     }
 }
 
-/// The first address that is on the chains of both `p` and `q`, where both lead to `k`. It takes
-/// time linear in the two chains up to `k`.
+/// The first address that is on the chains of both `p` and `q`, if both lead to `k`.
+/// Time: O(length of the two chains up to `k`).
 pub(crate) fn meet_along<W: Walk>(walk: &W, p: u64, q: u64, k: u64) -> u64
     requires first { IsSome (W.map walk.now p) }
     requires second { IsSome (W.map walk.now q) }
@@ -70,7 +70,7 @@ pub(crate) fn meet_along<W: Walk>(walk: &W, p: u64, q: u64, k: u64) -> u64
     a
 }
 
-/// The last address on the chain of `s` that does not lie above `k`, or `s` where that one does.
+/// The last address on the chain of `s` that does not lie above `k`, or `s` if that one does.
 fn climb<W: Walk>(walk: &W, s: u64, k: u64) -> u64
     requires { IsSome (W.map walk.now s) }
     ensures lawful { IsLawful (W.map walk.now) }
@@ -90,7 +90,7 @@ fn climb<W: Walk>(walk: &W, s: u64, k: u64) -> u64
     at
 }
 
-/// The address behind `a` on the way to `k`.
+/// The address after `a` on the way to `k`.
 fn towards<W: Walk>(walk: &W, a: u64, k: u64) -> u64
     requires start { IsSome (W.map walk.now a) }
     requires leads { OnChain (W.map walk.now) a k }

@@ -15,7 +15,7 @@ pub enum Arrival {
         near: u64,
         /// The lesser of the starts that have to leave the end now.
         first: u64,
-        /// The greater one, where both have to.
+        /// The greater one, if both have to.
         second: Option<u64>,
     },
 }

@@ -70,7 +70,7 @@ impl Crowd {
         Ok(())
     }
 
-    /// Notes that `w` was told, where it is among them.
+    /// Notes that `w` was told, if it is among them.
     pub(crate) fn tell(&mut self, w: Waiter)
         ensures { self.new ≡ with_told self.old w }
     {

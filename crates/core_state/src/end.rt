@@ -92,7 +92,7 @@ impl End {
         Ok(split_answer(near, before, s))
     }
 
-    /// Makes `near` the near start: the one before and `s` are displaced, where they are others.
+    /// Makes `near` the near start: the one before and `s` are displaced, if they are others.
     fn split(&mut self, near: u64, s: u64) -> Result<(), Memory>
         ensures split { OnOk result
             (self.new ≡ record {

@@ -55,8 +55,9 @@ impl Ends {
     }
 
     /// The start `s` arrives at the end `k`: the first one there is near; another one splits the
-    /// end at the first address on the chains of both. Takes time linear in the two chains up to
-    /// `k`. [`Memory`] where memory ran out, and then nothing has changed.
+    /// end at the first address on the chains of both. [`Memory`] if memory ran out, and then
+    /// nothing has changed.
+    /// Time: O(length of the two chains up to `k`).
     pub fn arrive<C: Chains>(&mut self, code: &C, k: u64, s: u64) -> Result<Arrival, Memory>
         requires arriving { OnChain (C.map code.now) s k }
         requires near { (p : ℕ) → IsNear self.old k p → OnChain (C.map code.now) p k }
@@ -92,7 +93,7 @@ impl Ends {
         self.ends.value_mut(k).settle(x);
     }
 
-    /// The start of the block that ends at `k`; `None` exactly where no block is known to.
+    /// The start of the block that ends at `k`; `None` exactly if no block is known to.
     pub fn near(&self, k: u64) -> Option<u64>
         ensures { result ≡ near_at self.now k }
     {
@@ -100,7 +101,7 @@ impl Ends {
         Some(end.near())
     }
 
-    /// The least displaced start of the end `k`; `None` exactly where there is none.
+    /// The least displaced start of the end `k`; `None` exactly if there is none.
     pub fn moved(&self, k: u64) -> Option<u64>
         ensures { IsLeast (IsMoved self.now k) result }
     {

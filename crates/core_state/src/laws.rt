@@ -12,8 +12,8 @@ pub fn events_keep_the_state()
     ensures each { EventsKeepKept }
 {}
 
-/// What an event brings holds after it; and where an address stands at an end, that end has an
-/// entry, and the address is anchored there. Whoever gives reasons from what was done and read
+/// What an event brings holds after it; and if an address stands at an end, that end has an entry,
+/// and the address is anchored there. A caller that gives reasons from what was done and read
 /// before relies on it.
 pub fn what_was_seen_is_known()
     ensures brought { EventsBringFacts }
@@ -21,17 +21,16 @@ pub fn what_was_seen_is_known()
 {}
 
 /// A kept state is sound, what holds of a sound state is true of the program, and an event whose
-/// reason is true of the program keeps a state sound. Whoever holds one shard, and knows of the
-/// others only what is true of the program, relies on it.
+/// reason is true of the program keeps a state sound. A caller that holds one shard, and knows of
+/// the others only what is true of the program, relies on it.
 pub fn what_is_known_is_true()
     ensures kept { KeptIsSound }
     ensures facts { SoundFactsHold }
     ensures each { EventsKeepSound }
 {}
 
-/// Whatever allowed events were made from the empty state, in whatever order, the state is kept;
-/// and if nothing is left, it shows exactly the graph. So two orders of events that leave nothing
-/// show the same.
+/// After any allowed events from the empty state, in any order, the state is kept. If nothing is
+/// left, it shows exactly the graph. So two orders of events that leave nothing show the same.
 pub fn confluence()
     ensures each { Confluence }
     ensures orders { OrdersAgree }

@@ -15,8 +15,8 @@ use crate::maps::Maps;
 use crate::starts::Starts;
 use crate::terms::Terms;
 
-/// Work that is left in a state with these maps, where these addresses are to be starts. It goes
-/// over each shard once.
+/// Work that is left in a state with these maps, if these addresses are to be starts. It goes over
+/// each shard once.
 pub(crate) fn left_of(shards: &Maps, seeds: &[u64]) -> Option<Name>
     ensures some { IfSome result (λ name. IsLeft seeds.now shards.now (work_of name)) }
     ensures none { IfNone result (HasNothingLeft seeds.now shards.now) }

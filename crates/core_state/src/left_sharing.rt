@@ -17,10 +17,10 @@ use fan_out::map_indices;
 use std::alloc::Global;
 use std::thread::Threads;
 
-/// Work that is left in a state with these maps, where these addresses are to be starts, found by
-/// so many workers, each in a thread of its own. Each looks at the shards of its share, and at the
-/// seeds that belong to them. With none or one no thread is started; more than there are shards do
-/// as that many. [`Memory`] where memory ran out.
+/// Work that is left in a state with these maps, if these addresses are to be starts. It is found
+/// by `workers` workers, each in a thread of its own. Each looks at the shards of its share, and at
+/// the seeds that belong to them. With none or one no thread is started; more than there are shards
+/// do as that many. [`Memory`] if memory ran out.
 pub(crate) fn left_by<R: Threads + Sync>(
     rt: &R,
     alloc: Global,

@@ -66,7 +66,7 @@ impl Model for Maps {
 }
 
 impl Maps {
-    /// The state of which nothing is known. [`Memory`] where memory ran out.
+    /// The state in which nothing is known. [`Memory`] if memory ran out.
     pub(crate) fn new(alloc: Global) -> Result<Self, Memory>
         ensures { IfOk result (λ state. state ≡ empty_state) }
     {
@@ -94,8 +94,8 @@ impl Maps {
         }
     }
 
-    /// Makes `s` a wanted start, where it is none. Answers whether it is new; [`Memory`] where
-    /// memory ran out, and then nothing has changed.
+    /// Makes `s` a wanted start, if it is none. Answers whether it is new; [`Memory`] if memory ran
+    /// out, and then nothing has changed.
     pub(crate) fn want(&mut self, s: u64) -> Result<bool, Memory>
         ensures wanted { OnOk result (Leads self.old (Event.Want s) self.new) }
         ensures answer { IfOk result (λ new. IsTrue new ↔ ¬ IsStart self.old.starts s) }
@@ -138,8 +138,8 @@ impl Maps {
         self.ends[shard(k) as usize].settle(k, x);
     }
 
-    /// Enters `k` as a terminator, where it is none. Answers whether it is new; [`Memory`] where
-    /// memory ran out, and then nothing has changed.
+    /// Enters `k` as a terminator, if it is none. Answers whether it is new; [`Memory`] if memory
+    /// ran out, and then nothing has changed.
     pub(crate) fn term(&mut self, k: u64) -> Result<bool, Memory>
         ensures entered { OnOk result (Leads self.old (Event.Terminator k) self.new) }
         ensures answer { IfOk result (λ new. IsTrue new ↔ ¬ IsEntered self.old.terminators k) }
@@ -148,8 +148,8 @@ impl Maps {
         self.terms[shard(k) as usize].term(k)
     }
 
-    /// Makes `w` wait at the terminator `k`, untold, where it does not wait there yet. Answers
-    /// whether it is new there; [`Memory`] where memory ran out, and then nothing has changed.
+    /// Makes `w` wait at the terminator `k`, untold, if it does not wait there yet. Answers whether
+    /// it is new there; [`Memory`] if memory ran out, and then nothing has changed.
     pub(crate) fn wait(&mut self, k: u64, w: Waiter) -> Result<bool, Memory>
         requires { IsEntered self.old.terminators k }
         ensures waits { OnOk result (Leads self.old (Event.Wait k w) self.new) }
@@ -160,7 +160,7 @@ impl Maps {
     }
 
     /// Makes `w` wait at the terminator `k` as [`Maps::wait`] does. Answers whether it is to be
-    /// told now; [`Memory`] where memory ran out, and then nothing has changed.
+    /// told now; [`Memory`] if memory ran out, and then nothing has changed.
     pub(crate) fn place_waiter(&mut self, k: u64, w: Waiter) -> Result<bool, Memory>
         requires { IsEntered self.old.terminators k }
         ensures waits { OnOk result (Leads self.old (Event.Wait k w) self.new) }
@@ -180,15 +180,15 @@ impl Maps {
         self.terms[shard(k) as usize].returned(k)
     }
 
-    /// Notes that `w` was told that the terminator `k` returns, where it waits there.
+    /// Notes that `w` was told that the terminator `k` returns, if it waits there.
     pub(crate) fn told(&mut self, k: u64, w: Waiter)
         ensures { Leads self.old (Event.Told k w) self.new }
     {
         self.terms[shard(k) as usize].told(k, w);
     }
 
-    /// Notes that `w` was told that the terminator `k` returns, where it waits there. Answers
-    /// whether another waiter is left to be told.
+    /// Notes that `w` was told that the terminator `k` returns, if it waits there. Answers whether
+    /// another waiter is left to be told.
     pub(crate) fn mark_told(&mut self, k: u64, w: Waiter) -> bool
         requires { IsEntered self.old.terminators k }
         ensures told { Leads self.old (Event.Told k w) self.new }
@@ -205,36 +205,36 @@ impl Maps {
         self.terms[shard(k) as usize].edges_done(k);
     }
 
-    /// How far the start `s` has come; `None` exactly where `s` is no start.
+    /// How far the start `s` has come; `None` exactly if `s` is no start.
     pub(crate) fn start(&self, s: u64) -> Option<Mark>
         ensures { result ≡ maps.get self.now.starts s }
     {
         self.starts[shard(s) as usize].start(s)
     }
 
-    /// The least start above `a` in the line of 64 bytes that `a` lies in; `None` exactly where
-    /// there is none.
+    /// The least start above `a` in the line of 64 bytes that `a` lies in; `None` exactly if there
+    /// is none.
     pub(crate) fn start_behind(&self, a: u64) -> Option<u64>
         ensures { IsNextInLine self.now.starts a result }
     {
         self.starts[shard(a) as usize].start_behind(a)
     }
 
-    /// The start of the block that ends at `k`; `None` exactly where no block is known to.
+    /// The start of the block that ends at `k`; `None` exactly if no block is known to.
     pub(crate) fn near(&self, k: u64) -> Option<u64>
         ensures { result ≡ near_at self.now.ends k }
     {
         self.ends[shard(k) as usize].near(k)
     }
 
-    /// The least displaced start of the end `k`; `None` exactly where there is none.
+    /// The least displaced start of the end `k`; `None` exactly if there is none.
     pub(crate) fn moved(&self, k: u64) -> Option<u64>
         ensures { IsLeast (IsMoved self.now.ends k) result }
     {
         self.ends[shard(k) as usize].moved(k)
     }
 
-    /// Whether the ways on of the terminator `k` are dealt with; `None` exactly where `k` is not
+    /// Whether the ways on of the terminator `k` are dealt with; `None` exactly if `k` is not
     /// entered.
     pub(crate) fn done(&self, k: u64) -> Option<bool>
         ensures { result ≡ done_at self.now.terminators k }
@@ -242,7 +242,7 @@ impl Maps {
         self.terms[shard(k) as usize].done(k)
     }
 
-    /// Whether the terminator `k` is known to return; `None` exactly where `k` is not entered.
+    /// Whether the terminator `k` is known to return; `None` exactly if `k` is not entered.
     pub(crate) fn has_returned(&self, k: u64) -> Option<bool>
         ensures { result ≡ returned_at self.now.terminators k }
     {
@@ -250,32 +250,32 @@ impl Maps {
     }
 
     /// The first waiter that is to be told that `k` returns: the one with the least terminator, and
-    /// `Follow` before `Release`. `None` exactly where `k` is not known to return or no waiter is
-    /// left to be told.
+    /// `Follow` before `Release`. `None` exactly if `k` is not known to return or no waiter is left
+    /// to be told.
     pub(crate) fn untold(&self, k: u64) -> Option<Waiter>
         ensures { IsNextToTell self.now.terminators k result }
     {
         self.terms[shard(k) as usize].untold(k)
     }
 
-    /// The least start above `a`, or the least of all where there is no `a`; `None` exactly where
-    /// there is none. It takes little time where the next start is near `a`.
+    /// The least start above `a`, or the least of all if there is no `a`; `None` exactly if there
+    /// is none. It takes little time if the next start is near `a`.
     pub(crate) fn start_after(&self, a: Option<u64>) -> Option<u64>
         ensures { IsLeast (λ s. IsStart self.now.starts s × IsAbove a s) result }
     {
         key_after(self.starts.as_slice(), a)
     }
 
-    /// The least end above `a`, or the least of all where there is no `a`; `None` exactly where
-    /// there is none. It takes little time where the next end is near `a`.
+    /// The least end above `a`, or the least of all if there is no `a`; `None` exactly if there is
+    /// none. It takes little time if the next end is near `a`.
     pub(crate) fn end_after(&self, a: Option<u64>) -> Option<u64>
         ensures { IsLeast (λ k. HasEnd self.now.ends k × IsAbove a k) result }
     {
         key_after(self.ends.as_slice(), a)
     }
 
-    /// The least terminator above `a`, or the least of all where there is no `a`; `None` exactly
-    /// where there is none. It takes little time where the next terminator is near `a`.
+    /// The least terminator above `a`, or the least of all if there is no `a`; `None` exactly if
+    /// there is none. It takes little time if the next terminator is near `a`.
     pub(crate) fn term_after(&self, a: Option<u64>) -> Option<u64>
         ensures { IsLeast (λ k. IsEntered self.now.terminators k × IsAbove a k) result }
     {

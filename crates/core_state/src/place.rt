@@ -31,7 +31,7 @@ impl Job for Brand {
 /// [`Place::wait`], and [`Place::mark_told`] is [`Place::told`].
 ///
 /// A place knows facts, and what it knows it keeps. It tells the maps that it stands for, or does
-/// not; where it does, it knows exactly what holds of them. A call that is refused changes no map.
+/// not; if it does, it knows exactly what holds of them. A call that is refused changes no map.
 pub trait Place<J: Job> {
     ghost use Rattle.std.specs.Prelude.{◌≡◌, ◌↔◌, ℕ, ◌<◌, ◌≤◌, Option, Some, None, IsTrue};
     ghost use Rattle.std.specs.Prelude.{OnOk, OnErr, IfOk, IfErr, IfSome, OnSome, IfNone};
@@ -54,10 +54,10 @@ pub trait Place<J: Job> {
     /// What is known.
     ghost knows: { Self → Fact → Type 0 };
 
-    /// The maps, where they are told.
+    /// The maps, if the place tells them.
     ghost maps: { Self → Option BuilderState };
 
-    /// Makes `s` a wanted start, where it is none. Answers whether it is new.
+    /// Makes `s` a wanted start, if it is none. Answers whether it is new.
     fn want(&mut self, s: u64) -> Result<bool, PlaceEnd>
         requires lawful { IsLawful J.map }
         requires kept { AreKept J.map J.seeds (maps self.old) }
@@ -123,7 +123,7 @@ pub trait Place<J: Job> {
             (IsBusyAt ShardKind.Ends k (busies self.old) (busies self.new)) }
         ensures counted { busies self.old ≤ busies self.new };
 
-    /// Enters `k` as a terminator, where it is none. Answers whether it is new.
+    /// Enters `k` as a terminator, if it is none. Answers whether it is new.
     fn term(&mut self, k: u64) -> Result<bool, PlaceEnd>
         requires lawful { IsLawful J.map }
         requires kept { AreKept J.map J.seeds (maps self.old) }
@@ -140,8 +140,8 @@ pub trait Place<J: Job> {
             (IsBusyAt ShardKind.Terms k (busies self.old) (busies self.new)) }
         ensures counted { busies self.old ≤ busies self.new };
 
-    /// Makes `w` wait at the terminator `k`, untold, where it does not wait there yet. Answers
-    /// whether it is new there.
+    /// Makes `w` wait at the terminator `k`, untold, if it does not wait there yet. Answers whether
+    /// it is new there.
     fn wait(&mut self, k: u64, w: Waiter) -> Result<bool, PlaceEnd>
         requires lawful { IsLawful J.map }
         requires kept { AreKept J.map J.seeds (maps self.old) }
@@ -160,8 +160,8 @@ pub trait Place<J: Job> {
 
     /// Makes `w` wait at the terminator `k` as [`Place::wait`] does. Answers whether it is to be
     /// told now: it is new there, and `k` is known to return. Both are read where it is placed, by
-    /// the same look. So one that is new and not to be told now waits there already when `k` is
-    /// noted to return, and whoever notes that is answered that it is new.
+    /// the same look. So if it is new and is not to be told now, it waits there already when `k` is
+    /// noted to return. The call that notes this answers that the return is new.
     fn place_waiter(&mut self, k: u64, w: Waiter) -> Result<bool, PlaceEnd>
         requires lawful { IsLawful J.map }
         requires kept { AreKept J.map J.seeds (maps self.old) }
@@ -258,8 +258,8 @@ pub trait Place<J: Job> {
         Ok(false)
     }
 
-    /// The least start above `a` in the line of 64 bytes that `a` lies in; `None` where none is
-    /// known there.
+    /// The least start above `a` in the line of 64 bytes that `a` lies in; `None` if none is known
+    /// there.
     fn start_behind(&mut self, a: u64) -> Result<Option<u64>, PlaceEnd>
         requires kept { AreKept J.map J.seeds (maps self.old) }
         ensures same { maps self.new ≡ maps self.old }
@@ -272,7 +272,7 @@ pub trait Place<J: Job> {
             (IsBusyAt ShardKind.Starts a (busies self.old) (busies self.new)) }
         ensures counted { busies self.old ≤ busies self.new };
 
-    /// The start of the block that ends at `k`; `None` where no block is known to.
+    /// The start of the block that ends at `k`; `None` if no block is known to.
     fn near(&mut self, k: u64) -> Result<Option<u64>, PlaceEnd>
         requires kept { AreKept J.map J.seeds (maps self.old) }
         ensures same { maps self.new ≡ maps self.old }
@@ -286,7 +286,7 @@ pub trait Place<J: Job> {
             (IsBusyAt ShardKind.Ends k (busies self.old) (busies self.new)) }
         ensures counted { busies self.old ≤ busies self.new };
 
-    /// The least displaced start of the end `k`; `None` where there is none.
+    /// The least displaced start of the end `k`; `None` if there is none.
     fn moved(&mut self, k: u64) -> Result<Option<u64>, PlaceEnd>
         requires kept { AreKept J.map J.seeds (maps self.old) }
         ensures same { maps self.new ≡ maps self.old }
@@ -301,8 +301,8 @@ pub trait Place<J: Job> {
         ensures counted { busies self.old ≤ busies self.new };
 
     /// The first waiter that is to be told that `k` returns: the one with the least terminator, and
-    /// `Follow` before `Release`. `None` where `k` is not known to return or no waiter is left to
-    /// be told.
+    /// `Follow` before `Release`. `None` if `k` is not known to return or no waiter is left to be
+    /// told.
     fn untold(&mut self, k: u64) -> Result<Option<Waiter>, PlaceEnd>
         requires kept { AreKept J.map J.seeds (maps self.old) }
         ensures same { maps self.new ≡ maps self.old }
@@ -331,7 +331,7 @@ pub trait Place<J: Job> {
     ghost sound: { (place : Self) → AreKept J.map J.seeds (maps place) → (fact : Fact)
         → knows place fact → IsSoundFact J.map J.seeds fact };
 
-    /// Where the maps are told, what is known is what holds of them.
+    /// If the place tells its maps, what is known is what holds of them.
     ghost exact: { (place : Self) (state : BuilderState) → maps place ≡ Some state → (fact : Fact)
         → knows place fact ↔ Holds J.map state fact };
 }

@@ -37,7 +37,7 @@ fn order(v: Waiter, w: Waiter) -> Ordering
     v.cmp(&w)
 }
 
-/// Puts `w` into a row, told or not: at its place where it is new, and else over what stands there.
+/// Puts `w` into a row, told or not: at its place if it is new, and else over what stands there.
 pub(crate) fn put(row: &mut Vec<(Waiter, bool)>, w: Waiter, told: bool) -> Result<(), Memory>
     requires { AreRising waiter_cmp row.old.items }
     ensures { OnOk result (row.new.items ≡ put waiter_cmp w told row.old.items) }
@@ -62,7 +62,7 @@ pub(crate) fn untold_among(row: &[(Waiter, bool)]) -> Option<Waiter>
     None
 }
 
-/// The lesser of two waiters, either of which may be none.
+/// The lesser of two waiters; each may be none.
 pub(crate) fn lesser(v: Option<Waiter>, w: Option<Waiter>) -> Option<Waiter>
     ensures { result ≡ lesser_by waiter_cmp v w }
 {

@@ -17,9 +17,8 @@ use std::marker::Model;
 /// How many waiters stand in the row.
 const FEW: usize = 24;
 
-/// Waiters, each with whether it was told: a few in a row in their order, to be looked at one by
-/// one, and those that come later in a crowd. So many waiters take time logarithmic in their number
-/// each.
+/// Waiters, each with whether it was told: a few in a row in their order, and those that come later
+/// in a crowd. Many waiters take time logarithmic in their number each.
 #[derive(Drop)]
 pub(crate) struct Several {
     few: Vec<(Waiter, bool)>,
@@ -64,7 +63,7 @@ impl Several {
         })
     }
 
-    /// Makes `w` wait, untold, where it does not wait yet. Answers whether it is new.
+    /// Makes `w` wait, untold, if it does not wait yet. Answers whether it is new.
     pub(crate) fn wait(&mut self, w: Waiter) -> Result<bool, Memory>
         ensures waits { OnOk result (self.new ≡ with_waiter self.old w) }
         ensures answer { IfOk result (λ new. IsTrue new ↔ ¬ IsSome (maps.get self.old w)) }
@@ -85,7 +84,7 @@ impl Several {
         Ok(true)
     }
 
-    /// Notes that `w` was told, where it is among them.
+    /// Notes that `w` was told, if it is among them.
     pub(crate) fn tell(&mut self, w: Waiter)
         ensures { self.new ≡ with_told self.old w }
     {

@@ -48,7 +48,7 @@ impl SplitEnd {
         self.near
     }
 
-    /// Makes `near` the near start: the one before and `s` are displaced, where they are others.
+    /// Makes `near` the near start: the one before and `s` are displaced, if they are others.
     pub(crate) fn split(&mut self, near: u64, s: u64) -> Result<(), Memory>
         ensures split { OnOk result
             (self.new ≡ record {

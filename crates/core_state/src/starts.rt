@@ -45,8 +45,8 @@ impl Starts {
         }
     }
 
-    /// Makes `s` a wanted start, where it is none. Answers whether it is new; [`Memory`] where
-    /// memory ran out, and then nothing has changed.
+    /// Makes `s` a wanted start, if it is none. Answers whether it is new; [`Memory`] if memory ran
+    /// out, and then nothing has changed.
     pub fn want(&mut self, s: u64) -> Result<bool, Memory>
         ensures wanted { OnOk result (self.new ≡ with_start self.old s) }
         ensures answer { IfOk result (λ new. IsTrue new ↔ ¬ IsStart self.old s) }
@@ -63,15 +63,15 @@ impl Starts {
         *self.marks.value_mut(s) = Mark::Parsed;
     }
 
-    /// How far the start `s` has come; `None` exactly where `s` is no start.
+    /// How far the start `s` has come; `None` exactly if `s` is no start.
     pub fn start(&self, s: u64) -> Option<Mark>
         ensures { result ≡ maps.get self.now s }
     {
         self.marks.get(s).copied()
     }
 
-    /// The least start above `a` in the line of 64 bytes that `a` lies in; `None` exactly where
-    /// there is none.
+    /// The least start above `a` in the line of 64 bytes that `a` lies in; `None` exactly if there
+    /// is none.
     pub fn start_behind(&self, a: u64) -> Option<u64>
         ensures { IsNextInLine self.now a result }
     {
@@ -100,7 +100,7 @@ impl Keys for Starts {
     }
 }
 
-/// The look at a start: it is to be parsed, where it is wanted.
+/// The look at a start: it is to be parsed, if it is wanted.
 #[derive(Clone, Copy)]
 struct LookAtStart;
 

@@ -52,7 +52,7 @@ impl Model for State {
 }
 
 impl State {
-    /// The state of which nothing is known. [`Memory`] where memory ran out.
+    /// The state in which nothing is known. [`Memory`] if memory ran out.
     pub fn new(alloc: Global) -> Result<Self, Memory>
         ensures { IfOk result (λ state. state ≡ record { maps = empty_state; changes = 0 }) }
     {
@@ -62,7 +62,7 @@ impl State {
         })
     }
 
-    /// The state that has exactly these shards, and of which no change was made.
+    /// The state that has exactly these shards. Its count of changes is 0.
     pub fn of_shards(starts: Vec<Starts>, ends: Vec<Ends>, terms: Vec<Terms>) -> Self
         requires starts { AreShards starts.items }
         requires ends { AreShards ends.items }
@@ -88,8 +88,8 @@ impl State {
         self.changes
     }
 
-    /// Makes `s` a wanted start, where it is none. Answers whether it is new; [`Memory`] where
-    /// memory ran out, and then nothing has changed.
+    /// Makes `s` a wanted start, if it is none. Answers whether it is new; [`Memory`] if memory ran
+    /// out, and then nothing has changed.
     pub fn want(&mut self, s: u64) -> Result<bool, Memory>
         ensures wanted { OnOk result (Leads self.old.maps (Event.Want s) self.new.maps) }
         ensures answer { IfOk result (λ new. IsTrue new ↔ ¬ IsStart self.old.maps.starts s) }
@@ -112,8 +112,9 @@ impl State {
     }
 
     /// The start `s` arrives at the end `k`: the first one there is near; another one splits the
-    /// end at the first address on the chains of both. Takes time linear in the two chains up to
-    /// `k`. [`Memory`] where memory ran out, and then nothing has changed.
+    /// end at the first address on the chains of both. [`Memory`] if memory ran out, and then
+    /// nothing has changed.
+    /// Time: O(length of the two chains up to `k`).
     pub fn arrive<C: Chains>(&mut self, code: &C, k: u64, s: u64) -> Result<Arrival, Memory>
         requires arriving { OnChain (C.map code.now) s k }
         requires near { (p : ℕ) → IsNear self.old.maps.ends k p → OnChain (C.map code.now) p k }
@@ -153,8 +154,8 @@ impl State {
         self.changes = self.changes.saturating_add(1);
     }
 
-    /// Enters `k` as a terminator, where it is none. Answers whether it is new; [`Memory`] where
-    /// memory ran out, and then nothing has changed.
+    /// Enters `k` as a terminator, if it is none. Answers whether it is new; [`Memory`] if memory
+    /// ran out, and then nothing has changed.
     pub fn term(&mut self, k: u64) -> Result<bool, Memory>
         ensures entered { OnOk result (Leads self.old.maps (Event.Terminator k) self.new.maps) }
         ensures answer { IfOk result (λ new. IsTrue new ↔ ¬ IsEntered self.old.maps.terminators k) }
@@ -166,8 +167,8 @@ impl State {
         Ok(new)
     }
 
-    /// Makes `w` wait at the terminator `k`, untold, where it does not wait there yet. Answers
-    /// whether it is new there; [`Memory`] where memory ran out, and then nothing has changed.
+    /// Makes `w` wait at the terminator `k`, untold, if it does not wait there yet. Answers whether
+    /// it is new there; [`Memory`] if memory ran out, and then nothing has changed.
     pub fn wait(&mut self, k: u64, w: Waiter) -> Result<bool, Memory>
         requires { IsEntered self.old.maps.terminators k }
         ensures waits { OnOk result (Leads self.old.maps (Event.Wait k w) self.new.maps) }
@@ -181,7 +182,7 @@ impl State {
     }
 
     /// Makes `w` wait at the terminator `k` as [`State::wait`] does. Answers whether it is to be
-    /// told now: it is new there, and `k` is known to return. [`Memory`] where memory ran out, and
+    /// told now: it is new there, and `k` is known to return. [`Memory`] if memory ran out, and
     /// then nothing has changed.
     pub fn place_waiter(&mut self, k: u64, w: Waiter) -> Result<bool, Memory>
         requires { IsEntered self.old.maps.terminators k }
@@ -208,8 +209,8 @@ impl State {
         new
     }
 
-    /// Notes that `w` was told that the terminator `k` returns. Where `w` does not wait there, no
-    /// map changes.
+    /// Notes that `w` was told that the terminator `k` returns. If `w` does not wait there, no map
+    /// changes.
     pub fn told(&mut self, k: u64, w: Waiter)
         ensures told { Leads self.old.maps (Event.Told k w) self.new.maps }
         ensures counted { self.new.changes ≡ one_more self.old.changes }
@@ -241,36 +242,36 @@ impl State {
         self.changes = self.changes.saturating_add(1);
     }
 
-    /// How far the start `s` has come; `None` exactly where `s` is no start.
+    /// How far the start `s` has come; `None` exactly if `s` is no start.
     pub fn start(&self, s: u64) -> Option<Mark>
         ensures { result ≡ maps.get self.now.maps.starts s }
     {
         self.maps.start(s)
     }
 
-    /// The least start above `a` in the line of 64 bytes that `a` lies in; `None` exactly where
-    /// there is none. It reads one shard.
+    /// The least start above `a` in the line of 64 bytes that `a` lies in; `None` exactly if there
+    /// is none. It reads one shard.
     pub fn start_behind(&self, a: u64) -> Option<u64>
         ensures { IsNextInLine self.now.maps.starts a result }
     {
         self.maps.start_behind(a)
     }
 
-    /// The start of the block that ends at `k`; `None` exactly where no block is known to.
+    /// The start of the block that ends at `k`; `None` exactly if no block is known to.
     pub fn near(&self, k: u64) -> Option<u64>
         ensures { result ≡ near_at self.now.maps.ends k }
     {
         self.maps.near(k)
     }
 
-    /// The least displaced start of the end `k`; `None` exactly where there is none.
+    /// The least displaced start of the end `k`; `None` exactly if there is none.
     pub fn moved(&self, k: u64) -> Option<u64>
         ensures { IsLeast (IsMoved self.now.maps.ends k) result }
     {
         self.maps.moved(k)
     }
 
-    /// Whether the ways on of the terminator `k` are dealt with; `None` exactly where `k` is not
+    /// Whether the ways on of the terminator `k` are dealt with; `None` exactly if `k` is not
     /// entered.
     pub fn done(&self, k: u64) -> Option<bool>
         ensures { result ≡ done_at self.now.maps.terminators k }
@@ -278,7 +279,7 @@ impl State {
         self.maps.done(k)
     }
 
-    /// Whether the terminator `k` is known to return; `None` exactly where `k` is not entered.
+    /// Whether the terminator `k` is known to return; `None` exactly if `k` is not entered.
     pub fn has_returned(&self, k: u64) -> Option<bool>
         ensures { result ≡ returned_at self.now.maps.terminators k }
     {
@@ -286,41 +287,41 @@ impl State {
     }
 
     /// The first waiter that is to be told that `k` returns: the one with the least terminator, and
-    /// `Follow` before `Release`. `None` exactly where `k` is not known to return or no waiter is
-    /// left to be told.
+    /// `Follow` before `Release`. `None` exactly if `k` is not known to return or no waiter is left
+    /// to be told.
     pub fn untold(&self, k: u64) -> Option<Waiter>
         ensures { IsNextToTell self.now.maps.terminators k result }
     {
         self.maps.untold(k)
     }
 
-    /// The least start above `a`, or the least of all where there is no `a`; `None` exactly where
-    /// there is none. It takes little time where the next start is near `a`.
+    /// The least start above `a`, or the least of all if there is no `a`; `None` exactly if there
+    /// is none. It takes little time if the next start is near `a`.
     pub fn start_after(&self, a: Option<u64>) -> Option<u64>
         ensures { IsLeast (λ s. IsStart self.now.maps.starts s × IsAbove a s) result }
     {
         self.maps.start_after(a)
     }
 
-    /// The least end above `a`, or the least of all where there is no `a`; `None` exactly where
-    /// there is none. It takes little time where the next end is near `a`.
+    /// The least end above `a`, or the least of all if there is no `a`; `None` exactly if there is
+    /// none. It takes little time if the next end is near `a`.
     pub fn end_after(&self, a: Option<u64>) -> Option<u64>
         ensures { IsLeast (λ k. HasEnd self.now.maps.ends k × IsAbove a k) result }
     {
         self.maps.end_after(a)
     }
 
-    /// The least terminator above `a`, or the least of all where there is no `a`; `None` exactly
-    /// where there is none. It takes little time where the next terminator is near `a`.
+    /// The least terminator above `a`, or the least of all if there is no `a`; `None` exactly if
+    /// there is none. It takes little time if the next terminator is near `a`.
     pub fn term_after(&self, a: Option<u64>) -> Option<u64>
         ensures { IsLeast (λ k. IsEntered self.now.maps.terminators k × IsAbove a k) result }
     {
         self.maps.term_after(a)
     }
 
-    /// Some work that is left where these addresses are to be starts; `None` exactly where nothing
-    /// is. It takes time linear in the state, so ask it where no work is known otherwise. Nothing
-    /// is read of the program.
+    /// Some work that is left if these addresses are to be starts; `None` exactly if nothing is.
+    /// Nothing is read of the program. Ask it only if no work is known otherwise.
+    /// Time: O(size of the state).
     pub fn left<C: Chains>(&self, _code: &C, seeds: &[u64]) -> Option<Name>
         ensures some { IfSome result (λ name. IsLeft seeds.now self.now.maps (work_of name)) }
         ensures none { IfNone result (HasNothingLeft seeds.now self.now.maps) }
@@ -328,10 +329,10 @@ impl State {
         left_of(&self.maps, seeds)
     }
 
-    /// Some work that is left where these addresses are to be starts, as [`State::left`] finds it,
-    /// by so many workers, each in a thread of its own: each looks at the starts, ends, terminators
+    /// Some work that is left if these addresses are to be starts, as [`State::left`] finds it.
+    /// Each of `workers` workers, in a thread of its own, looks at the starts, ends, terminators
     /// and seeds of its share of the 64 shards. With none or one no thread is started, and more
-    /// than 64 work as 64. [`Memory`] where memory ran out.
+    /// than 64 work as 64. [`Memory`] if memory ran out.
     pub fn left_by<R: Threads + Sync>(
         &self,
         rt: &R,

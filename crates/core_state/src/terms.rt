@@ -54,8 +54,8 @@ impl Terms {
         }
     }
 
-    /// Enters `k` as a terminator, where it is none. Answers whether it is new; [`Memory`] where
-    /// memory ran out, and then nothing has changed.
+    /// Enters `k` as a terminator, if it is none. Answers whether it is new; [`Memory`] if memory
+    /// ran out, and then nothing has changed.
     pub fn term(&mut self, k: u64) -> Result<bool, Memory>
         ensures entered { OnOk result (self.new ≡ with_terminator self.old k) }
         ensures answer { IfOk result (λ new. IsTrue new ↔ ¬ IsEntered self.old k) }
@@ -64,8 +64,8 @@ impl Terms {
         Ok(self.terms.add(k, Terminator::new(self.alloc))?)
     }
 
-    /// Makes `w` wait at the terminator `k`, untold, where it does not wait there yet. Answers
-    /// whether it is new there; [`Memory`] where memory ran out, and then nothing has changed.
+    /// Makes `w` wait at the terminator `k`, untold, if it does not wait there yet. Answers whether
+    /// it is new there; [`Memory`] if memory ran out, and then nothing has changed.
     pub fn wait(&mut self, k: u64, w: Waiter) -> Result<bool, Memory>
         requires { IsEntered self.old k }
         ensures waits { OnOk result (self.new ≡ with_changed self.old k (entry_with_waiter w)) }
@@ -76,7 +76,7 @@ impl Terms {
     }
 
     /// Makes `w` wait at the terminator `k` as [`Terms::wait`] does. Answers whether it is to be
-    /// told now: it is new there, and `k` is known to return. [`Memory`] where memory ran out, and
+    /// told now: it is new there, and `k` is known to return. [`Memory`] if memory ran out, and
     /// then nothing has changed.
     pub fn place_waiter(&mut self, k: u64, w: Waiter) -> Result<bool, Memory>
         requires { IsEntered self.old k }
@@ -97,8 +97,8 @@ impl Terms {
         self.terms.value_mut(k).set_returned()
     }
 
-    /// Notes that `w` was told that the terminator `k` returns. Where `w` does not wait there,
-    /// nothing changes.
+    /// Notes that `w` was told that the terminator `k` returns. If `w` does not wait there, nothing
+    /// changes.
     pub fn told(&mut self, k: u64, w: Waiter)
         ensures { self.new ≡ with_changed self.old k (entry_with_told w) }
     {
@@ -126,7 +126,7 @@ impl Terms {
         self.terms.value_mut(k).set_done();
     }
 
-    /// Whether the ways on of the terminator `k` are dealt with; `None` exactly where `k` is not
+    /// Whether the ways on of the terminator `k` are dealt with; `None` exactly if `k` is not
     /// entered.
     pub fn done(&self, k: u64) -> Option<bool>
         ensures { result ≡ done_at self.now k }
@@ -135,7 +135,7 @@ impl Terms {
         Some(term.done)
     }
 
-    /// Whether the terminator `k` is known to return; `None` exactly where `k` is not entered.
+    /// Whether the terminator `k` is known to return; `None` exactly if `k` is not entered.
     pub fn has_returned(&self, k: u64) -> Option<bool>
         ensures { result ≡ returned_at self.now k }
     {
@@ -144,8 +144,8 @@ impl Terms {
     }
 
     /// The first waiter that is to be told that `k` returns: the one with the least terminator, and
-    /// `Follow` before `Release`. `None` exactly where `k` is not known to return or no waiter is
-    /// left to be told.
+    /// `Follow` before `Release`. `None` exactly if `k` is not known to return or no waiter is left
+    /// to be told.
     pub fn untold(&self, k: u64) -> Option<Waiter>
         ensures { IsNextToTell self.now k result }
     {
@@ -207,7 +207,7 @@ impl Model for Terminator {
 }
 
 impl Terminator {
-    /// A terminator of which nothing is known.
+    /// A terminator that is still unknown.
     fn new(alloc: Global) -> Self
         ensures { result ≡ new_entry }
     {
@@ -218,7 +218,7 @@ impl Terminator {
         }
     }
 
-    /// Makes `w` wait, untold, where it does not wait yet. Answers whether it is new.
+    /// Makes `w` wait, untold, if it does not wait yet. Answers whether it is new.
     fn wait(&mut self, w: Waiter) -> Result<bool, Memory>
         ensures waits { OnOk result (self.new ≡ entry_with_waiter w self.old) }
         ensures answer { IfOk result (λ new. IsTrue new ↔ ¬ IsSome (maps.get self.old.waiters w)) }
@@ -248,14 +248,14 @@ impl Terminator {
         new
     }
 
-    /// Notes that `w` was told, where it waits.
+    /// Notes that `w` was told, if it waits.
     fn tell(&mut self, w: Waiter)
         ensures { self.new ≡ entry_with_told w self.old }
     {
         self.waiters.tell(w);
     }
 
-    /// Notes that `w` was told, where it waits. Answers whether another waiter is left to be told.
+    /// Notes that `w` was told, if it waits. Answers whether another waiter is left to be told.
     fn mark_told(&mut self, w: Waiter) -> bool
         ensures told { self.new ≡ entry_with_told w self.old }
         ensures answer { IsTrue result ↔ HasNextHere self.new }
@@ -271,7 +271,7 @@ impl Terminator {
         self.done = true;
     }
 
-    /// The first untold waiter, where it is known to return.
+    /// The first untold waiter, if it is known to return.
     fn next_to_tell(&self) -> Option<Waiter>
         ensures { IsNextHere self.now result }
     {

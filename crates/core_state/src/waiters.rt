@@ -83,7 +83,7 @@ impl Waiters {
         }
     }
 
-    /// Makes `w` wait, untold, where it does not wait yet. Answers whether it is new.
+    /// Makes `w` wait, untold, if it does not wait yet. Answers whether it is new.
     pub(crate) fn wait(&mut self, w: Waiter) -> Result<bool, Memory>
         ensures waits { OnOk result (self.new ≡ with_waiter self.old w) }
         ensures answer { IfOk result (λ new. IsTrue new ↔ ¬ IsSome (maps.get self.old w)) }
@@ -116,7 +116,7 @@ impl Waiters {
         Ok(true)
     }
 
-    /// Notes that `w` was told, where it waits.
+    /// Notes that `w` was told, if it waits.
     pub(crate) fn tell(&mut self, w: Waiter)
         ensures { self.new ≡ with_told self.old w }
     {
@@ -162,7 +162,7 @@ impl Note {
         Note { kind, told }
     }
 
-    /// The waiter at the terminator of which this is noted, and whether it was told.
+    /// The waiter at the terminator with this note, and whether it was told.
     fn pair(&self, terminator: u64) -> (Waiter, bool)
         ensures { result ≡ pair_of self.now terminator }
     {
@@ -180,7 +180,7 @@ impl Note {
         w.terminator == terminator && w.kind == self.kind
     }
 
-    /// Notes that `w` was told, where this is noted of it.
+    /// Notes that `w` was told, if this is noted of it.
     fn tell(&mut self, terminator: u64, w: Waiter)
         ensures { pair_of self.new terminator ≡ told_if w (pair_of self.old terminator) }
     {
@@ -189,7 +189,7 @@ impl Note {
         }
     }
 
-    /// The waiter of which this is noted, where it was not told.
+    /// The waiter with this note, if it was not told.
     fn untold(&self, terminator: u64) -> Option<Waiter>
         ensures { IsLeastBy waiter_cmp
             (λ w. find waiter_cmp w (pair_of self.now terminator ∷ []) ≡ Some false) result }
@@ -212,7 +212,7 @@ fn one(w: Waiter) -> Kept
     }
 }
 
-/// A waiter, and one behind it that is untold.
+/// A waiter, and one after it that is untold.
 fn two(first: (Waiter, bool), w: Waiter) -> Kept
     ensures here { in_place result ≡ first ∷ (w, false) ∷ [] }
     ensures all { elsewhere result ≡ maps.empty }
@@ -225,7 +225,7 @@ fn two(first: (Waiter, bool), w: Waiter) -> Kept
     }
 }
 
-/// Two waiters, and one behind them that is untold.
+/// Two waiters, and one after them that is untold.
 fn three(
     alloc: Global,
     first: (Waiter, bool),

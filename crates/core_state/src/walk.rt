@@ -14,12 +14,12 @@ pub(crate) trait Keys {
     /// Whether it has a key.
     ghost has: { Self → ℕ → Bool };
 
-    /// The least key above `a`, or the least of all where there is no `a`.
+    /// The least key above `a`, or the least of all if there is no `a`.
     fn after(&self, a: Option<u64>) -> Option<u64>
         ensures { IsLeast (λ k. IsTrue (has self.now k) × IsAbove a k) result };
 }
 
-/// The least key above `a`, or the least of all where there is no `a`, of 64 shards.
+/// The least key above `a`, or the least of all if there is no `a`, of 64 shards.
 ///
 /// Lines of 64 bytes belong to the shards in turn, so the shards are asked in the order of the
 /// lines from that of `a` on. A shard whose next key lies in the very line that it is asked for has
@@ -41,7 +41,7 @@ pub(crate) fn key_after<S: Keys>(shards: &[S], a: Option<u64>) -> Option<u64>
     least
 }
 
-/// The number of the line of 64 bytes that `a` lies in; the first one where there is no `a`.
+/// The number of the line of 64 bytes that `a` lies in; the first one if there is no `a`.
 fn line_of(a: Option<u64>) -> u64
     ensures line { MatchOption a (result ≡ 0) (λ a. result ≡ a / 64) }
     ensures small { result < 2 ^ 58 }

@@ -17,7 +17,7 @@ use Rattle.cfg_model.proofs.Graphs.Lists.{Contains-none}
 use Rattle.stretches.specs.Stretch.{IsIn}
 use Rattle.stretches.specs.Gaps.{whole}
 use Rattle.finaliser.specs.declared.memory.Memory.{Memory}
-use Rattle.finaliser.specs.declared.outline.Outline.{Outline}
+use Rattle.cfg_model.specs.declared.graph.Outline.{Outline}
 use Rattle.finaliser.specs.Closed.{IsOutlineOf}
 use Rattle.finaliser.specs.Inner.Shown.{IsShownBlock, IsShownEdge}
 use Rattle.finaliser.specs.Inner.Parts.{ArePartOf}

@@ -48,7 +48,7 @@ fn sort_from(edges: &mut Vec<Edge>, from: usize)
     edges[from..].sort_unstable();
 }
 
-/// Where a known address is called at `k`, the last instruction of the block of `s`: whether it
+/// If a known address is called at `k`, the last instruction of the block of `s`: whether it
 /// returns.
 fn callee_returns<C: Chains>(code: &C, state: &State, s: u64, k: u64, flow: Flow) -> bool
     requires closed { IsClosedFromSome (C.map code.now) state.now.maps }

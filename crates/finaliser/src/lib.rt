@@ -1,7 +1,7 @@
 //! The basic blocks and edges of a program, read off the closed state of its builder alone.
 //!
 //! - [`outline`]: the blocks and edges, in the order of the report.
-//! - `part`: those of one stretch of addresses.
+//! - `part`: those of one range of addresses.
 //! - [`sharing`]: all of them, made by several threads.
 //! - `lists`: what was made part by part, put together.
 //! - [`status`]: which starts return.
@@ -18,6 +18,6 @@ pub mod sharing;
 pub mod status;
 
 pub use memory::Memory;
-pub use outline::{Outline, blocks_and_edges};
+pub use outline::blocks_and_edges;
 pub use sharing::blocks_and_edges_by;
 pub use status::may_return;

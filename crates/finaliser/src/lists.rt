@@ -7,7 +7,7 @@ use crate::memory::Memory;
 use std::alloc::Global;
 
 /// These lists, one after another. The first of them is given room for all and goes on with the
-/// others, which spares a copy of it where the allocator can extend it.
+/// others, which spares a copy of it if the allocator can extend it.
 pub(crate) fn joined<T: Drop>(alloc: Global, mut lists: Vec<Vec<T>>) -> Result<Vec<T>, Memory>
     ensures { IfOk result (λ v. v.items ≡ all_in lists.items) }
 {
@@ -20,7 +20,7 @@ pub(crate) fn joined<T: Drop>(alloc: Global, mut lists: Vec<Vec<T>>) -> Result<V
     appended(all, lists)
 }
 
-/// These items, and behind them all these lists, one after another. Each list is freed when it was
+/// These items, and after them all these lists, one after another. Each list is freed when it was
 /// appended.
 fn appended<T: Drop>(mut all: Vec<T>, lists: Vec<Vec<T>>) -> Result<Vec<T>, Memory>
     ensures { IfOk result (λ v. v.items ≡ all.items ++ all_in lists.items) }
@@ -31,7 +31,7 @@ fn appended<T: Drop>(mut all: Vec<T>, lists: Vec<Vec<T>>) -> Result<Vec<T>, Memo
     Ok(all)
 }
 
-/// How many items these lists have together; `usize::MAX` where there are more.
+/// How many items these lists have together; `usize::MAX` if there are more.
 fn length_of<T>(lists: &[Vec<T>]) -> usize {
     let mut count = 0_usize;
     for list in lists {

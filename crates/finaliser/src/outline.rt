@@ -8,25 +8,14 @@ ghost use Rattle.finaliser.specs.Inner.Shown.{StartApart};
 
 use crate::memory::Memory;
 use crate::part::{Part, read_ends};
-use cfg_model::{Blocks, Chains, Edges};
+use cfg_model::{Blocks, Chains, Edges, Outline};
 use core_state::State;
 use std::alloc::Global;
 use stretches::Stretch;
 
-/// The basic blocks of a program and the edges between them, before tail calls are told from other
-/// jumps.
-#[derive(Drop)]
-pub struct Outline {
-    /// The blocks, by where they start.
-    pub blocks: Blocks,
-    /// The edges, by the start of the block that they leave, then of the block that they enter,
-    /// then by kind.
-    pub edges: Edges,
-}
-
 /// The basic blocks of the program `code`, and the edges between them, from the closed state of its
-/// builder alone: neither the seeds nor anything else that is reached is looked at. [`Memory`]
-/// where memory ran out.
+/// builder alone: neither the seeds nor anything else that is reached is looked at. [`Memory`] if
+/// memory ran out.
 ///
 /// It goes once over the ends of the state and looks at the last instruction of each block, and at
 /// the chain of each call's target. The rest of the time goes into sorting.

@@ -1,4 +1,4 @@
-//! The blocks and edges that the ends of a closed state show in one stretch of addresses.
+//! The blocks and edges that the ends of a closed state show in one range of addresses.
 
 ghost use Rattle.std.specs.Prelude.{◌≡◌, AllPairs, Contains, IfOk, IsSome, Some};
 ghost use Rattle.cfg_model.specs.Graph.Block.{IsBlockOf};
@@ -41,7 +41,7 @@ impl Part {
     }
 }
 
-/// The blocks that end in a stretch, in the order of their ends, and the edges from there.
+/// The blocks that end in a range, in the order of their ends, and the edges from there.
 pub(crate) fn read_ends<C: Chains>(
     alloc: Global,
     code: &C,
@@ -76,8 +76,8 @@ fn end_up_to(state: &State, at: Option<u64>, last: Option<u64>) -> Option<u64>
     }
 }
 
-/// The block from `s` to the instruction at `k`, whose flow this is. Where that goes straight on,
-/// the block ends there, and nothing is asked of the program.
+/// The block from `s` to the instruction at `k`, whose flow this is. If that goes straight on, the
+/// block ends there, and nothing is asked of the program.
 fn block_to<C: Chains>(code: &C, s: u64, k: u64, flow: Flow) -> Block
     requires stands { IsSome (C.map code.now k) }
     requires lawful { IsLawful (C.map code.now) }

@@ -16,20 +16,19 @@ use crate::blocks::by_start;
 use crate::edges::by_source;
 use crate::lists::joined;
 use crate::memory::Memory;
-use crate::outline::{Outline, blocks_and_edges};
+use crate::outline::blocks_and_edges;
 use crate::part::{Part, read_ends};
-use cfg_model::{Block, Blocks, Chains, Edge, Edges};
+use cfg_model::{Block, Blocks, Chains, Edge, Edges, Outline};
 use core_state::State;
 use drawn_calls::map_drawn;
 use std::alloc::Global;
 use std::thread::{Threads, join};
 use stretches::Stretch;
 
-/// The answer of [`blocks_and_edges`], made by so many workers. They draw the gaps between the
-/// bounds, one gap more than there are bounds, one after another, and make the blocks that end in
-/// each, and their edges. So the bounds, which may be any addresses that do not fall, only say how
-/// the work is shared. With one worker or no bound no thread is started. [`Memory`] where memory
-/// ran out.
+/// The answer of [`blocks_and_edges`], made by `workers` workers. They draw the `bounds.len() + 1`
+/// gaps between the bounds one after another, and make the blocks that end in each, and their
+/// edges. The bounds may be any addresses that do not fall; they only say how the work is shared.
+/// With one worker or no bound no thread is started. [`Memory`] if memory ran out.
 pub fn blocks_and_edges_by<R: Threads + Sync, C: Chains>(
     rt: &R,
     alloc: Global,
@@ -51,7 +50,7 @@ pub fn blocks_and_edges_by<R: Threads + Sync, C: Chains>(
     put_together(rt, alloc, blocks, edges)
 }
 
-/// The blocks and edges of each gap, made by so many threads, in the order of the gaps.
+/// The blocks and edges of each gap, made by several threads, in the order of the gaps.
 fn made_by_gap<R: Threads + Sync, C: Chains>(
     rt: &R,
     alloc: Global,
@@ -74,7 +73,7 @@ fn made_by_gap<R: Threads + Sync, C: Chains>(
     Ok(map_drawn(rt, alloc, workers, bounds.len() + 1, &make)?)
 }
 
-/// The blocks that end in a stretch, and the edges from there, in the order of a graph.
+/// The blocks that end in a range, and the edges from there, in the order of a graph.
 fn part_of<C: Chains>(
     alloc: Global,
     code: &C,

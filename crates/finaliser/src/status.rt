@@ -9,8 +9,8 @@ ghost use Rattle.finaliser.specs.Closed.{IsClosedFromSome};
 use cfg_model::Chains;
 use core_state::State;
 
-/// Whether the start `a` returns: whether the terminator of its chain is known to. It takes time
-/// linear in the chain.
+/// Whether the start `a` returns: whether the terminator of its chain is known to.
+/// Time: O(length of the chain).
 pub fn may_return<C: Chains>(code: &C, state: &State, a: u64) -> bool
     requires closed { IsClosedFromSome (C.map code.now) state.now.maps }
     requires start { IsStart state.now.maps.starts a }

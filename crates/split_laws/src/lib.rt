@@ -20,22 +20,22 @@ pub fn a_step_is_determined()
     ensures possible { AllowedEventSteps }
 {}
 
-/// Where blocks are kept, an event is allowed as soon as it has a reason: that the chain of the
-/// near start leads to the end holds there anyway. Whoever makes an arrival relies on it.
+/// If blocks are kept, an event is allowed as soon as it has a reason: that the chain of the near
+/// start leads to the end holds there anyway. A caller that makes an arrival relies on it.
 pub fn reasons_suffice()
     ensures { ReasonsSuffice }
 {}
 
 /// Each allowed event keeps what the invariant says of blocks, if the terminators that are marked
-/// as returning do return: starts are leaders, ends are right, and what has to move reaches where
+/// as returning do return. Starts are leaders, ends are right, and what has to move reaches where
 /// it was split. The law that an event keeps the whole invariant stands on it.
 pub fn events_keep_blocks()
     ensures { EventsKeepBlocks }
 {}
 
 /// Once the blocks are settled, each start is near at exactly one end: the first address of its
-/// chain that is a terminator or comes just before a start. Whoever reads blocks off a finished
-/// state relies on it.
+/// chain that is a terminator or comes just before a start. A caller that reads blocks off a
+/// finished state relies on it.
 pub fn starts_are_near_once()
     ensures { StartsAreNearOnce }
 {}

@@ -9,9 +9,9 @@ ghost use Rattle.cfg_model.specs.Builder.Laws.{OtherShardsStay, OtherShardsStayB
 ghost use Rattle.cfg_model.specs.Builder.Laws.{KeptIsBacked, StepsStayInShard, PartsAreShown};
 ghost use Rattle.cfg_model.specs.Builder.Laws.{FactsReadBack, ReasonsGrow, ClosedShowsGraph};
 
-/// Each allowed event keeps what the invariant says of return status: what is marked as returning
-/// returns, and waits, terminators that are dealt with and waiters that were told still have the
-/// reason to be. The law that an event keeps the whole invariant stands on it.
+/// Each allowed event keeps what the invariant says of return status. What is marked as returning
+/// returns. Waits, terminators that are dealt with and waiters that were told still have the reason
+/// to be. The law that an event keeps the whole invariant stands on it.
 pub fn events_keep_status()
     ensures { EventsKeepStatus }
 {}
@@ -25,9 +25,9 @@ pub fn what_is_known_lasts()
     ensures allowed { AllowedStaysAllowed }
 {}
 
-/// A state is kept exactly where each of its shards is backed. An event changes no shard but its
-/// own; an allowed one leaves its own shard backed, and every other one that was. Whoever keeps the
-/// shards under locks of their own relies on it, and looks at one shard at a time.
+/// A state is kept exactly if each of its shards is backed. An event changes no shard but its own;
+/// an allowed one leaves its own shard backed, and every other one that was. A caller that keeps
+/// the shards under locks of their own relies on it, and looks at one shard at a time.
 pub fn shards_stay_backed()
     ensures whole { KeptIsBacked }
     ensures own { OwnShardStaysBacked }
@@ -35,10 +35,10 @@ pub fn shards_stay_backed()
     ensures others { OtherShardsStayBacked }
 {}
 
-/// The entries of one shard by themselves are a state: an event of the whole is the same event of
-/// its own shard alone; what a shard shows, the whole shows; what the whole shows of a shard's own
-/// entries, the shard shows; and a reason by what a part shows is one by what the whole shows.
-/// Whoever looks at one shard at a time relies on it.
+/// The entries of one shard by themselves are a state. An event of the whole is the same event of
+/// its own shard alone. What a shard shows, the whole shows. What the whole shows of a shard's own
+/// entries, the shard shows. A reason by what a part shows is one by what the whole shows. A reader
+/// of one shard at a time relies on it.
 pub fn a_shard_is_a_state()
     ensures steps { StepsStayInShard }
     ensures shown { PartsAreShown }

@@ -1,8 +1,8 @@
--- The gaps that bounds leave between them, before the first and behind the last.
+-- The gaps that bounds leave between them, before the first and after the last.
 use Rattle.std.specs.Prelude.{ℕ, zero, suc, List, Option, None, slice_get}
 use Rattle.stretches.specs.declared.stretch.Stretch.{Stretch}
 
--- The bound in front of a gap.
+-- The bound before a gap.
 abbrev pub bound_before : List ℕ → ℕ → Option ℕ
 bound_before bounds zero = None
 bound_before bounds (suc i) = slice_get bounds i

@@ -1,5 +1,5 @@
-//! Stretches of addresses that lie side by side, cut by bounds: what threads share their work by
-//! that go over the addresses of a state.
+//! Ranges of addresses that lie side by side, cut by bounds. Threads that go over the addresses of
+//! a state share their work by them.
 #![tactic(auto)]
 
 mod stretch;

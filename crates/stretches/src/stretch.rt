@@ -1,4 +1,4 @@
-//! A stretch of addresses, and the gaps between bounds.
+//! A range of addresses, and the gaps between bounds.
 
 ghost use Rattle.std.specs.Prelude.{◌≡◌};
 ghost use Rattle.stretches.specs.Gaps.{gap, whole};
@@ -6,9 +6,9 @@ ghost use Rattle.stretches.specs.Gaps.{gap, whole};
 /// Addresses that lie side by side.
 #[derive(Clone, Copy, Debug, PartialEq, Eq)]
 pub struct Stretch {
-    /// They lie above this one, where there is one.
+    /// They lie above this one, if there is one.
     pub after: Option<u64>,
-    /// The last of them; `None` where none is.
+    /// The last of them; `None` if none is.
     pub last: Option<u64>,
 }
 
@@ -25,7 +25,7 @@ impl Stretch {
 
     /// The gap `i` that bounds leave: up to the first one, above each up to the next, and above the
     /// last one. The gaps of `n` bounds are those from 0 to `n`; each address lies in one of them,
-    /// and in no other where no bound is below the one before it.
+    /// and in no other if no bound is below the one before it.
     pub fn gap(bounds: &[u64], i: usize) -> Stretch
         ensures { result ≡ gap bounds.now i }
     {

@@ -1,5 +1,5 @@
-//! Many addresses of a map by address, of one page and of several, which come in mixed order: those
-//! that were added are found, no other one is, and a walk goes along all of them.
+//! Many addresses of a map by address, of one page and of several, in mixed order. Those that were
+//! added are found, no other one is, and a walk goes along all of them.
 
 ghost use Rattle.std.specs.Prelude.{◌≡◌};
 
@@ -7,10 +7,10 @@ use address_map::{AddressMap, Look, lesser};
 use std::process::Abort;
 use std::test::Fail;
 
-/// How many addresses there are, of which each second one is added.
+/// How many addresses there are; every second one is added.
 const COUNT: u16 = 2048;
 
-/// Where the addresses lie: from the first one on, each so many bytes after the one before.
+/// Where the addresses lie: from the first one on, each this many bytes after the one before.
 #[derive(Clone, Copy)]
 struct Spread {
     first: u32,
@@ -125,7 +125,7 @@ fn far_ones_are_found(rt: HostRuntime) -> Result<(), Fail> {
     Ok(())
 }
 
-/// The lesser of two addresses, either of which may be none.
+/// The lesser of two addresses; each may be none.
 #[test]
 fn the_lesser_is_found(rt: HostRuntime) {
     assert_eq!(rt; lesser(Some(0x10008), Some(0x10004)), Some(0x10004));

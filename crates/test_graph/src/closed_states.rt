@@ -95,7 +95,7 @@ fn mutual_calls(rt: HostRuntime) -> Result<(), Fail> {
     Ok(())
 }
 
-/// A table jump with two targets, one of which is kept twice.
+/// A table jump with two targets; one is kept twice.
 #[test]
 fn table_of_three(rt: HostRuntime) -> Result<(), Fail> {
     let code = table_jump(rt.alloc());

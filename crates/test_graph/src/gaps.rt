@@ -3,7 +3,7 @@
 use std::test::Fail;
 use stretches::Stretch;
 
-/// A stretch by its ends.
+/// A range of addresses by its ends.
 fn stretch(after: Option<u64>, last: Option<u64>) -> Stretch {
     Stretch { after, last }
 }

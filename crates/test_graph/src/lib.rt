@@ -1,7 +1,7 @@
 //! Tests of the crates that build graphs, in a crate of their own: so none of those is proved a
 //! second time for its tests.
 //!
-//! A contract says what an answer is where there is one. It cannot say that memory is left for one,
+//! A contract says what an answer is if there is one. It cannot say that memory is left for one,
 //! nor that the definitions which it cites mean what the standard does. So each public call is made
 //! here at least once, and what it answers is compared with worked examples.
 //!

@@ -12,9 +12,9 @@ use core_state::State;
 use std::alloc::Global;
 use std::process::Abort;
 
-/// The program of row 8: an instruction, another one inside it, a branch behind both that goes to
-/// the inner one, and a return; and a table jump to the first one and two instructions in the last
-/// shard, to which nothing leads.
+/// The program of row 8: an instruction, another one inside it, a branch after both that goes to
+/// the inner one, and a return. Nothing leads to a table jump to the first one, or to two
+/// instructions in the last shard.
 #[derive(Drop)]
 pub(crate) struct Program {
     pub(crate) alloc: Global,

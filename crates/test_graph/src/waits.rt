@@ -92,7 +92,7 @@ enum Turns {
 }
 
 impl Turns {
-    /// The place, in the order of so many waiters, of the one whose turn it is.
+    /// The place, in the order of this many waiters, of the one whose turn it is.
     fn place(self, turn: u8, count: u8) -> u64
         requires { turn < count }
     {
@@ -144,7 +144,7 @@ fn comes(
     Ok(())
 }
 
-/// The waiter at this place is told, where it has come.
+/// The waiter at this place is told, if it has come.
 fn is_told(rt: &impl Abort, terms: &mut Terms, plain: &mut [(u64, bool)], place: u64) {
     assert_entered(rt, terms, CALLEE);
     let left = terms.mark_told(CALLEE, waiter_at(place));
@@ -154,7 +154,7 @@ fn is_told(rt: &impl Abort, terms: &mut Terms, plain: &mut [(u64, bool)], place:
     assert_eq!(rt; terms.untold(CALLEE), first);
 }
 
-/// So many waiters come in an order, of which every third is told at once, and are told in another.
+/// Waiters come in one order, and are told in another. Every third is told at once.
 fn come_and_are_told(
     rt: &impl Abort,
     alloc: Global,

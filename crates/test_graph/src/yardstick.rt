@@ -64,7 +64,7 @@ fn branch_back(rt: HostRuntime) -> Result<(), Fail> {
     expect(&rt, &row_6(rt.alloc()), &functions, &blocks, &edges)
 }
 
-/// Two streams of instructions, of which the second is found late, that join at 4.
+/// Two streams of instructions that join at 4; the second is found late.
 #[test]
 fn two_streams(rt: HostRuntime) -> Result<(), Fail> {
     let blocks = [

@@ -16,7 +16,7 @@ Place = Option (ℕ × Flow)
 abbrev pub slot_at : List Place → ℕ → Place
 slot_at slots a = slice_index_or slots a None
 
--- The kept targets of a flow, where every table jump keeps these.
+-- The kept targets of a flow, if every table jump keeps these.
 abbrev pub kept_by : List ℕ → Flow → List ℕ
 kept_by targets (Table entries full is_open) = targets
 kept_by targets _ = []
@@ -32,7 +32,7 @@ abbrev pub are_known : List Place → List ℕ → List ℕ → Bool
 are_known slots targets named = list_all (λ b. is_some (listed_at slots targets b)) named
 
 -- Test that the flow of an instruction that ends at this address fits it: a straight one goes on
--- there, and a table jump keeps as many targets as it says, at least one.
+-- there, and a table jump keeps the number of targets that it says, at least one.
 abbrev pub flow_fits : List ℕ → ℕ → Flow → Bool
 flow_fits targets end (Straight next) = next == end
 flow_fits targets end (Table entries full is_open) = (entries == length targets) && nat_lt 0 entries

@@ -211,7 +211,7 @@ static TABLE_JUMP: [Slot; 5] = [
     Some((2, Flow::Stop)),
 ];
 
-/// A table jump with two targets, one of which is kept twice.
+/// A table jump with two targets; one is kept twice.
 pub fn table_jump(alloc: Global) -> Sample<'static> {
     Sample {
         alloc,
@@ -236,7 +236,7 @@ static CUT_TABLE: [Slot; 5] = [
     Some((2, Flow::Stop)),
 ];
 
-/// The same table jump where its table was cut.
+/// The same table jump if its table was cut.
 pub fn cut_table(alloc: Global) -> Sample<'static> {
     Sample {
         alloc,

@@ -8,7 +8,7 @@ ghost use Rattle.test_programs.specs.Listed.{slot_at, listed_at, are_lawful, are
 use cfg_model::{Chains, Flow, Memory};
 use std::alloc::Global;
 
-/// What stands at an address: the length of an instruction, in bytes, and its flow. `None` where no
+/// What stands at an address: the length of an instruction, in bytes, and its flow. `None` if no
 /// instruction starts.
 pub type Slot = Option<(u8, Flow)>;
 

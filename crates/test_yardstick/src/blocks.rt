@@ -23,8 +23,8 @@ pub(crate) fn last_of<C: Chains>(code: &C, leaders: &[u64], s: u64) -> u64
     k
 }
 
-/// The address that the instruction at `k` goes on to within its block; `None` where the block
-/// ends with it.
+/// The address that the instruction at `k` goes on to within its block; `None` if the block ends
+/// with it.
 fn onward<C: Chains>(code: &C, leaders: &[u64], k: u64) -> Option<u64>
     requires has { IsSome (C.map code.now k) }
     requires rising { IsStrictlyIncreasing leaders.now }

@@ -1,7 +1,7 @@
 //! The closure of a program: which addresses its seeds reach, and which of those return.
 //!
 //! [`spread`] finds all of it in one go, by telling those that wait; rounds of two passes make sure
-//! that nothing is missing. [`follow`] finds what the known addresses lead to, where the returning
+//! that nothing is missing. [`follow`] finds what the known addresses lead to, if the returning
 //! ones are those known so far; [`mark`] looks for further returning ones among them. A round that
 //! marks nothing is the last.
 
@@ -82,7 +82,7 @@ pub(crate) fn closure_of<C: Chains>(
     closure_from(alloc, found, returning)
 }
 
-/// The closure of which these are the reached addresses.
+/// The closure with these reached addresses.
 fn closure_from(alloc: Global, found: Found, returning: BTreeSet<u64>) -> Result<Closure, Memory>
     ensures reached { IfOk result (λ c. c.reached.items ≡ found.members.keys) }
     ensures returning { IfOk result (λ c. c.returning ≡ returning) }
@@ -91,7 +91,7 @@ fn closure_from(alloc: Global, found: Found, returning: BTreeSet<u64>) -> Result
     Ok(Closure { reached, returning })
 }
 
-/// Finds what the addresses found lead to, and what these lead to, and so on, where the returning
+/// Finds what the addresses found lead to, and what these lead to, and so on, if the returning
 /// addresses are those given.
 fn follow<C: Chains>(code: &C, returning: &BTreeSet<u64>, found: &mut Found) -> Result<(), Memory>
     requires same { HaveSame found.old.order.items found.old.members.keys }
@@ -114,7 +114,7 @@ fn follow<C: Chains>(code: &C, returning: &BTreeSet<u64>, found: &mut Found) -> 
     Ok(())
 }
 
-/// Adds what the instruction at `a` leads to, where the returning addresses are those given.
+/// Adds what the instruction at `a` leads to, if the returning addresses are those given.
 pub(crate) fn follow_one<C: Chains>(
     code: &C,
     a: u64,
@@ -163,8 +163,8 @@ fn follow_table<C: Chains>(code: &C, a: u64, entries: u32, found: &mut Found) ->
     Ok(())
 }
 
-/// Learns addresses of `order` that return where those known to return do, from the back to the
-/// front, each on what is known by then. Answers whether any was marked.
+/// Learns addresses of `order` that return if those known to return do, from the back to the front,
+/// each on what is known by then. Answers whether any was marked.
 fn mark<C: Chains>(code: &C, order: &[u64], returning: &mut BTreeSet<u64>) -> Result<bool, Memory>
     requires known { AreKnown (C.map code.now) order.now }
     requires returning { AreReturning (C.map code.now) returning.old.keys }
@@ -186,7 +186,7 @@ fn mark<C: Chains>(code: &C, order: &[u64], returning: &mut BTreeSet<u64>) -> Re
     Ok(returning.len() > before)
 }
 
-/// Learns `a` where it returns and was not known to.
+/// Learns `a` if it returns and was not known to.
 pub(crate) fn mark_one<C: Chains>(
     code: &C,
     a: u64,
@@ -206,7 +206,7 @@ pub(crate) fn mark_one<C: Chains>(
     Ok(())
 }
 
-/// Whether the instruction at `a` returns where the addresses known to return do.
+/// Whether the instruction at `a` returns if the addresses known to return do.
 fn returns_now<C: Chains>(code: &C, a: u64, returning: &BTreeSet<u64>) -> bool
     requires { IsSome (C.map code.now a) }
     ensures { IsTrue result ↔ ReturnsBy (C.map code.now) returning.now.keys a }

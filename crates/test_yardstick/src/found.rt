@@ -45,7 +45,7 @@ impl Found {
         Ok(())
     }
 
-    /// Adds an address, where there is one.
+    /// Adds an address, if there is one.
     pub(crate) fn add_any(&mut self, a: Option<u64>) -> Result<(), Memory>
         requires { HaveSame self.old.order.items self.old.members.keys }
         ensures same { OnOk result (HaveSame self.new.order.items self.new.members.keys) }

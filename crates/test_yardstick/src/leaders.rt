@@ -136,7 +136,7 @@ fn mark_table<C: Chains>(code: &C, k: u64, entries: u32, marks: &mut Vec<u64>) -
     Ok(())
 }
 
-/// Of a straight instruction: the address behind it, where another stream joins.
+/// Of a straight instruction: the address after it, where another stream joins.
 fn mark_join<C: Chains>(
     code: &C,
     closure: &Closure,

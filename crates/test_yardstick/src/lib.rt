@@ -24,7 +24,7 @@ use std::alloc::Global;
 /// The graph of the program `code` from the addresses `seeds`, or want of memory.
 ///
 /// The closure is found in one pass and made sure of in one round, and then cut into blocks and
-/// edges: each of these passes takes linear time in the number of reached addresses but for the
+/// edges. Each of these passes takes linear time in the number of reached addresses, but for the
 /// look-ups in ordered sets and among the blocks. The time of the functions is that of their bodies
 /// together, which may share blocks.
 pub fn plain_graph<C: Chains>(

@@ -78,7 +78,7 @@ fn add_ways<C: Chains>(
     add_edges(code, s, k, callee_returns(code, closure, k), edges)
 }
 
-/// Where a known address is called at `k`: whether it returns.
+/// If a known address is called at `k`: whether it returns.
 fn callee_returns<C: Chains>(code: &C, closure: &Closure, k: u64) -> bool
     requires { IsSome (C.map code.now k) }
     ensures { (target : _) (fall : _) → IsCall (C.map code.now) k target fall → IsTrue result

@@ -81,8 +81,7 @@ impl Waiting {
         Ok(())
     }
 
-    /// Adds what the instruction at `a` leads to, and marks `a` where it returns now; else `a`
-    /// waits.
+    /// Adds what the instruction at `a` leads to, and marks `a` if it returns now; else `a` waits.
     fn visit<C: Chains>(
         &mut self,
         alloc: Global,
@@ -109,9 +108,9 @@ impl Waiting {
         self.note(alloc, code, a, returning)
     }
 
-    /// Notes that `a` is to be told of, where it is known to return, and else what it waits for:
-    /// any of its ways on; of a call the target, and once that returns the fall. So nobody waits
-    /// again for what was told.
+    /// Notes that the waiters of `a` are to be told, if it is known to return, and else what it
+    /// waits for. That is any of its ways on; for a call it is the target, and the fall after that
+    /// returns. So nobody waits again for what was told.
     fn note<C: Chains>(
         &mut self,
         alloc: Global,
@@ -156,7 +155,7 @@ impl Waiting {
         Ok(())
     }
 
-    /// Notes that `a` waits for `b`, where there is one.
+    /// Notes that `a` waits for `b`, if there is one.
     fn wait_any(&mut self, alloc: Global, b: Option<u64>, a: u64) -> Result<(), Memory> {
         match b {
             Some(b) => self.wait(alloc, b, a),

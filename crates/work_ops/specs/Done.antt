@@ -16,8 +16,8 @@ pub record IsFollowed (map : InstructionMap) (Known : Fact → Type 0) (k to : �
 abbrev pub AreFollowed : InstructionMap → (Fact → Type 0) → ℕ → Type 0
 AreFollowed map Known k = (to : ℕ) → IsSuccessor map k to → IsFollowed map Known k to
 
--- Where k is a call, its target is a start; and where it has a fall, it waits to be released at the
--- end of the target's chain.
+-- If k is a call, its target is a start; and if it has a fall, it waits to be released at the end
+-- of the target's chain.
 pub record IsCalled (map : InstructionMap) (Known : Fact → Type 0) (k : ℕ) : Type 0 where
   pub target : (target : ℕ) (fall : Option ℕ) → IsCall map k target fall → Known (Fact.Start target)
   pub waits : (target fall at : ℕ) → IsCall map k target (Some fall) → IsTerminatorOf map target at

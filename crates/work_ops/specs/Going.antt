@@ -14,17 +14,17 @@ use Rattle.core_state.specs.Least.{IsLeast}
 use Rattle.core_state.specs.Reads.{IsNextToTell}
 use Rattle.core_state.specs.Place.{AreKept, WhereTold, Remembers}
 
--- Where the maps are told, allowed events lead from one state to the other.
+-- If the place tells its maps, allowed events lead from one state to the other.
 abbrev pub Runs : InstructionMap → List ℕ → Option BuilderState → Option BuilderState → Type 0
 Runs map seeds = WhereTold (λ old new. (events : List Event) × IsRun map seeds old events new)
 
--- A refusal for want of a shard comes only where the count rose.
+-- A refusal for want of a shard comes only if the count rose.
 abbrev pub RoseIfBusy : ℕ → ℕ → PlaceEnd → Type 0
 RoseIfBusy before after (Busy kind shard) = before < after
 RoseIfBusy before after Memory = Unit {0}
 
--- What holds of a place that was worked on, whatever came of the work: its maps changed by allowed
--- events alone and are kept, it knows what it knew, and its count of shards in other hands did not
+-- What holds of a place that was worked on, whatever came of the work. Its maps changed by allowed
+-- events alone and are kept. It knows what it knew. Its count of shards in other hands did not
 -- fall.
 pub record Went {X : Type 0} (map : InstructionMap) (seeds : List ℕ) (maps : X
     → Option BuilderState) (knows : X → Fact → Type 0) (busies : X → ℕ) (old new : X) : Type 0 where
@@ -45,24 +45,23 @@ pub record ArrivesOnce (map : InstructionMap) (s : ℕ) (old new : BuilderState)
   pub arrives : ArrivesAt map at s old.ends new.ends
   pub near : NearIsStart at new
 
--- Where the maps are told, the ends are as they were.
+-- If the place tells its maps, the ends are as they were.
 abbrev pub SameEnds : Option BuilderState → Option BuilderState → Type 0
 SameEnds = WhereTold (λ old new. new.ends ≡ old.ends)
 
--- The least displaced start of k is displaced there no longer; where there was none, nothing
--- changed.
+-- The least displaced start of k is displaced there no longer; if there was none, nothing changed.
 abbrev pub PlacesFirst : ℕ → BuilderState → BuilderState → Type 0
 PlacesFirst k old new =
     (first : Option ℕ) × IsLeast (IsMoved old.ends k) first × MatchOption first (new ≡ old)
     (λ x. ¬ IsMoved new.ends k x)
 
--- The next waiter of k that was to be told was told; where there was none, nothing changed.
+-- The next waiter of k that was to be told was told; if there was none, nothing changed.
 abbrev pub TellsNext : ℕ → BuilderState → BuilderState → Type 0
 TellsNext k old new =
     (next : Option Waiter) × IsNextToTell old.terminators k next × MatchOption next (new ≡ old)
     (λ w. IsTold new.terminators k w)
 
--- Where the maps are told, x is not displaced at k.
+-- If the place tells its maps, x is not displaced at k.
 abbrev pub IsMovedNoMore : ℕ → ℕ → Option BuilderState → Type 0
 IsMovedNoMore k x maps = ForSome maps (λ state. ¬ IsMoved state.ends k x)
 
@@ -77,7 +76,7 @@ pub record MovesBefore (map : InstructionMap) (k x : ℕ) (old new : EndMap) : T
 abbrev pub MovesStart : InstructionMap → ℕ → ℕ → BuilderState → BuilderState → Type 0
 MovesStart map k x old new = MovesBefore map k x old.ends new.ends
 
--- So was the least displaced start of k, where there was one.
+-- So was the least displaced start of k, if there was one.
 abbrev pub MovesFirst : InstructionMap → ℕ → BuilderState → BuilderState → Type 0
 MovesFirst map k old new =
     (x : ℕ) → IsLeast (IsMoved old.ends k) (Some x) → MovesStart map k x old new

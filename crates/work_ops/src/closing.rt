@@ -17,17 +17,17 @@ use std::marker::Brand;
 use std::mem;
 
 /// Works on the state of the program `code` whose seeds are `seeds` until nothing is left: the
-/// state is closed then. Where nothing was left, nothing changes. [`Memory`] where memory ran out:
-/// the changes made until then stand.
+/// state is closed then. If nothing was left, nothing changes. [`Memory`] if memory ran out: the
+/// changes made until then stand.
 ///
 /// It ends, since each piece of work lowers a number that the state alone gives. That number counts
-/// first what is unknown of the addresses, of which there are finitely many: two for each that is
-/// no start, one for each start that is wanted, one for each terminator that is not dealt with, and
-/// one for each pair of a terminator and a waiter that was not told there. No change raises this
-/// count. To want a new start, to parse one, to deal with a terminator and to tell a waiter each
-/// lower it. To place a displaced start may leave it. So the number counts then the displaced
-/// starts, each for three times as much as one at the address before: one leaves its end, and at
-/// most two are displaced at an earlier end.
+/// first what is unknown of the addresses, and these are finitely many. It counts two for each
+/// address that is no start, and one for each start that is wanted. It counts one for each
+/// terminator that is not dealt with, and one for each pair of a terminator and a waiter that was
+/// not told there. No change raises this count. To want a new start, to parse one, to deal with a
+/// terminator and to tell a waiter each lower it. To place a displaced start may leave it. So the
+/// number counts then the displaced starts, each for three times as much as one at the address
+/// before: one leaves its end, and at most two are displaced at an earlier end.
 pub fn finish<C: Chains>(
     alloc: Global,
     code: &C,

@@ -3,7 +3,7 @@
 use cfg_model::{Chains, Waiter};
 use core_state::{Arrival, Job, Name, Place, PlaceEnd, State};
 
-/// A whole state, and names of work that was found. The list may lack work that is left, and may
+/// A whole state, and the work items that were found. The list may lack work that is left, and may
 /// name work that was done.
 #[derive(Drop)]
 pub(crate) struct Desk {
@@ -92,7 +92,7 @@ impl<J: Job> Place<J> for Desk {
         <State as Place<J>>::untold(&mut self.state, k)
     }
 
-    /// Where memory for the list is missing, the work is found in the state later.
+    /// If memory for the list is missing, the work is found in the state later.
     fn found(&mut self, name: Name) {
         let _ = self.names.push(name);
     }

@@ -16,9 +16,9 @@ use crate::parts::{enter, note_return, place_wait, start};
 use cfg_model::{Chains, Flow, WaitKind, Waiter};
 use core_state::{Job, Place, PlaceEnd};
 
-/// Follows the edges of the terminator `k`: its targets are made starts, it waits where its return
-/// hangs on another terminator's and a call where its target's return frees its fall, it is noted
-/// to return where it does so by itself, and then to be done.
+/// Follows the edges of the terminator `k`. Its targets are made starts. It waits at each
+/// terminator that its return depends on, and a call waits at the one whose return frees its fall.
+/// It is noted to return if it does so by itself, and then to be done.
 pub fn edges_op<J: Job, P: Place<J>, C: Chains>(
     place: &mut P,
     code: &C,
@@ -93,7 +93,7 @@ fn follow_both<J: Job, P: Place<J>, C: Chains>(
     follow_some::<J, P, C>(place, code, k, fall)
 }
 
-/// Follows the way from `k` to this address, where there is one.
+/// Follows the way from `k` to this address, if there is one.
 fn follow_some<J: Job, P: Place<J>, C: Chains>(
     place: &mut P,
     code: &C,
@@ -195,8 +195,8 @@ fn call_all<J: Job, P: Place<J>, C: Chains>(
     }
 }
 
-/// Makes the target of the call at `k` a start, and where the call has a fall, lets it wait at the
-/// end of the target's chain to be released.
+/// Makes the target of the call at `k` a start, and if the call has a fall, lets it wait at the end
+/// of the target's chain to be released.
 fn call<J: Job, P: Place<J>, C: Chains>(
     place: &mut P,
     code: &C,
@@ -252,7 +252,7 @@ fn wait_for<J: Job, P: Place<J>, C: Chains>(
     )
 }
 
-/// Notes that `k` returns, where it does so by itself.
+/// Notes that `k` returns, if it does so by itself.
 fn return_alone<J: Job, P: Place<J>>(place: &mut P, k: u64, flow: Flow) -> Result<(), PlaceEnd>
     requires lawful { IsLawful J.map }
     requires kept { AreKept J.map J.seeds (P.maps place.old) }

@@ -1,8 +1,8 @@
-//! Arriving where a start in front has arrived.
+//! Arriving at the end of a start before this one.
 //!
-//! A long run may be found from its last instruction and then from the front, one start behind the
+//! A long run may be found from its last instruction and then from the front, one start after the
 //! other. Each of them arrives right before the last one. Only the first has to walk the run up to
-//! there: the others lie on the chain of the one in front of them.
+//! there: the others lie on the chain of the one before them.
 
 ghost use Rattle.std.specs.Prelude.{◌≡◌, IfErr, IfOk, IfSome, IsSome, IsTrue};
 ghost use Rattle.cfg_model.specs.Program.Chain.{GoesOnTo, OnChain};
@@ -15,8 +15,8 @@ use crate::code::{flow_of, leads};
 use cfg_model::{Chains, Flow};
 use core_state::{Job, Place, PlaceEnd};
 
-/// The address on the chain of `s` right before the start `near`, where one in front of `s`, no
-/// farther away than `near`, has arrived there and leads to `s`.
+/// The address on the chain of `s` right before the start `near`, if a start before `s`, no farther
+/// away than `near`, has arrived there and leads to `s`.
 pub(crate) fn joining<J: Job, P: Place<J>, C: Chains>(
     place: &mut P,
     code: &C,
@@ -86,7 +86,7 @@ fn goes_into<J: Job, C: Chains>(code: &C, at: u64, next: u64) -> bool
     }
 }
 
-/// Whether `s` is on the chain of `p`, at most so many bytes behind it.
+/// Whether `s` is on the chain of `p`, at most this many bytes after it.
 fn is_close<J: Job, C: Chains>(code: &C, p: u64, s: u64, bytes: u64) -> bool
     requires code { C.map code.now ≡ J.map }
     ensures { IsTrue result → OnChain J.map p s }

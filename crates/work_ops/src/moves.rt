@@ -19,10 +19,9 @@ use cfg_model::Chains;
 use cfg_model::chain::before;
 use core_state::{Job, Name, Place, PlaceEnd, WorkKind};
 
-/// Places the least displaced start of the end `k`: it and the start that is near at `k` are made
-/// starts, the first one arrives right before the first known start on its own chain, which is the
-/// other one or comes before it, and only then does it leave `k`. More displaced starts may be
-/// left.
+/// Places the least displaced start of the end `k`. It and the start that is near at `k` are made
+/// starts. The displaced one arrives right before the first known start on its own chain, which is
+/// the near one or comes before it. Only then does it leave `k`. More displaced starts may be left.
 pub fn move_op<J: Job, P: Place<J>, C: Chains>(
     place: &mut P,
     code: &C,
@@ -66,7 +65,7 @@ fn just_before<J: Job, C: Chains>(code: &C, x: u64, p: u64) -> u64
 }
 
 /// The address on the chain of `x` right before a start that is known, which is the start `p` or
-/// comes before it: the first one, where the place tells.
+/// comes before it: the first one, if the place tells.
 fn stop_before<J: Job, P: Place<J>, C: Chains>(
     place: &mut P,
     code: &C,

@@ -12,7 +12,7 @@ ghost use Rattle.work_ops.specs.Going.{Went, RoseIfBusy, NearIsStart, SameEnds};
 use cfg_model::{Chains, Waiter};
 use core_state::{Arrival, Job, Name, Place, PlaceEnd, WorkKind};
 
-/// Passes on work, where it is new.
+/// Passes on work, if it is new.
 pub(crate) fn pass_on<J: Job, P: Place<J>>(place: &mut P, new: bool, kind: WorkKind, key: u64)
     requires { AreKept J.map J.seeds (P.maps place.old) }
     ensures went { Went J.map J.seeds P.maps P.knows P.busies place.old place.new }
@@ -52,9 +52,9 @@ pub(crate) fn enter<J: Job, P: Place<J>>(place: &mut P, k: u64) -> Result<(), Pl
     Ok(())
 }
 
-/// Makes `w` wait at `k`. A new waiter has to be told where `k` is known to return. Both are read
-/// where it is placed, in one turn: so where `k` is not known to return yet, whoever notes later
-/// that it does finds the waiter there, and passes on that it has to be told.
+/// Makes `w` wait at `k`. A new waiter has to be told if `k` is known to return. Both are read as
+/// it is placed, in one turn. So if `k` is not known to return yet, the worker that notes it later
+/// finds the waiter there, and passes on that it has to be told.
 pub(crate) fn place_wait<J: Job, P: Place<J>>(
     place: &mut P,
     k: u64,
@@ -72,7 +72,7 @@ pub(crate) fn place_wait<J: Job, P: Place<J>>(
     Ok(())
 }
 
-/// Notes that `k` returns. Where that is new, its waiters have to be told.
+/// Notes that `k` returns. If that is new, its waiters have to be told.
 pub(crate) fn note_return<J: Job, P: Place<J>>(place: &mut P, k: u64) -> Result<(), PlaceEnd>
     requires lawful { IsLawful J.map }
     requires kept { AreKept J.map J.seeds (P.maps place.old) }

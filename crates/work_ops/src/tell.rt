@@ -41,7 +41,7 @@ pub fn tell_op<J: Job, P: Place<J>, C: Chains>(
     }
 }
 
-/// Gives the waiter `w` of `k` what it waits for, and notes that it was told. Where another one is
+/// Gives the waiter `w` of `k` what it waits for, and notes that it was told. If another one is
 /// left then, it has to be told next.
 pub(crate) fn tell<J: Job, P: Place<J>, C: Chains>(
     place: &mut P,

@@ -16,16 +16,16 @@ use crate::joining::joining;
 use cfg_model::{Chains, Flow};
 use core_state::{Job, Place, PlaceEnd};
 
-/// How many bytes behind a start the next one is looked for, before anything else is asked.
+/// How many bytes after a start the next one is looked for, before anything else is asked.
 const SHORT: u64 = 128;
 
-/// Where on its chain, which ends at `k`, the start `s` is to arrive: right before the first start
-/// that is known behind it, or at `k`.
+/// Where on its chain, which ends at `k`, the start `s` is to arrive: right before the first known
+/// start after it, or at `k`.
 ///
-/// Where no start is near by, it is asked which start is near at `k`. One behind `s` bounds the way
-/// to the next start, and where a neighbour has arrived right before it, `s` follows that one. One
-/// before `s` says that `s` is the last of those that have come to `k`: the
-/// end at `k` is then split where `s` is, which takes only the way from one to the other.
+/// If no start is near by, this asks which start is near at `k`. One after `s` bounds the way to
+/// the next start; if a neighbour has arrived right before it, `s` follows that one. One before `s`
+/// says that `s` is the last of those that have come to `k`. The end at `k` is then split at `s`,
+/// which takes only the way from one to the other.
 pub(crate) fn stop_of<J: Job, P: Place<J>, C: Chains>(
     place: &mut P,
     code: &C,
@@ -55,7 +55,7 @@ pub(crate) fn stop_of<J: Job, P: Place<J>, C: Chains>(
     }
 }
 
-/// The same, where the next start does not lie above `near`, or is not looked for.
+/// The same, if the next start does not lie above `near`, or is not looked for.
 fn last_stop<J: Job, P: Place<J>, C: Chains>(
     place: &mut P,
     code: &C,
@@ -82,8 +82,8 @@ fn last_stop<J: Job, P: Place<J>, C: Chains>(
     }
 }
 
-/// The address on the chain of `s` that goes on into the first known start behind `s`, where that
-/// one does not lie above `limit`.
+/// The address on the chain of `s` that goes on into the first known start after `s`, if that one
+/// does not lie above `limit`.
 pub(crate) fn before_start<J: Job, P: Place<J>, C: Chains>(
     place: &mut P,
     code: &C,
@@ -113,7 +113,7 @@ pub(crate) fn before_start<J: Job, P: Place<J>, C: Chains>(
     Ok(None)
 }
 
-/// The last address on the chain of `a` that lies below `start`, or `a` where that one does not.
+/// The last address on the chain of `a` that lies below `start`, or `a` if that one does not.
 fn climb<J: Job, C: Chains>(code: &C, a: u64, start: u64) -> u64
     requires code { C.map code.now ≡ J.map }
     requires lawful { IsLawful J.map }
@@ -131,7 +131,7 @@ fn climb<J: Job, C: Chains>(code: &C, a: u64, start: u64) -> u64
     at
 }
 
-/// A start that is known, from `from` up to `limit`: the least one, where the place tells.
+/// A start that is known, from `from` up to `limit`: the least one, if the place tells.
 fn next_start<J: Job, P: Place<J>>(
     place: &mut P,
     from: u64,
@@ -156,7 +156,7 @@ fn next_start<J: Job, P: Place<J>>(
     Ok(None)
 }
 
-/// A start that is known, at or above `a` in the line of `a`: the least one, where the place tells.
+/// A start that is known, at or above `a` in the line of `a`: the least one, if the place tells.
 fn start_from<J: Job, P: Place<J>>(place: &mut P, a: u64) -> Result<Option<u64>, PlaceEnd>
     requires kept { AreKept J.map J.seeds (P.maps place.old) }
     ensures went { Went J.map J.seeds P.maps P.knows P.busies place.old place.new }

@@ -16,7 +16,7 @@ use cfg_model::{Chains, Mark};
 use core_state::{Job, Name, PlaceEnd, WorkKind};
 
 /// Makes one seed after the other a start, the highest first, and does what that makes to do before
-/// it takes the next one. So a seed on the run of another finds that one in front of it.
+/// it takes the next one. So a seed on the run of another finds that one before it.
 pub(crate) fn work_seeds<J: Job, C: Chains>(
     desk: &mut Desk,
     code: &C,
@@ -94,7 +94,7 @@ fn do_left<J: Job, C: Chains>(desk: &mut Desk, code: &C, name: Name) -> Result<(
     }
 }
 
-/// Does work that was listed, where it is still to be done. To want a start is never listed.
+/// Does work that was listed, if it is still to be done. To want a start is never listed.
 fn do_listed<J: Job, C: Chains>(desk: &mut Desk, code: &C, name: Name) -> Result<(), PlaceEnd>
     requires code { C.map code.now ≡ J.map }
     requires seeds { AreSeeds J.map J.seeds }
@@ -114,7 +114,7 @@ fn do_listed<J: Job, C: Chains>(desk: &mut Desk, code: &C, name: Name) -> Result
     }
 }
 
-/// Follows the chain of `s`, where that is a start and not parsed.
+/// Follows the chain of `s`, if that is a start and not parsed.
 fn parse<J: Job, C: Chains>(desk: &mut Desk, code: &C, s: u64) -> Result<(), PlaceEnd>
     requires code { C.map code.now ≡ J.map }
     requires seeds { AreSeeds J.map J.seeds }
@@ -132,7 +132,7 @@ fn parse<J: Job, C: Chains>(desk: &mut Desk, code: &C, s: u64) -> Result<(), Pla
     }
 }
 
-/// Places a displaced start of the end `k`, where it has any.
+/// Places a displaced start of the end `k`, if it has any.
 fn place_next<J: Job, C: Chains>(desk: &mut Desk, code: &C, k: u64) -> Result<(), PlaceEnd>
     requires code { C.map code.now ≡ J.map }
     requires seeds { AreSeeds J.map J.seeds }
@@ -152,7 +152,7 @@ fn place_next<J: Job, C: Chains>(desk: &mut Desk, code: &C, k: u64) -> Result<()
     }
 }
 
-/// Follows the edges of the terminator `k`, where it is entered and not dealt with.
+/// Follows the edges of the terminator `k`, if it is entered and not dealt with.
 fn follow_edges<J: Job, C: Chains>(desk: &mut Desk, code: &C, k: u64) -> Result<(), PlaceEnd>
     requires code { C.map code.now ≡ J.map }
     requires seeds { AreSeeds J.map J.seeds }
@@ -169,7 +169,7 @@ fn follow_edges<J: Job, C: Chains>(desk: &mut Desk, code: &C, k: u64) -> Result<
     }
 }
 
-/// Tells a waiter of the terminator `k` that it returns, where it does and has any to tell.
+/// Tells a waiter of the terminator `k` that it returns, if it does and has any to tell.
 fn tell_next<J: Job, C: Chains>(desk: &mut Desk, code: &C, k: u64) -> Result<(), PlaceEnd>
     requires code { C.map code.now ≡ J.map }
     requires seeds { AreSeeds J.map J.seeds }

@@ -23,8 +23,8 @@ key_at ls i = (slice_index_or ls i (0, 0)).0
 abbrev pub before_at : List (ℕ × ℕ) → ℕ → ℕ
 before_at ls i = (slice_index_or ls i (0, 0)).1
 
--- Among the first `bound` of these addresses those of page p lie among the first n, of which the
--- last one is one of them; n is 0 where there are none.
+-- Among the first `bound` of these addresses, those of page p lie among the first n. The last of
+-- these n is one of them, and n is 0 if there are none.
 pub record IsUpTo (ls : List (ℕ × ℕ)) (bound p n : ℕ) : Type 0 where
   pub within : n ≤ bound
   pub last : (i : ℕ) → i + 1 ≡ n → page_of (key_at ls i) ≡ p

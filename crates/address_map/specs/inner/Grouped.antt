@@ -47,7 +47,7 @@ AreTogether m = (x y : ℕ) → IsSome (maps.get m x) → IsSome (maps.get m y) 
 abbrev pub AreInRegion : {X : Type 0} → maps.FinMap nat_cmp X → ℕ → Type 0
 AreInRegion m number = (x : ℕ) → IsSome (maps.get m x) → region_of x ≡ number
 
--- x does not lie in front of that page of the chunk at this place of a region.
+-- x does not lie before that page of the chunk at this place of a region.
 abbrev pub IsFrom : ℕ → ℕ → ℕ → Type 0
 IsFrom place page x = (place ≤ place_of x) × (place ≡ place_of x → page ≤ page_of x)
 

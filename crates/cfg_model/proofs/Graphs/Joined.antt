@@ -28,7 +28,7 @@ use Rattle.cfg_model.proofs.Graphs.OneBlock.{not_both, straight_once}
 use Rattle.cfg_model.proofs.Graphs.Runs.{goes_up}
 
 -- a list of blocks has one that starts at a, or has none
-found_or_not : (blocks : List Block) (a : ℕ) → StartsABlock blocks a ⊎ (StartsABlock blocks a → ⊥)
+pub found_or_not : (blocks : List Block) (a : ℕ) → StartsABlock blocks a ⊎ (StartsABlock blocks a → ⊥)
 found_or_not [] a = inr (λ h. Contains-none h.block h.listed)
 found_or_not (b ∷ blocks) a =
     elim (cases_eq b.start a) [

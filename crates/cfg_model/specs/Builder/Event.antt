@@ -12,11 +12,10 @@ use Rattle.cfg_model.specs.Program.Meeting.{IsMeeting}
 use Rattle.cfg_model.specs.Builder.State.{BuilderState, StartMap, EndMap}
 use Rattle.cfg_model.specs.Builder.State.{TerminatorMap, EndEntry, TerminatorEntry}
 
--- Want: s becomes a wanted start where it is none. Parsed: the start s becomes a parsed one.
--- Arrive: s arrives at the end k. Settle: x leaves the displaced starts of k.
--- Terminator: k is entered as a terminator where it is none. Wait: w waits at k, untold, where it
--- does not wait there yet. Returned: k is known to return. Told: w was told that k returns.
--- EdgesDone: the ways on of k are dealt with.
+-- Want: s becomes a wanted start if it is none. Parsed: the start s becomes a parsed one. Arrive: s
+-- arrives at the end k. Settle: x leaves the displaced starts of k. Terminator: k is entered as a
+-- terminator if it is none. Wait: w waits at k, untold, if it does not wait there yet. Returned: k
+-- is known to return. Told: w was told that k returns. EdgesDone: the ways on of k are dealt with.
 pub data Event : Type 0 where
   Want : (s : ℕ) → Event
   Parsed : (s : ℕ) → Event
@@ -33,7 +32,7 @@ abbrev pub with_start : StartMap → ℕ → StartMap
 with_start starts s =
     if maps.contains_key starts s then starts else maps.insert starts s marks.Wanted
 
--- The starts with s parsed, where it is one.
+-- The starts with s parsed, if it is one.
 abbrev pub with_parsed : StartMap → ℕ → StartMap
 with_parsed starts s =
     if maps.contains_key starts s then maps.insert starts s marks.Parsed else starts
@@ -67,7 +66,7 @@ with_settled ends k x =
     (λ (entry : EndEntry). maps.insert ends k
     (record entry { moved = sets.remove entry.moved x })) (maps.get ends k) ends
 
--- A terminator of which nothing is known yet.
+-- A terminator that is still unknown.
 abbrev pub new_entry : TerminatorEntry
 new_entry = record { done = false; returned = false; waiters = maps.empty }
 
@@ -76,14 +75,14 @@ abbrev pub with_terminator : TerminatorMap → ℕ → TerminatorMap
 with_terminator terminators k =
     if maps.contains_key terminators k then terminators else maps.insert terminators k new_entry
 
--- The terminators with the entry of k changed, where there is one.
+-- The terminators with the entry of k changed, if there is one.
 abbrev pub with_changed : TerminatorMap → ℕ → (TerminatorEntry → TerminatorEntry) → TerminatorMap
 with_changed terminators k change =
     option_map_or (λ entry. maps.insert terminators k (change entry))
     (maps.get terminators k) terminators
 
--- An entry with the waiter w, untold if it is new; with w told, where it waits; known to return;
--- dealt with.
+-- An entry with the waiter w, untold if it is new; with w told, if it waits; known to return; dealt
+-- with.
 abbrev pub entry_with_waiter : Waiter → TerminatorEntry → TerminatorEntry
 entry_with_waiter w entry =
     record entry {

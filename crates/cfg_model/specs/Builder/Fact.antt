@@ -45,8 +45,8 @@ pub record IsReachedTerminator (map : InstructionMap) (seeds : List ℕ) (k : �
   pub reached : Reached map seeds k
   pub ends : IsTerminator map k
 
--- Where this terminator is a call and follows another one, the call's target is such. Of a
--- terminator that is no call, or waits to be released, it says nothing.
+-- If this terminator is a call and follows another one, the call's target is such. Of a terminator
+-- that is no call, or waits to be released, it says nothing.
 abbrev pub WhereCallFollows : InstructionMap → (ℕ → Type 0) → ℕ → WaitKind → Type 0
 WhereCallFollows map Such terminator Follow =
     (target : ℕ) (fall : Option ℕ) → IsCall map terminator target fall → Such target

@@ -23,7 +23,7 @@ StartsLead map seeds starts = (s : ℕ) → IsStart starts s → IsLeader map se
 abbrev pub StandingLead : InstructionMap → List ℕ → EndMap → Type 0
 StandingLead map seeds ends = (k x : ℕ) → StandsAt ends k x → IsLeader map seeds x
 
--- Where x stands at k, k is on the chain of x, and a block may end at k.
+-- If x stands at k, k is on the chain of x, and a block may end at k.
 abbrev pub StandingStop : InstructionMap → (Fact → Type 0) → EndMap → Type 0
 StandingStop map Known ends =
     (k x : ℕ) → StandsAt ends k x → OnChain map x k × IsStop map (λ s. Known (Fact.Start s)) k

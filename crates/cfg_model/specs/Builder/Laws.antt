@@ -52,15 +52,15 @@ AllowedStaysAllowed =
     → (old : BuilderState) (event : Event) (new : BuilderState) → May map seeds old event
     → Steps map old event new → (other : Event) → May map seeds old other → May map seeds new other
 
--- Where blocks are kept, a reason is enough: what an arrival asks of the end besides holds there.
+-- If blocks are kept, a reason is enough: what an arrival asks of the end besides holds there.
 abbrev pub ReasonsSuffice : Type 0
 ReasonsSuffice =
     (map : InstructionMap) (seeds : List ℕ) (state : BuilderState) (event : Event)
     → KeepsBlocks map seeds state → Reason map seeds (Holds map state) event
     → May map seeds state event
 
--- What an event brings holds after it. And what is read at an end is known: where x stands at k, k
--- has an entry, and x is anchored at or before k.
+-- What an event brings holds after it. And what is read at an end is known: if x stands at k, k has
+-- an entry, and x is anchored at or before k.
 abbrev pub EventsBringFacts : Type 0
 EventsBringFacts =
     (map : InstructionMap) (seeds : List ℕ) (old : BuilderState) (event : Event)
@@ -122,7 +122,7 @@ OtherShardsStayBacked =
     → Steps map old event new → (shard : Shard) → shard ≢ shard_of_event event
     → IsBacked map seeds old shard → IsBacked map seeds new shard
 
--- A state is kept exactly where each of its shards is backed.
+-- A state is kept exactly if each of its shards is backed.
 abbrev pub KeptIsBacked : Type 0
 KeptIsBacked =
     (map : InstructionMap) (seeds : List ℕ) (state : BuilderState)
@@ -180,7 +180,7 @@ pub record IsNearOnce (map : InstructionMap) (state : BuilderState) (s : ℕ) : 
   pub only : (k : ℕ) → IsNear state.ends k s → k ≡ end
   pub first : IsFirstStop map (IsStart state.starts) s end
 
--- Where blocks are settled, each start is near at exactly one end.
+-- If blocks are settled, each start is near at exactly one end.
 abbrev pub StartsAreNearOnce : Type 0
 StartsAreNearOnce =
     (map : InstructionMap) (seeds : List ℕ) → IsLawful map → (state : BuilderState)
@@ -193,8 +193,8 @@ ClosedShowsGraph =
     (map : InstructionMap) (seeds : List ℕ) → IsLawful map → (state : BuilderState)
     → IsClosed map seeds state → ShowsGraph map seeds state
 
--- Confluence: whatever allowed events were made from the empty state, in whatever order, the state
--- is kept, so every state on the way is; and if nothing is left in it, it shows exactly the graph.
+-- Confluence: after any allowed events from the empty state, in any order, the state is kept, and
+-- so is every state on the way. If nothing is left in it, it shows exactly the graph.
 pub record IsConfluentAt (map : InstructionMap) (seeds : List ℕ)
     (state : BuilderState) : Type 0 where
   pub kept : IsKept map seeds state

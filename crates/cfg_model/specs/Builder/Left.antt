@@ -13,8 +13,8 @@ pub data Work : Type 0 where
   Edges : (k : ℕ) → Work
   Tell : (k : ℕ) → Work
 
--- The work is left, in six cases: a seed is no start; a start is wanted and not parsed; an address
--- that stands at an end is no start; an end has a displaced start; a terminator is not done; a
+-- The work is left, in six cases. A seed is no start. A start is wanted and not parsed. An address
+-- that stands at an end is no start. An end has a displaced start. A terminator is not done. A
 -- terminator that returns has a waiter that was not told.
 pub data IsLeft (seeds : List ℕ) (state : BuilderState) : Work → Type 0 where
   unstarted_seed : {s : ℕ} → Contains seeds s → ¬ IsStart state.starts s

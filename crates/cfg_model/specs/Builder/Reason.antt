@@ -27,9 +27,9 @@ pub data EndsAStart (map : InstructionMap) (Known : Fact → Type 0) (k : ℕ) :
   start : {t : ℕ} → Known (Fact.Start t) → IsTerminatorOf map t k → EndsAStart map Known k
   entered : Known (Fact.Terminator k) → EndsAStart map Known k
 
--- s may be wanted: it is a seed; or a target of a terminator that ends a start's chain; or the fall
--- of such a call whose target's chain ends in a return that is known; or it stands at an end, of
--- which where it is anchored is the fact.
+-- s may be wanted, in four cases. It is a seed. It is a target of a terminator that ends a start's
+-- chain. It is the fall of such a call, and the chain of the call's target ends in a known return.
+-- It stands at an end; the fact is where it is anchored.
 pub data WantReason (map : InstructionMap) (seeds : List ℕ) (Known : Fact → Type 0)
     (s : ℕ) : Type 0 where
   seed : Contains seeds s → WantReason map seeds Known s

@@ -7,9 +7,9 @@ use Rattle.cfg_model.specs.Graph.Block.{IsLastOf}
 use Rattle.cfg_model.specs.Builder.Fact.{IsReachedTerminator}
 use Rattle.cfg_model.specs.Builder.State.{BuilderState, IsStart, IsNear, IsEntered, IsReturned}
 
--- The state shows exactly the graph: its starts are the leaders; its near starts, each with its
--- end, are the first and last addresses of the blocks; its terminators are the reachable ones; and
--- those that it marks as returning are those of them that return.
+-- The state shows exactly the graph. Its starts are the leaders. Its near starts, each with its
+-- end, are the first and last addresses of the blocks. Its terminators are the reachable ones, and
+-- it marks as returning exactly those of them that return.
 pub record ShowsGraph (map : InstructionMap) (seeds : List ℕ) (state : BuilderState) : Type 0 where
   pub starts : (s : ℕ) → IsStart state.starts s ↔ IsLeader map seeds s
   pub blocks : (s k : ℕ)

@@ -11,7 +11,7 @@ use Rattle.cfg_model.specs.Builder.State.{StandsAt, IsEntered, WaitsAt}
 use Rattle.cfg_model.specs.Builder.Kept.{StartsLead, StandingLead}
 use Rattle.cfg_model.specs.Builder.Kept.{DisplacedReachNear, ReturnedReturn}
 
--- Where x stands at k, k is on the chain of x and is a terminator or comes just before a leader.
+-- If x stands at k, k is on the chain of x and is a terminator or comes just before a leader.
 abbrev pub StandingSoundly : InstructionMap → List ℕ → EndMap → Type 0
 StandingSoundly map seeds ends =
     (k x : ℕ) → StandsAt ends k x → OnChain map x k × IsStop map (IsLeader map seeds) k

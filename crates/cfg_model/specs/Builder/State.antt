@@ -11,17 +11,17 @@ use Rattle.cfg_model.specs.Program.Instructions.{InstructionMap}
 use Rattle.cfg_model.specs.Builder.Waiter.{waiter_cmp}
 use Rattle.cfg_model.specs.Program.Chain.{OnChain}
 
--- What is known of an address k as the last one of a block: near, the start of the block that ends
--- at k, and moved, the starts that were held to end at k until a start behind them was found. They
--- still have to be placed at an earlier end (this project's profile, after the block ends of Meng
--- et al., PPoPP 2021).
+-- What is known of an address k as the last one of a block. `near` is the start of the block that
+-- ends at k. `moved` are the starts that were held to end at k until a start after them was found.
+-- They still have to be placed at an earlier end (this project's profile, after the block ends of
+-- Meng et al., PPoPP 2021).
 pub record EndEntry : Type 0 where
   pub near : ℕ
   pub moved : sets.FinSet nat_cmp
 
--- What is known of a terminator: done, whether all its ways on are wanted and its waits placed;
--- returned, whether it is known to return; and who waits for its return, true for a waiter that was
--- told of it.
+-- What is known of a terminator. `done` says whether all its ways on are wanted and its waits
+-- placed, and `returned` whether it is known to return. `waiters` says who waits for its return,
+-- true for a waiter that was told of it.
 pub record TerminatorEntry : Type 0 where
   pub done : Bool
   pub returned : Bool

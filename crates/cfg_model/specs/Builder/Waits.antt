@@ -1,4 +1,4 @@
--- How the return of one terminator hangs on that of another, and what a terminator asks for.
+-- How the return of one terminator depends on that of another, and what a terminator asks for.
 use Rattle.std.specs.Prelude.{ℕ, Option, Some}
 use Rattle.cfg_model.specs.declared.state.WaitKind.{WaitKind}
 use Rattle.cfg_model.specs.declared.state.WaitKind.TheVariants.{Follow, Release}
@@ -8,9 +8,9 @@ use Rattle.cfg_model.specs.Program.Instructions.{InstructionMap}
 use Rattle.cfg_model.specs.Program.Chain.{IsTerminator, IsTerminatorOf}
 use Rattle.cfg_model.specs.Program.Successors.{IsSuccessor, IsCall}
 
--- The terminator at this address returns if the one at k does, as far as its ways on decide: k ends
--- the chain of a successor of it, or of the fall where it is a call (return status of Meng et al.,
--- PPoPP 2021; a call needs besides that its target returns).
+-- The terminator at this address returns if the one at k does, as far as its ways on decide. This
+-- is so if k ends the chain of one of its successors, or of the fall if it is a call. A call also
+-- needs that its target returns (return status of Meng et al., PPoPP 2021).
 pub data FollowsFrom (map : InstructionMap) (k terminator : ℕ) : Type 0 where
   onward : {to : ℕ} → IsTerminator map terminator → IsSuccessor map terminator to
       → IsTerminatorOf map to k → FollowsFrom map k terminator

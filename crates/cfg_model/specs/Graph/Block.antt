@@ -12,7 +12,7 @@ use Rattle.cfg_model.specs.Program.Chain.{GoesOnTo}
 use Rattle.cfg_model.specs.Program.Meeting.{IsStop}
 use Rattle.cfg_model.specs.Graph.Leader.{IsLeader}
 
--- k is on the chain of s, and none of the addresses where blocks are cut stands behind s up to k.
+-- k is on the chain of s, and none of the addresses where blocks are cut stands above s up to k.
 pub data RunsTo (map : InstructionMap) (IsCut : ℕ → Type 0) : ℕ → ℕ → Type 0 where
   here : {s : ℕ} → RunsTo map IsCut s s
   on : {s next k : ℕ} → GoesOnTo map s next → ¬ IsCut next → RunsTo map IsCut next k
@@ -40,8 +40,8 @@ end_kind Return = ends.Return
 end_kind Unknown = ends.Unknown
 end_kind Stop = ends.Stop
 
--- The block from s to the instruction at k: it ends behind that instruction, and has the kind of
--- its flow.
+-- The block from s to the instruction at k: it ends after that instruction, and has the kind of its
+-- flow.
 pub record IsBlockOf (map : InstructionMap) (s k : ℕ) (block : Block) : Type 0 where
   pub start : block.start ≡ s
   pub ends : (bytes : ℕ) × (length_at map k ≡ Some bytes) × (block.end ≡ k + bytes)

@@ -1,4 +1,4 @@
--- Edges between basic blocks, before tail calls are told from other jumps.
+-- Edges between basic blocks, before tail calls are marked.
 use Rattle.std.specs.Prelude.{◌≡◌, ℕ, List, Contains, Option, Some}
 use Rattle.cfg_model.specs.declared.flow.Flow.TheVariants.{Branch, Jump, IndirectCall, Table}
 use Rattle.cfg_model.specs.declared.graph.Edge.{Edge}
@@ -11,9 +11,9 @@ use Rattle.cfg_model.specs.Program.Status.{Returns}
 use Rattle.cfg_model.specs.Graph.Leader.{IsLeader}
 use Rattle.cfg_model.specs.Graph.Block.{IsLastOf}
 
--- The ways on from the instruction at k, a rule a kind of edge: straight on; the fall of a branch;
--- a branch taken; a jump; a call; where a call through a register returns to; where a call returns
--- to whose target is one of those that return; a kept entry of a table.
+-- The ways on from the instruction at k, one rule for each kind of edge: straight on, the fall of a
+-- branch, a branch taken, a jump, a call, a kept entry of a table. Two rules are of the fall of a
+-- call: of one through a register, and of one whose target is among those that return.
 pub data LeadsTo (map : InstructionMap) (MayReturn : ℕ → Type 0) : ℕ → ℕ → EdgeKind → Type 0 where
   straight : {k to : ℕ} → GoesOnTo map k to → LeadsTo map MayReturn k to kinds.Fall
   not_taken : {k to : ℕ} {taken : Option ℕ} → flow_at map k ≡ Some (Branch taken (Some to))
@@ -35,7 +35,7 @@ pub record Leaves (map : InstructionMap) (MayReturn : ℕ → Type 0) (s k : ℕ
   pub from : edge.from ≡ s
   pub leads : LeadsTo map MayReturn k edge.to edge.kind
 
--- An edge of the program leaves a block by a way on from its last instruction; a call returns where
+-- An edge of the program leaves a block by a way on from its last instruction; a call returns if
 -- its target does.
 pub record IsEdge (map : InstructionMap) (seeds : List ℕ) (edge : Edge) : Type 0 where
   pub last : ℕ

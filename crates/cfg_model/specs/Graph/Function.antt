@@ -16,15 +16,15 @@ pub data IsEntry (map : InstructionMap) (seeds : List ℕ) : ℕ → Type 0 wher
   called : {k a : ℕ} {fall : Option ℕ} → Reached map seeds k → IsCall map k a fall
       → IsEntry map seeds a
 
--- An edge stays in the function of this entry, where these are the entries: it is no call, and it
+-- An edge stays in the function of this entry, if these are the entries: it is no call, and it
 -- leads to the entry itself or to where no function starts.
 pub record StaysIn (AnEntry : ℕ → Type 0) (entry : ℕ) (edge : Edge) : Type 0 where
   pub no_call : edge.kind ≢ kinds.Call
   pub inside : (edge.to ≡ entry) ⊎ (¬ AnEntry edge.to)
 
--- The body of the function of this entry, by the starts of its blocks, where these are the edges
--- and the entries: the least set that has the entry's block and is closed under the edges that stay
--- in the function.
+-- The body of the function of this entry, by the starts of its blocks, for these edges and entries.
+-- It is the least set that has the entry's block and is closed under the edges that stay in the
+-- function.
 pub data InBody (AnEdge : Edge → Type 0) (AnEntry : ℕ → Type 0) (entry : ℕ) : ℕ → Type 0 where
   entry : InBody AnEdge AnEntry entry entry
   along : {edge : Edge} → InBody AnEdge AnEntry entry edge.from → AnEdge edge
@@ -37,8 +37,8 @@ pub record IsFunction (map : InstructionMap) (seeds : List ℕ) (function : Func
   pub status : IsTrue function.returns ↔ Returns map function.entry
   pub body : Lists ◌<◌ (InBody (IsEdge map seeds) (IsEntry map seeds) function.entry) function.body
 
--- A jump from the block at this address to that one is a tail call, where these are the entries and
--- this says what is in the body of which: it leads to an entry, and the block is not in its body.
+-- A jump from the block at this address to that one is a tail call, for these entries and bodies.
+-- It leads to an entry, and the block is not in the body of that entry.
 pub record IsTail (AnEntry : ℕ → Type 0) (IsIn : ℕ → ℕ → Type 0) (from to : ℕ) : Type 0 where
   pub entry : AnEntry to
   pub outside : ¬ IsIn to from
@@ -47,8 +47,7 @@ pub record IsTail (AnEntry : ℕ → Type 0) (IsIn : ℕ → ℕ → Type 0) (fr
 abbrev pub IsTailCall : InstructionMap → List ℕ → ℕ → ℕ → Type 0
 IsTailCall map seeds = IsTail (IsEntry map seeds) (InBody (IsEdge map seeds) (IsEntry map seeds))
 
--- An edge of the graph: an edge between blocks, of kind tail where it is a jump that is a tail
--- call.
+-- An edge of the graph: an edge between blocks, of kind tail if it is a jump that is a tail call.
 pub data IsMarkedEdge (map : InstructionMap) (seeds : List ℕ) : Edge → Type 0 where
   other : {edge : Edge} → IsEdge map seeds edge → edge.kind ≢ kinds.Jump
       → IsMarkedEdge map seeds edge

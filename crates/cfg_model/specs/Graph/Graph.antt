@@ -35,7 +35,7 @@ EdgeBefore a b =
     (a.from < b.from)
     ⊎ ((a.from ≡ b.from) × ((a.to < b.to) ⊎ ((a.to ≡ b.to) × (rank a.kind < rank b.kind))))
 
--- The blocks and edges of a program, before tail calls are told from other jumps.
+-- The blocks and edges of a program, before tail calls are marked.
 pub record IsOutline (map : InstructionMap) (seeds : List ℕ) (blocks : List Block)
     (edges : List Edge) : Type 0 where
   pub all_blocks : Lists BlockBefore (IsBlock map seeds) blocks

@@ -1,4 +1,4 @@
--- What the parts of a graph have to do with one another.
+-- How the parts of a graph fit together.
 use Rattle.std.specs.Prelude.{◌≡◌, ℕ, List, Contains}
 use Rattle.cfg_model.specs.declared.graph.Block.{Block}
 use Rattle.cfg_model.specs.declared.graph.Edge.{Edge}

@@ -8,8 +8,8 @@ use Rattle.cfg_model.specs.Program.Successors.{IsCall}
 use Rattle.cfg_model.specs.Program.Status.{Returns}
 use Rattle.cfg_model.specs.Program.Reach.{Reached}
 
--- The addresses that a flow sends control to other than by going on or returning from a known call:
--- the taken target of a branch, the target of a jump or call, the kept targets of a table.
+-- The addresses that a flow sends control to: the taken target of a branch, the target of a jump or
+-- call, the kept targets of a table. Going on and returning from a known call do not count.
 abbrev pub targets_by : List ℕ → Flow → List ℕ
 targets_by kept (Branch taken fall) = option_to_list taken
 targets_by kept (Jump target) = target ∷ []
@@ -23,9 +23,9 @@ fall_by (Branch taken fall) = fall
 fall_by (IndirectCall fall) = fall
 fall_by _ = None
 
--- What makes a reached address a leader: it is a seed; a reached instruction sends control to it;
--- it is the fall of a reached branch or call that may come back; or two straight instructions of
--- different lengths, of two streams, join at it.
+-- What makes a reached address a leader. It is a seed. A reached instruction sends control to it.
+-- It is the fall of a reached branch or of a reached call that may come back. Two straight
+-- instructions of different lengths, of two streams, join at it.
 pub data StartsBlock (map : InstructionMap) (seeds : List ℕ) : ℕ → Type 0 where
   seed : {a : ℕ} → Contains seeds a → StartsBlock map seeds a
   target : {k a : ℕ} {flow : Flow} → Reached map seeds k → flow_at map k ≡ Some flow

@@ -1,7 +1,7 @@
 -- Lists: those that have exactly the things of one sort, and those that grow.
 use Rattle.std.specs.Prelude.{◌≡◌, ◌⊎◌, List, ◌++◌, AllPairs, Contains}
 
--- xs has exactly what holds, and each item comes before those behind it.
+-- xs has exactly what holds, and each item comes before those after it.
 pub record Lists {X : Type 0} (Before : X → X → Type 0) (Holds : X → Type 0)
     (xs : List X) : Type 0 where
   pub in_order : AllPairs Before xs
@@ -14,7 +14,7 @@ pub record Gains {X : Type 0} (old new : List X) (Holds : X → Type 0) : Type 0
   pub added : (x : X) → Holds x → Contains new x
   pub nothing_else : (x : X) → Contains new x → Contains old x ⊎ Holds x
 
--- The same where new goes on where old ends.
+-- The same if new goes on where old ends.
 pub record Extends {X : Type 0} (old new : List X) (Holds : X → Type 0) : Type 0 where
   pub rest : List X
   pub goes_on : new ≡ old ++ rest

@@ -7,7 +7,7 @@ use Rattle.cfg_model.specs.declared.graph.EdgeKind.{EdgeKind}
 abbrev pub edge_to : ℕ → EdgeKind → ℕ → Edge
 edge_to s kind to = record { from = s; to = to; kind = kind }
 
--- The same where there is an address.
+-- The same if there is an address.
 abbrev pub IsEdgeTo : ℕ → EdgeKind → Option ℕ → Edge → Type 0
 IsEdgeTo s kind None edge = ⊥
 IsEdgeTo s kind (Some to) edge = edge ≡ edge_to s kind to

@@ -4,7 +4,7 @@ use Rattle.cfg_model.specs.declared.flow.Flow.{Flow}
 use Rattle.cfg_model.specs.declared.flow.Flow.TheVariants.{Straight}
 use Rattle.cfg_model.specs.Program.Instructions.{InstructionMap, flow_at}
 
--- The instruction at a is straight, and next is the address behind it.
+-- The instruction at a is straight, and next is the address after it.
 abbrev pub GoesOnTo : InstructionMap → ℕ → ℕ → Type 0
 GoesOnTo map a next = flow_at map a ≡ Some (Straight next)
 
@@ -18,7 +18,7 @@ EndsChain _ = Unit {0}
 abbrev pub IsTerminator : InstructionMap → ℕ → Type 0
 IsTerminator map k = EndsChain (flow_at map k)
 
--- k is on the chain of a: a itself, the address behind it where a is straight, and so on.
+-- k is on the chain of a: a itself, the address after it if a is straight, and so on.
 pub data OnChain (map : InstructionMap) : ℕ → ℕ → Type 0 where
   here : {a : ℕ} → OnChain map a a
   on : {a next k : ℕ} → GoesOnTo map a next → OnChain map next k → OnChain map a k

@@ -29,7 +29,7 @@ abbrev pub kept_before : Extent → ℕ → ℕ
 kept_before table b = max 1 ((b - table.base) / table.width)
 
 -- The jump table of j is cut to this many entries, fewer than it has: up to the least base of
--- another one inside it. The jumps that count are those reached where none is cut (this project's
+-- another one inside it. The jumps that count are those reached if none is cut (this project's
 -- profile).
 pub record IsCutTo (tables : Tables) (IsCounted : ℕ → Type 0) (j kept : ℕ) : Type 0 where
   pub counts : IsCounted j
@@ -41,12 +41,12 @@ pub record IsCutTo (tables : Tables) (IsCounted : ℕ → Type 0) (j kept : ℕ)
   pub entries : kept ≡ kept_before table base
   pub fewer : kept < table.count
 
--- These are the cuts of the jump tables: for each jump the number of entries kept, where it is cut.
+-- These are the cuts of the jump tables: for each jump the number of entries kept, if it is cut.
 abbrev pub AreCuts : Tables → (ℕ → Type 0) → (ℕ → Option ℕ) → Type 0
 AreCuts tables IsCounted cuts =
     (j kept : ℕ) → (cuts j ≡ Some kept) ↔ IsCutTo tables IsCounted j kept
 
--- The cuts of jump tables are determined, where the jumps that are reached in a program count.
+-- The cuts of jump tables are determined, if the jumps that are reached in a program count.
 abbrev pub CutsAreUnique : Type 0
 CutsAreUnique =
     (tables : Tables) (map : InstructionMap) (seeds : List ℕ) (cuts others : ℕ → Option ℕ)

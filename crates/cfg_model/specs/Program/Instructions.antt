@@ -6,14 +6,14 @@ use Rattle.cfg_model.specs.declared.flow.Flow.{Flow}
 use Rattle.cfg_model.specs.declared.flow.Flow.TheVariants.{Straight, Branch, Jump}
 use Rattle.cfg_model.specs.declared.flow.Flow.TheVariants.{Call, IndirectCall, Table}
 
--- One instruction: its length in bytes, its flow, and, where that is a table jump, the targets kept
--- in the table, in its order.
+-- One instruction: its length in bytes, its flow, and, if that is a table jump, the targets kept in
+-- the table, in its order.
 pub record Instruction : Type 0 where
   pub bytes : ℕ
   pub flow : Flow
   pub targets : List ℕ
 
--- The instructions by address; none where no instruction stands.
+-- The instructions by address; none if no instruction stands.
 abbrev pub InstructionMap : Type 0
 InstructionMap = ℕ → Option Instruction
 
@@ -38,15 +38,15 @@ named_by (Call target fall) = target ∷ option_to_list fall
 named_by (IndirectCall fall) = option_to_list fall
 named_by _ = []
 
--- A straight instruction goes on right behind itself; a table jump keeps as many targets as it
--- says, one at least; no other instruction has kept targets.
+-- A straight instruction goes on right after itself. A table jump keeps the number of targets that
+-- it says, one at least. No other instruction has kept targets.
 abbrev pub FlowFits : ℕ → Instruction → Flow → Type 0
 FlowFits a i (Straight next) = (next ≡ a + i.bytes) × (i.targets ≡ [])
 FlowFits a i (Table entries full is_open) = (entries ≡ length i.targets) × (0 < entries)
 FlowFits a i _ = i.targets ≡ []
 
--- What holds of each instruction of a program: it has 2 or 4 bytes and ends within 64 bits, its
--- flow fits it, and every address that it names or keeps is that of an instruction.
+-- What holds of each instruction of a program. It has 2 or 4 bytes and ends within 64 bits. Its
+-- flow fits it. Every address that it names or keeps is that of an instruction.
 pub record IsLawfulAt (map : InstructionMap) (a : ℕ) (i : Instruction) : Type 0 where
   pub size : (i.bytes ≡ 2) ⊎ (i.bytes ≡ 4)
   pub ends : a + i.bytes < 2 ^ 64

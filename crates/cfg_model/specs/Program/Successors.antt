@@ -6,9 +6,9 @@ use Rattle.cfg_model.specs.declared.flow.Flow.TheVariants.{Straight, Branch, Jum
 use Rattle.cfg_model.specs.declared.flow.Flow.TheVariants.{IndirectCall, Table, Return, Unknown}
 use Rattle.cfg_model.specs.Program.Instructions.{InstructionMap, flow_at, targets_at}
 
--- The intraprocedural successors that a flow gives, with the kept targets of a table: the next
--- address, both ways of a branch, the target of a jump, the kept targets, and the fall of a call
--- through a register. A call of a known address has none: its fall hangs on its target.
+-- The intraprocedural successors that a flow gives, for the kept targets of a table. They are the
+-- next address, both ways of a branch, the target of a jump, the kept targets, and the fall of a
+-- call through a register. A call of a known address has none: its fall depends on its target.
 abbrev pub successors_by : List ℕ → Flow → List ℕ
 successors_by kept (Straight next) = next ∷ []
 successors_by kept (Branch taken fall) = option_to_list taken ++ option_to_list fall

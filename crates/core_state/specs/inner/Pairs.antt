@@ -9,8 +9,8 @@ module _ {K X : Type 0} (R : K → K → Ordering) where
   abbrev pub AreRising : List (K × X) → Type 0
   AreRising es = T (is_sorted R es)
 
-  -- The key does not stand among them, and its place is i: behind the lower keys, before the
-  -- higher ones.
+  -- The key does not stand among them, and its place is i: after the lower keys, before the higher
+  -- ones.
   pub record IsGapAt (es : List (K × X)) (key : K) (i : ℕ) : Type 0 where
     pub within : i ≤ length es
     pub behind : (k : ℕ) (e : K × X) → k < i → R (get_or es k e).0 key ≡ Less

@@ -14,8 +14,7 @@ use Rattle.core_state.specs.Work.{work_of}
 pub data LeftAtStart (s : ℕ) (mark : Mark) : Work → Type 0 where
   unparsed : mark ≡ marks.Wanted → LeftAtStart s mark (Work.Parse s)
 
--- At an end: to place a displaced start, and to want the near one, where it is not among the
--- starts.
+-- At an end: to place a displaced start, and to want the near one, if it is not among the starts.
 pub data LeftAtEnd (starts : StartMap) (k : ℕ) (entry : EndEntry) : Work → Type 0 where
   displaced : (x : ℕ) → IsTrue (sets.contains entry.moved x)
       → LeftAtEnd starts k entry (Work.Move k)

@@ -16,7 +16,7 @@ pub record HasNothingAt (Is : ℕ → Type 0) (state : BuilderState) : Type 0 wh
   pub terminators : (work : Work) (left : IsFoundAmong LeftAtTerminator state.terminators work)
       → ¬ Is left.key
 
--- The address belongs to this share, of so many: shards go to shares in turn.
+-- The address belongs to this share, of this many: shards go to shares in turn.
 abbrev pub IsShared : ℕ → ℕ → ℕ → Type 0
 IsShared shares share a = shard_of a % shares ≡ share
 

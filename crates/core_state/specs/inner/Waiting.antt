@@ -18,7 +18,7 @@ WaiterMap = maps.FinMap waiter_cmp Bool
 abbrev pub AreAway : List (Waiter × Bool) → WaiterMap → Type 0
 AreAway pairs crowd = (w : Waiter) → IsSome (find waiter_cmp w pairs) → maps.get crowd w ≡ None
 
--- The waiters with w among them, untold if it is new; with w told, where it waits.
+-- The waiters with w among them, untold if it is new; with w told, if it waits.
 abbrev pub with_waiter : WaiterMap → Waiter → WaiterMap
 with_waiter waiters w = if maps.contains_key waiters w then waiters else maps.insert waiters w false
 
@@ -29,8 +29,8 @@ with_told waiters w = if maps.contains_key waiters w then maps.insert waiters w 
 abbrev pub AwaitsTelling : WaiterMap → Waiter → Type 0
 AwaitsTelling waiters w = maps.get waiters w ≡ Some false
 
--- Of an entry: the first waiter that is to be told; none where it is not known to return, or all
--- its waiters were told.
+-- Of an entry: the first waiter that is to be told; none if it is not known to return, or all its
+-- waiters were told.
 abbrev pub IsNextHere : TerminatorEntry → Option Waiter → Type 0
 IsNextHere entry =
     IsLeastBy waiter_cmp (λ w. IsTrue entry.returned × AwaitsTelling entry.waiters w)
@@ -39,7 +39,7 @@ IsNextHere entry =
 abbrev pub HasNextHere : TerminatorEntry → Type 0
 HasNextHere entry = (w : Waiter) × IsNextHere entry (Some w)
 
--- The lesser of two things in an order, either of which may be none.
+-- The lesser of two things in an order; each may be none.
 abbrev pub lesser_by : {K : Type 0} → (K → K → Ordering) → Option K → Option K → Option K
 lesser_by cmp None w = w
 lesser_by cmp (Some v) None = Some v

@@ -1,4 +1,4 @@
--- The blocks and edges that the ends of a state show in one stretch of addresses.
+-- The blocks and edges that the ends of a state show in one range of addresses.
 use Rattle.std.specs.Prelude.{◌⊎◌, ℕ, List, [], AllPairs, Vec, Result, Ok, Err, IsOk}
 use Rattle.std.specs.List.{flat_map}
 use Rattle.std.specs.declared.alloc.Global.{Global}
@@ -13,8 +13,8 @@ use Rattle.finaliser.specs.declared.memory.Memory.{Memory}
 use Rattle.finaliser.specs.declared.part.Part.{Part}
 use Rattle.finaliser.specs.Inner.Shown.{IsShownBlock, IsShownEdge, StartApart}
 
--- These are the blocks and edges that the ends in a stretch show. The program is lawful where there
--- is such an end.
+-- These are the blocks and edges that the ends in a range show. The program is lawful if there is
+-- such an end.
 pub record ArePartOf
     (map : InstructionMap) (state : BuilderState) (stretch : Stretch)
     (blocks : List Block) (edges : List Edge) : Type 0 where
@@ -31,7 +31,7 @@ Answered = Result Part Memory
 abbrev pub AreMade : Answered → Type 0
 AreMade answer = IsOk answer
 
--- The blocks and edges of a part; none where memory ran out.
+-- The blocks and edges of a part; none if memory ran out.
 abbrev pub blocks_in : Answered → List Block
 blocks_in (Ok part) = part.blocks.items
 blocks_in (Err e) = []

@@ -1,4 +1,4 @@
--- The blocks and edges that the ends of a state show in a stretch of addresses.
+-- The blocks and edges that the ends of a state show in a range of addresses.
 use Rattle.std.specs.Prelude.{◌≢◌, ℕ}
 use Rattle.cfg_model.specs.declared.graph.Block.{Block}
 use Rattle.cfg_model.specs.declared.graph.Edge.{Edge}

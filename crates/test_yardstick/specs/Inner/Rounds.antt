@@ -6,7 +6,7 @@ use Rattle.cfg_model.specs.Program.Successors.{IsSuccessor, IsCall, ReturnsByIts
 use Rattle.cfg_model.specs.Program.Status.{Returns}
 use Rattle.cfg_model.specs.Program.Reach.{Reached}
 
--- What the instruction at a leads to, where these addresses return.
+-- What the instruction at a leads to, if these addresses return.
 pub data Leads (map : InstructionMap) (returning : List ℕ) (a : ℕ) : ℕ → Type 0 where
   to_successor : {b : ℕ} → IsSuccessor map a b → Leads map returning a b
   to_target : {target : ℕ} {fall : Option ℕ} → IsCall map a target fall
@@ -14,7 +14,7 @@ pub data Leads (map : InstructionMap) (returning : List ℕ) (a : ℕ) : ℕ →
   to_fall : {target fall : ℕ} → IsCall map a target (Some fall) → Contains returning target
       → Leads map returning a fall
 
--- Whether the instruction at a returns, where these addresses do.
+-- Whether the instruction at a returns, if these addresses do.
 pub data ReturnsBy (map : InstructionMap) (returning : List ℕ) (a : ℕ) : Type 0 where
   by_itself : ReturnsByItself map a → ReturnsBy map returning a
   by_successor : {b : ℕ} → IsSuccessor map a b → Contains returning b → ReturnsBy map returning a
@@ -67,7 +67,7 @@ pub record AreReturning (map : InstructionMap) (xs : List ℕ) : Type 0 where
 pub record IsClosedUnder (map : InstructionMap) (returning xs : List ℕ) : Type 0 where
   pub each : (a b : ℕ) → Contains xs a → Leads map returning a b → Contains xs b
 
--- Those of these addresses that return where the known ones do are known to.
+-- Those of these addresses that return if the known ones do are known to.
 pub record AreAllLearnt (map : InstructionMap) (xs returning : List ℕ) : Type 0 where
   pub each : (a : ℕ) → Contains xs a → ReturnsBy map returning a → Contains returning a
 

@@ -28,7 +28,7 @@ pub record IsTailWithin (functions : List Function) (edge : Edge) : Type 0 where
   pub jump : edge.kind ≡ kinds.Jump
   pub tail : IsTail (IsEntryOf functions) (IsInBodyOf functions) edge.from edge.to
 
--- The same edge with its kind set to tail where it is a tail call.
+-- The same edge with its kind set to tail if it is a tail call.
 pub data IsMarkOf (functions : List Function) (edge : Edge) : Edge → Type 0 where
   tail : IsTailWithin functions edge → IsMarkOf functions edge (record edge { kind = kinds.Tail })
   same : ¬ IsTailWithin functions edge → IsMarkOf functions edge edge

@@ -29,7 +29,7 @@ fn called_in(alloc: Global, edges: &[Edge], seeds: &[u64]) -> Result<Vec<u64>, M
     Ok(marks)
 }
 
-/// Adds the target of this edge where it is a call.
+/// Adds the target of this edge if it is a call.
 fn mark_called(edge: Edge, marks: &mut Vec<u64>) -> Result<(), Memory>
     ensures { OnOk result (Gains marks.old.items marks.new.items (CallsTo edge)) }
 {

@@ -17,7 +17,7 @@ pub(crate) fn mark_tails(functions: &[Function], edges: &mut Edges)
     }
 }
 
-/// Sets the kind of edge number `i` where it is a tail call.
+/// Sets the kind of edge number `i` if it is a tail call.
 fn mark_tail(functions: &[Function], edges: &mut Edges, i: usize)
     requires searchable { AreSearchable functions.now }
     requires within { i < length edges.old }

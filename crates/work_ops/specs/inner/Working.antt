@@ -1,4 +1,4 @@
--- What becomes of a state that is worked on until nothing is left, with a list of names of work.
+-- What becomes of a state that is worked on until nothing is left, with a list of work items.
 use Rattle.std.specs.Prelude.{ℕ, ◌+◌, ◌*◌, ◌^◌, ◌<◌, List}
 use Rattle.cfg_model.specs.Program.Instructions.{InstructionMap}
 use Rattle.cfg_model.specs.Builder.State.{BuilderState}
