@@ -21,8 +21,8 @@ use Rattle.board.specs.declared.piece.Piece.{Piece}
 use Rattle.board.specs.Slots.{shard_in, shard_for}
 use Rattle.board.specs.Seat.{Notes, SeatState, HasSlot, Knows, with_turn, lost_of, found, left}
 use Rattle.board.specs.Calls.{MadeEvent, LookedAt, AnswersBusy, AnswersMemory, WhereBusy, WhereMemory, Stays}
-use Rattle.board.specs.Inner.Pieces.{part_in, piece_in}
-use Rattle.board.specs.Inner.Plays.{values_at, changed, giving, Takes}
+use Rattle.board.specs.Pieces.{part_in, piece_in}
+use Rattle.board.specs.Plays.{values_at, changed, giving, Takes}
 use Rattle.board.specs.Inner.Inside.{state_of, IsSettled, Goes, answer_of}
 use Rattle.board.proofs.Events.{same_out}
 use Rattle.board.proofs.Parts.{part_piece}

@@ -16,7 +16,7 @@ use Rattle.board.specs.declared.piece.Piece.{Piece}
 use Rattle.board.specs.declared.piece.Piece.TheVariants.{Ends}
 use Rattle.board.specs.Seat.{SeatState, Knows, found}
 use Rattle.board.specs.Calls.{HadTurn, MadeEvent, LookedAt}
-use Rattle.board.specs.Inner.Pieces.{part_in}
+use Rattle.board.specs.Pieces.{part_in}
 use Rattle.board.specs.Inner.Inside.{IsDue}
 use Rattle.board.proofs.Parts.{part_piece}
 use Rattle.board.proofs.Told.{turn_found}

@@ -34,8 +34,8 @@ use Rattle.board.specs.declared.piece.Piece.TheVariants.{Starts, Ends, Terms}
 use Rattle.board.specs.Slots.{shard_in}
 use Rattle.board.specs.Seat.{Values, HasSlot, AnyShows, first_notes}
 use Rattle.board.specs.Rule.{IsKept, turn_of, turns_of}
-use Rattle.board.specs.Inner.Pieces.{piece_of, piece_in}
-use Rattle.board.specs.Inner.Plays.{values_at}
+use Rattle.board.specs.Pieces.{piece_of, piece_in}
+use Rattle.board.specs.Plays.{values_at}
 use Rattle.board.specs.Inner.Closing.{AreOf, AreFirst, starts_with, ends_with, terms_with, starts_room, ends_room, terms_room}
 use Rattle.board.proofs.Places.{starts_slot, ends_slot, terms_slot}
 use Rattle.board.proofs.Keeping.{fits, turn_at}

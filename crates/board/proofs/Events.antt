@@ -35,8 +35,8 @@ use Rattle.board.specs.declared.piece.Piece.{Piece}
 use Rattle.board.specs.Slots.{shard_in, event_word}
 use Rattle.board.specs.Seat.{Values, AnyShows}
 use Rattle.board.specs.Rule.{IsKept, turn_of, turns_of}
-use Rattle.board.specs.Inner.Pieces.{part_in}
-use Rattle.board.specs.Inner.Plays.{values_at, changed, with_second, learned, Makes, Learns}
+use Rattle.board.specs.Pieces.{part_in}
+use Rattle.board.specs.Plays.{values_at, changed, with_second, learned, Makes, Learns}
 use Rattle.board.specs.Inner.Inside.{IsMade, IsShown}
 use Rattle.board.proofs.Places.{shards_apart}
 use Rattle.board.proofs.Parts.{piece_stays, only_stays, alone_is_shown}

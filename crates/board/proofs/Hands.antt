@@ -13,7 +13,7 @@ use Rattle.shares.specs.Share.{IsAboveZero}
 use Rattle.turn_slots.specs.declared.view.View.{View as TurnView}
 use Rattle.turn_slots.specs.TurnsId.{turn_word}
 use Rattle.turn_slots.specs.Rule as turns
-use Rattle.turn_slots.specs.Inner.Plays as turn_plays
+use Rattle.turn_slots.specs.Plays as turn_plays
 use Rattle.turn_slots.proofs.Steps as turn_steps
 use Rattle.turn_slots.proofs.Marks.{same_slot}
 use Rattle.cfg_model.specs.Program.Instructions.{InstructionMap}
@@ -26,8 +26,8 @@ use Rattle.board.specs.declared.piece.Piece.{Piece}
 use Rattle.board.specs.Slots.{shard_in}
 use Rattle.board.specs.Seat.{Values, HasSlot, AnyShows}
 use Rattle.board.specs.Rule.{IsKept, turn_of, turns_of}
-use Rattle.board.specs.Inner.Pieces.{piece_in}
-use Rattle.board.specs.Inner.Plays.{values_at, giving, Leaves, Reaches, Returns, half_view, new_view, both_view, spent_view}
+use Rattle.board.specs.Pieces.{piece_in}
+use Rattle.board.specs.Plays.{values_at, giving, Leaves, Reaches, Returns, half_view, new_view, both_view, spent_view}
 use Rattle.board.specs.Inner.Inside.{IsOut, IsInPlace}
 use Rattle.board.proofs.Parts.{same_piece, shows_either}
 use Rattle.board.proofs.Keeping.{fits, each, stepped_turn, turn_read, turn_at, rekept}

@@ -13,9 +13,9 @@ use Rattle.board.specs.declared.view.View.{View}
 use Rattle.board.specs.declared.piece.Piece.{Piece}
 use Rattle.board.specs.Slots.{slot_of, shard_in}
 use Rattle.board.specs.Seat.{Notes, SeatState, AnyShows, with_shard, without_shard}
-use Rattle.board.specs.Calls.{IsHeldBy}
-use Rattle.board.specs.Inner.Pieces.{part_in, piece_in, IsLike}
-use Rattle.board.specs.Inner.Plays.{values_at, giving, Takes}
+use Rattle.board.specs.Calls.{IsHeldBy, IsPartOfKept}
+use Rattle.board.specs.Pieces.{part_in, piece_in, IsLike}
+use Rattle.board.specs.Plays.{values_at, giving, Takes}
 use Rattle.board.specs.Inner.Inside.{state_of, IsSettled, IsInPlace, IsOut}
 use Rattle.board.proofs.Events.{same_out}
 use Rattle.board.proofs.Parts.{part_piece, like_piece}
@@ -36,6 +36,14 @@ module _ (code : InstructionMap) (seeds : List ℕ) (slot : ℕ) (below : slot <
 
   pub held_truth : (fact : Fact) → Holds code (part_in piece) fact → IsSoundFact code seeds fact
   held_truth fact h = part_is_true code seeds took.whole took.kept (shard_in slot) fact (subst (λ (part : BuilderState). Holds code part fact) value_is h)
+
+  pub held_part : (old : SeatState) → state_of a ≡ old → IsPartOfKept code seeds old (record { shard = shard; value = part_in piece })
+  held_part old is = record {
+    whole = took.whole;
+    kept = took.kept;
+    part = value_is ∙ ap (only took.whole) at;
+    known = λ fact knows. took.known fact (subst (λ (s : SeatState). AnyShows code s.notes.seen fact) (sym is) knows);
+  }
 
   module _ (d : Seat (Option Piece) View) (left : d.me ≡ (record m.0 { out = None }, [])) where
     notes_are : d.me.0.notes ≡ in_turn a.me.0.notes slot (part_in piece) (part_in piece)

@@ -20,8 +20,8 @@ use Rattle.board.specs.declared.piece.Piece.{Piece}
 use Rattle.board.specs.Slots.{shard_in, event_word}
 use Rattle.board.specs.Seat.{Values, AnyShows}
 use Rattle.board.specs.Rule.{IsKept, turn_of, turns_of}
-use Rattle.board.specs.Inner.Pieces.{piece_in}
-use Rattle.board.specs.Inner.Plays.{values_at}
+use Rattle.board.specs.Pieces.{piece_in}
+use Rattle.board.specs.Plays.{values_at}
 
 -- what holds of each after a change of one
 pub each : {A : Type 0} (P : ℕ → A → Type 0) (l : List A) (id : ℕ) (w : A) → P id w → ((k : ℕ) (u : A) → get_elem? l k ≡ some u → k ≢ id → P k u)

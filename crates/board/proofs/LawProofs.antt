@@ -1,22 +1,23 @@
 -- Proofs of the laws of a board.
-use Rattle.std.proofs.Common.{◌≡◌, ◌≢◌, ⊎_elim, ℕ, zero, suc, List, [], ◌∷◌, map, get_or, false, Option, Some, None, refl, sym, ap, ◌∙◌, subst}
+use Rattle.std.proofs.Common.{◌≡◌, ◌≢◌, ⊎_elim, ℕ, zero, suc, List, [], ◌∷◌, map, get_or, false, eqb, Option, Some, None, refl, sym, ap, ◌∙◌, subst}
 use Rattle.std.proofs.lemmas.Bool.{cases_eq}
 use mathlib.Core.Option.{some, some-injective, some-ne-none}
 use lib.ListN.{get_elem?}
-use Rattle.atomic_table.specs.Table.{State}
+use Rattle.atomic_table.specs.Table.{Me, State, Step}
 use Rattle.shares.specs.Share.{Share, AddUpToOne}
 use Rattle.turn_slots.specs.declared.view.View.{View as TurnView}
 use Rattle.turn_slots.proofs.Touches.{sound_of, alone}
+use Rattle.turn_slots.proofs.TurnProofs.{in_each_case}
 use Rattle.cfg_model.specs.Program.Instructions.{InstructionMap}
 use Rattle.board.specs.declared.view.View.{View}
 use Rattle.board.specs.declared.piece.Piece.{Piece}
 use Rattle.std.specs.Prelude.{IsSome}
 use Rattle.board.specs.Slots.{slot_of}
-use Rattle.board.specs.Seat.{SeatState, Values, HoldsNothing, HoldsShard, with_shard, without_shard}
+use Rattle.board.specs.Seat.{Notes, SeatState, Values, HoldsNothing, HoldsShard, with_shard, without_shard}
 use Rattle.board.specs.Calls.{HeldShard}
 use Rattle.board.specs.Rule.{IsKept, turn_of, turns_of}
-use Rattle.board.specs.Inner.Plays.{values_at}
-use Rattle.board.specs.BoardLaws.{TakenIsHeldByOne, HeldOnce, IsTogether, AllTogetherAreKept, KnownHolds, SharesAddUp, FirstKnowsNothing, LettingGoUndoesHolding}
+use Rattle.board.specs.Plays.{values_at, giving}
+use Rattle.board.specs.BoardLaws.{TakenIsHeldByOne, HeldOnce, IsTogether, AllTogetherAreKept, KnownHolds, SharesAddUp, FirstKnowsNothing, LettingGoUndoesHolding, TriesAreCounted, OtherStepsMoveNoCount}
 use Rattle.board.proofs.Keeping.{fits, turn_read, turn_at}
 use Rattle.board.proofs.Steps.{marked}
 use Rattle.board.proofs.Ends.{nothing_held}
@@ -82,3 +83,29 @@ pub let_go_holds : (old held after : SeatState) (shard : HeldShard) → held ≡
 let_go_holds old held after shard won given free =
     ap (λ (s : SeatState). s.notes.holds) given
     ∙ (ap (λ (s : SeatState). (without_shard s shard.shard shard.value).notes.holds) won ∙ letting_go_undoes old shard.shard shard.value free)
+
+-- what a seat notes
+abbrev notes_of : Me (Option Piece) View → Notes
+notes_of x = x.0.notes
+
+pub tries_are_counted : (code : InstructionMap) (seeds : List ℕ) → TriesAreCounted code seeds
+tries_are_counted code seeds st m found n slot word tries =
+    in_each_case
+    (λ took. record { won = ap (λ x. (notes_of x).won) took.is; lost = ap (λ x. (notes_of x).lost) took.is; last = ap (λ x. (notes_of x).last) took.is; seen = ap (λ x. (notes_of x).seen) took.is })
+    (λ lost. ap notes_of lost.1) (eqb found 0) (tries slot word)
+
+pub others_move_no_count : OtherStepsMoveNoCount
+others_move_no_count st m found n = record {
+  makes = λ slot piece word out made. let is = made slot piece word out in
+      (record { won = ap (λ x. (notes_of x).won) is; lost = ap (λ x. (notes_of x).lost) is }, ap (λ x. (notes_of x).last) is);
+  learns = λ is. (record { won = ap (λ x. (notes_of x).won) is; lost = ap (λ x. (notes_of x).lost) is }, ap (λ x. (notes_of x).last) is);
+  leaves = λ is. ap notes_of is;
+  reaches = λ slot word reached. ap notes_of (reached slot word);
+  returns = λ slot values word at returned.
+      let is = ap notes_of (returned slot word) ∙ ap (giving m.0.notes slot) at in
+      record {
+        counts = record { won = ap (λ (x : Notes). x.won) is; lost = ap (λ (x : Notes). x.lost) is };
+        last = ap (λ (x : Notes). x.last) is;
+        seen = ap (λ (x : Notes). x.seen) is;
+      };
+}

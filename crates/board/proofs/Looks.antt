@@ -21,8 +21,8 @@ use Rattle.board.specs.declared.piece.Piece.{Piece}
 use Rattle.board.specs.Slots.{shard_in}
 use Rattle.board.specs.Seat.{SeatState, HasSlot, Knows, found, left}
 use Rattle.board.specs.Calls.{LookedAt, MadeEvent}
-use Rattle.board.specs.Inner.Pieces.{part_in, piece_in}
-use Rattle.board.specs.Inner.Plays.{values_at, giving, Takes}
+use Rattle.board.specs.Pieces.{part_in, piece_in}
+use Rattle.board.specs.Plays.{values_at, giving, Takes}
 use Rattle.board.specs.Inner.Inside.{state_of, IsSettled}
 use Rattle.board.proofs.Parts.{part_piece}
 use Rattle.board.proofs.Rounds.{turn_begins}

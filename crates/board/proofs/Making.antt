@@ -11,8 +11,8 @@ use Rattle.cfg_model.specs.Builder.State.{BuilderState}
 use Rattle.board.specs.declared.view.View.{View}
 use Rattle.board.specs.declared.piece.Piece.{Piece}
 use Rattle.board.specs.Seat.{Values, AnyShows}
-use Rattle.board.specs.Inner.Pieces.{part_in}
-use Rattle.board.specs.Inner.Plays.{values_at, changed, with_second}
+use Rattle.board.specs.Pieces.{part_in}
+use Rattle.board.specs.Plays.{values_at, changed, with_second}
 use Rattle.board.specs.Inner.Inside.{HasOut, IsReady, IsMade}
 use Rattle.board.proofs.Events.{same_out}
 

@@ -20,7 +20,7 @@ use Rattle.board.specs.declared.piece.Piece.{Piece}
 use Rattle.board.specs.declared.piece.Piece.TheVariants.{Starts, Ends, Terms}
 use Rattle.board.specs.Calls.{entered_alone}
 use Rattle.board.specs.Seat.{AnyShows}
-use Rattle.board.specs.Inner.Pieces.{part_in, piece_of, IsLike}
+use Rattle.board.specs.Pieces.{part_in, piece_of, IsLike}
 
 -- the piece of a shard is its part
 pub part_piece : (state : BuilderState) (shard : Shard) → part_in (piece_of state shard) ≡ only state shard

@@ -18,8 +18,8 @@ use Rattle.board.specs.declared.view.View.{View}
 use Rattle.board.specs.declared.piece.Piece.{Piece}
 use Rattle.board.specs.Slots.{shard_in}
 use Rattle.board.specs.Seat.{Notes, Values, SeatState, HasSlot, AnyShows, with_turn}
-use Rattle.board.specs.Inner.Pieces.{part_in, piece_of, piece_in, IsLike}
-use Rattle.board.specs.Inner.Plays.{values_at, taking, changed, with_second, giving, Takes}
+use Rattle.board.specs.Pieces.{part_in, piece_of, piece_in, IsLike}
+use Rattle.board.specs.Plays.{values_at, taking, changed, with_second, giving, Takes}
 use Rattle.board.specs.Inner.Inside.{state_of, IsSettled, IsOut, IsReady}
 use Rattle.board.proofs.Parts.{part_piece, like_piece}
 

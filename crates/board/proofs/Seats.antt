@@ -9,7 +9,7 @@ use Rattle.cfg_model.specs.Builder.Fact.{IsSoundFact}
 use Rattle.board.specs.declared.view.View.{View}
 use Rattle.board.specs.declared.piece.Piece.{Piece}
 use Rattle.board.specs.Seat.{AnyShows}
-use Rattle.board.specs.Inner.Plays.{both_view}
+use Rattle.board.specs.Plays.{both_view}
 use Rattle.board.specs.Inner.Inside.{IsSettled}
 use Rattle.board.proofs.Parts.{shows_either}
 

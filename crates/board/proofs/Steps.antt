@@ -13,7 +13,7 @@ use Rattle.shares.specs.Share.{IsWhole, IsAboveZero}
 use Rattle.turn_slots.specs.declared.view.View.{View as TurnView}
 use Rattle.turn_slots.specs.TurnsId.{turn_word}
 use Rattle.turn_slots.specs.Rule as turns
-use Rattle.turn_slots.specs.Inner.Plays as turn_plays
+use Rattle.turn_slots.specs.Plays as turn_plays
 use Rattle.turn_slots.proofs.Steps as turn_steps
 use Rattle.cfg_model.specs.Program.Instructions.{InstructionMap}
 use Rattle.cfg_model.specs.Builder.Shard.{only}
@@ -22,7 +22,7 @@ use Rattle.board.specs.declared.piece.Piece.{Piece}
 use Rattle.board.specs.Slots.{shard_in}
 use Rattle.board.specs.Seat.{Notes, Values, HasSlot, with_try}
 use Rattle.board.specs.Rule.{IsKept, turn_of, turns_of}
-use Rattle.board.specs.Inner.Plays.{values_at, taking, Takes, Loses, Tries}
+use Rattle.board.specs.Plays.{values_at, taking, Takes, Loses, Tries}
 use Rattle.board.proofs.Keeping.{fits, stepped_turn, turn_read, turn_at, rekept}
 
 pub one_word : (i j : ℕ) → turn_word i ≡ turn_word j → i ≡ j

@@ -5,7 +5,7 @@ use Rattle.atomic_table.specs.Table.{Me, rest}
 use Rattle.board.specs.declared.view.View.{View}
 use Rattle.board.specs.declared.piece.Piece.{Piece}
 use Rattle.board.specs.Seat.{Notes, Values, HasSlot}
-use Rattle.board.specs.Inner.Plays.{values_at}
+use Rattle.board.specs.Plays.{values_at}
 
 -- the value of the slot that a seat took last
 value_of : List (ℕ × Option Piece) → Option Piece

@@ -24,8 +24,8 @@ use Rattle.board.specs.declared.piece.Piece.{Piece}
 use Rattle.board.specs.Slots.{shard_in}
 use Rattle.board.specs.Seat.{SeatState, Knows, found, lost_of}
 use Rattle.board.specs.Calls.{LookedAt, Stays, shown_waiter}
-use Rattle.board.specs.Inner.Pieces.{part_in, piece_in}
-use Rattle.board.specs.Inner.Plays.{Takes, learned, shown_next}
+use Rattle.board.specs.Pieces.{part_in, piece_in}
+use Rattle.board.specs.Plays.{Takes, learned, shown_next}
 use Rattle.board.specs.Inner.Inside.{state_of, IsSettled, IsOut, IsShown}
 use Rattle.board.proofs.Parts.{part_piece, alone_is_shown, alone_shows}
 use Rattle.board.proofs.Due.{read_known}

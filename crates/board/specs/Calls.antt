@@ -20,8 +20,9 @@ use Rattle.core_state.specs.declared.answer.PlaceEnd.TheVariants.{Busy, Memory}
 use Rattle.board.specs.Slots.{slot_of, shard_at, shard_for}
 use Rattle.board.specs.Seat.{SeatState, Knows, with_turn, with_lost_try, with_seen, coded_shard}
 
--- The seat had the turn of the shard. All shards together were a kept state then, of which the
--- first value is the part, and of which all holds that the seat knew.
+-- The seat took the turn of the shard, and gave it back with the second value. There is a kept
+-- state that has the first value as its part in this shard, and in which every fact that the seat
+-- knew holds.
 pub record HadTurn (map : InstructionMap) (seeds : List ℕ) (shard : Shard)
     (old new : SeatState) : Type 0 where
   pub first : BuilderState
@@ -32,8 +33,9 @@ pub record HadTurn (map : InstructionMap) (seeds : List ℕ) (shard : Shard)
   pub part : first ≡ only whole shard
   pub known : (fact : Fact) → Knows map old fact → Holds map whole fact
 
--- The seat made the event, in one turn of the event's shard: the state that all shards were
--- together allowed it, and the second value is its step from the first.
+-- The seat made the event, in one turn of the event's shard. The kept state of that turn allows it:
+-- that state has the shard's first value, and the facts that the seat knew. The second value is the
+-- event's step from the first.
 pub record MadeEvent (map : InstructionMap) (seeds : List ℕ) (event : Event)
     (old new : SeatState) : Type 0 where
   pub had : HadTurn map seeds (shard_of_event event) old new
@@ -55,7 +57,7 @@ abbrev pub shown_waiter : SeatState → Option Waiter → SeatState
 shown_waiter seat None = seat
 shown_waiter seat (Some w) = with_seen seat (entered_alone w.terminator)
 
--- The call was refused because the shard's turn stood taken.
+-- The call was refused because the shard's turn was taken.
 abbrev pub AnswersBusy : {T : Type 0} → Result T PlaceEnd → Type 0
 AnswersBusy (Ok answer) = ⊥
 AnswersBusy (Err (Busy kind number)) = Unit {0}
@@ -115,6 +117,15 @@ abbrev pub IsBusyShard : ShardKind → ℕ → SeatState → SeatState → Place
 IsBusyShard kind shard old new (Busy k number) =
     (k ≡ kind) × (number ≡ shard) × (new ≡ with_lost_try old (shard_at kind shard))
 IsBusyShard kind shard old new Memory = ⊥
+
+-- The shard that a seat took out is the part of some kept state, of which all holds that the seat
+-- knew.
+pub record IsPartOfKept (map : InstructionMap) (seeds : List ℕ) (old : SeatState)
+    (held : HeldShard) : Type 0 where
+  pub whole : BuilderState
+  pub kept : IsKept map seeds whole
+  pub part : held.value ≡ only whole held.shard
+  pub known : (fact : Fact) → Knows map old fact → Holds map whole fact
 
 -- How a proof stores what contracts see of a held shard.
 abbrev pub coded_held : Coded HeldShard

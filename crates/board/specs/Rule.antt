@@ -14,7 +14,7 @@ use Rattle.cfg_model.specs.Builder.Shard.{only}
 use Rattle.cfg_model.specs.Builder.State.{BuilderState}
 use Rattle.board.specs.declared.view.View.{View}
 use Rattle.board.specs.declared.piece.Piece.{Piece}
-use Rattle.board.specs.Inner.Pieces.{piece_in}
+use Rattle.board.specs.Pieces.{piece_in}
 use Rattle.board.specs.Slots.{shard_in}
 use Rattle.board.specs.Seat.{Values, AnyShows}
 
@@ -32,8 +32,8 @@ abbrev pub turns_of : State (Option Piece) View → State (Option Piece) TurnVie
 turns_of s = record { words = take 1537 s.words; homes = s.homes; views = map turn_of s.views }
 
 -- There is a kept state that all shards are together, those that seats hold included. A shard whose
--- turn does not stand taken lies at home, as the part of that state. One that a seat holds has that
--- part as its second value. All that a seat knows holds of that state.
+-- turn is not taken lies at home, as the part of that state. One that a seat holds has that part as
+-- its second value. All that a seat knows holds of that state.
 pub record IsKept (code : InstructionMap) (seeds : List ℕ)
     (s : State (Option Piece) View) : Type 0 where
   pub words : length s.words ≡ 1544

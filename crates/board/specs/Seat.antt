@@ -12,8 +12,9 @@ use Rattle.cfg_model.specs.Builder.Shard.{Shard}
 use Rattle.cfg_model.specs.Builder.State.{BuilderState, empty_state}
 use Rattle.board.specs.Slots.{BoardId, slot_of}
 
--- The values of a shard in one turn of a seat, each as the state that has its entries alone: first,
--- the value when the turn was taken; second, the value that it has now, or was given back with.
+-- The values of a shard in one turn of a seat, each as the state that has its entries alone.
+-- `first` is the value when the turn was taken, `second` the value that it has now, or was given
+-- back with.
 pub record Values : Type 0 where
   pub first : BuilderState
   pub second : BuilderState
@@ -24,9 +25,9 @@ pub record Turn : Type 0 where
   pub first : BuilderState
   pub second : BuilderState
 
--- What a seat notes: its share of the whole; by slot, how often a try of the shard's turn found it
--- taken; how often a try won; by slot, the shards that it holds; the turn that it gave back last;
--- and the states, each a part of the whole one, that it has seen.
+-- What a seat notes: its share of the whole, how often a try won, the turn that it gave back last,
+-- and the parts of the whole state that it has seen. By slot: how often a try of the shard's turn
+-- was lost, and the shard that it holds.
 pub record Notes : Type 0 where
   pub share : Share
   pub lost : List ℕ

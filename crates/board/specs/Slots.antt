@@ -32,7 +32,7 @@ shard_in slot =
     else if nat_lt slot 128 then Shard.Ends (slot - 64)
     else Shard.Terminators (slot - 128)
 
--- Where the event word of a slot lies among the words: right behind its turn word, in the same
--- cache line, which no other slot has.
+-- Where the event word of a slot lies among the words: right after its turn word, in the same cache
+-- line, which no other slot has.
 abbrev pub event_word : ℕ → ℕ
 event_word slot = 8 * slot + 9

@@ -11,8 +11,8 @@ ghost use Rattle.board.specs.Seat.{Knows, HoldsShard, lost_of, found, left};
 ghost use Rattle.board.specs.Calls.{MadeEvent, LookedAt, AnswersBusy, AnswersMemory};
 ghost use Rattle.board.specs.Calls.{WhereBusy, WhereMemory, Stays, KnowsTruth};
 ghost use Rattle.board.specs.Inner.Inside.{IsReady, Goes, answer_of};
-ghost use Rattle.board.specs.Inner.Pieces.{part_in};
-ghost use Rattle.board.specs.Inner.Plays.{changed};
+ghost use Rattle.board.specs.Pieces.{part_in};
+ghost use Rattle.board.specs.Plays.{changed};
 
 use crate::piece::Piece;
 use crate::seat::Seat;
@@ -29,7 +29,7 @@ pub(crate) trait Change<J: Job, A> {
     ghost use Rattle.cfg_model.specs.Builder.Shard.{shard_of_event};
     ghost use Rattle.cfg_model.specs.Builder.State.{BuilderState};
     ghost use Rattle.board.specs.Inner.Inside.{IsDue};
-    ghost use Rattle.board.specs.Inner.Pieces.{part_in, IsLike};
+    ghost use Rattle.board.specs.Pieces.{part_in, IsLike};
 
     /// The event that it is.
     ghost event: { Self → Event };
@@ -40,7 +40,7 @@ pub(crate) trait Change<J: Job, A> {
     /// Whether memory may be wanting.
     ghost spends: { Type 0 };
 
-    /// Makes the change. Where memory ran out nothing has changed.
+    /// Makes the change. If memory ran out nothing has changed.
     fn make(&self, piece: &mut Piece) -> Result<A, Memory>
         requires { IsDue J.map J.seeds (event self.now) piece.old }
         ensures step { OnOk result

@@ -28,13 +28,13 @@ use std::marker::PhantomData;
 // Each change has the same clauses. `event`: after `Ok` the seat has made the event in one turn of
 // its shard, and the state allowed it. `answer`: by the value that the seat found there, and left.
 // `brings`: the seat knows what the event brings. `remembers`, `truth`: what it knew it knows, and
-// all of it is true. `busy`, `lost`: a refusal because the turn stood taken names the shard, comes
-// exactly where one more try was lost, and changes nothing else. `memory`: after a refusal for want
-// of memory the shard is as it was. `stays`: board, share and held shards stay. `only_seat`: the
-// only seat is never refused so.
+// all of it is true. `busy`, `lost`: a refusal because the turn was taken names the shard, comes
+// exactly if one more try was lost, and changes nothing else. `memory`: after a refusal for want of
+// memory the shard is as it was. `stays`: board, share and held shards stay. `only_seat`: the only
+// seat is never refused so.
 
 impl<J: Job> Seat<J> {
-    /// Makes `s` a wanted start, where it is none. Answers whether it is new.
+    /// Makes `s` a wanted start, if it is none. Answers whether it is new.
     pub fn want(&mut self, board: &Board<J>, s: u64) -> Result<bool, PlaceEnd>
         requires own { self.old.board ≡ board.now }
         requires free { ¬ HoldsShard self.old (Shard.Starts (shard_of s)) }
@@ -57,8 +57,8 @@ impl<J: Job> Seat<J> {
         make(self, board, ShardKind::Starts, s, &Want { s })
     }
 
-    /// Makes `s` a wanted start as [`Seat::want`] does. Answers besides, from the same turn, the
-    /// least start above `s` in the line of 64 bytes that `s` lies in; `None` where there is none.
+    /// Makes `s` a wanted start as [`Seat::want`] does. Also answers, from the same turn, the least
+    /// start above `s` in the line of 64 bytes that `s` lies in; `None` if there is none.
     pub fn want_in_line(
         &mut self,
         board: &Board<J>,
@@ -110,8 +110,8 @@ impl<J: Job> Seat<J> {
     }
 
     /// The start `s` arrives at the end `k`: the first one there is near; another one splits the
-    /// end at the first address on the chains of both. Takes time linear in the two chains up to
-    /// `k`.
+    /// end at the first address on the chains of both.
+    /// Time: O(length of the two chains up to `k`).
     pub fn arrive<C: Chains>(
         &mut self,
         board: &Board<J>,
@@ -197,7 +197,7 @@ impl<J: Job> Seat<J> {
         make(self, board, ShardKind::Ends, k, &Settle { k, x })
     }
 
-    /// Enters `k` as a terminator, where it is none. Answers whether it is new.
+    /// Enters `k` as a terminator, if it is none. Answers whether it is new.
     pub fn term(&mut self, board: &Board<J>, k: u64) -> Result<bool, PlaceEnd>
         requires own { self.old.board ≡ board.now }
         requires free { ¬ HoldsShard self.old (Shard.Terminators (shard_of k)) }
@@ -222,8 +222,8 @@ impl<J: Job> Seat<J> {
         make(self, board, ShardKind::Terms, k, &Term { k })
     }
 
-    /// Makes `w` wait at the terminator `k`, untold, where it does not wait there yet. Answers
-    /// whether it is new there.
+    /// Makes `w` wait at the terminator `k`, untold, if it does not wait there yet. Answers whether
+    /// it is new there.
     pub fn wait(&mut self, board: &Board<J>, k: u64, w: Waiter) -> Result<bool, PlaceEnd>
         requires own { self.old.board ≡ board.now }
         requires free { ¬ HoldsShard self.old (Shard.Terminators (shard_of k)) }

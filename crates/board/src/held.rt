@@ -3,7 +3,7 @@ ghost use Rattle.std.specs.Prelude.{◌≡◌, ◌↔◌, ◌<◌, Some, IfOk, I
 ghost use Rattle.shares.specs.Share.{IsWhole};
 ghost use Rattle.board.specs.Slots.{shard_at, slot_of};
 ghost use Rattle.board.specs.Seat.{HoldsShard, lost_of, with_shard, without_shard};
-ghost use Rattle.board.specs.Calls.{AnswersBusy, IsBusyShard, IsHeldBy, KnowsTruth};
+ghost use Rattle.board.specs.Calls.{AnswersBusy, IsBusyShard, IsHeldBy, IsPartOfKept, KnowsTruth};
 
 use crate::piece::Piece;
 use crate::seat::Seat;
@@ -23,7 +23,7 @@ pub struct Held<J: Job> {
 
 impl<J: Job> Model for Held<J> {
     ghost use Rattle.board.specs.Calls.{HeldShard, coded_held};
-    ghost use Rattle.board.specs.Inner.Pieces.{part_in};
+    ghost use Rattle.board.specs.Pieces.{part_in};
     ghost use Rattle.board.specs.Inner.Inside.{IsHeldPiece};
     ghost use Rattle.board.specs.Slots.{shard_at};
 
@@ -38,7 +38,7 @@ impl<J: Job> Model for Held<J> {
 
 impl<J: Job> Seat<J> {
     /// One try of the turn of a shard, which this seat does not hold. `Ok` gives the shard, which
-    /// has to be let go of; `Busy` where its turn stood taken. No other refusal comes.
+    /// has to be let go of; `Busy` if its turn was taken. No other refusal comes.
     pub fn hold(
         &mut self,
         board: &Board<J>,
@@ -51,6 +51,7 @@ impl<J: Job> Seat<J> {
         ensures shard { IfOk result (λ held. held.shard ≡ shard_at kind shard) }
         ensures won { IfOk result (λ held. self.new ≡ with_shard self.old held.shard held.value) }
         ensures held { IfOk result (λ held. IsHeldBy self.new held) }
+        ensures part { IfOk result (IsPartOfKept J.map J.seeds self.old) }
         ensures busy { IfErr result (IsBusyShard kind shard self.old self.new) }
         ensures lost { AnswersBusy result
             ↔ (lost_of self.old (shard_at kind shard) < lost_of self.new (shard_at kind shard)) }

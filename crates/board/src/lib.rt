@@ -1,10 +1,12 @@
-//! The state of a builder on a board that threads share: its 192 shards, each behind a turn of its
-//! own. A seat, one for each thread, takes the turn of one shard, makes one change there or looks
-//! at it, and gives the turn back. No call waits: where the turn stands taken, the call is refused.
+//! The state of a builder on a board that threads share: its 192 shards, each under a lock of its
+//! own, its turn. A seat, one for each thread, takes the turn of one shard, makes one change there
+//! or looks at it, and gives the turn back. No call waits: if the turn is taken, the call is
+//! refused.
 //!
-//! Each change that a call answers is one event of the builder's state, made while the shard's turn
-//! was held, and allowed by what all shards were together at that moment. So nothing is lost, and
-//! nothing is there that no event made.
+//! Each change that a call answers is one event of the builder's state, made while the seat held
+//! the shard's turn. Some kept state allows it: one that has that shard as its part, and in which
+//! every fact that the seat knew holds. The contract of a change says no more of the other shards.
+//! [`laws`] says that all shards together are a kept state between any two steps.
 //!
 //! - [`Board`]: all shards, which threads share by reference. The only seat closes it.
 //! - [`Seat`]: what one thread makes changes with. It may be split for another thread and joined

@@ -27,7 +27,7 @@ pub struct Try<J> {
 }
 
 impl<J: Job> Play<Option<Piece>, View> for Try<J> {
-    ghost use Rattle.board.specs.Inner.Plays.{Tries};
+    ghost use Rattle.board.specs.Plays.{Tries};
 
     ghost then = { Tries J.map J.seeds };
 }
@@ -36,7 +36,7 @@ impl<J: Job> Play<Option<Piece>, View> for Try<J> {
 pub struct Make;
 
 impl Play<Option<Piece>, View> for Make {
-    ghost use Rattle.board.specs.Inner.Plays.{Makes};
+    ghost use Rattle.board.specs.Plays.{Makes};
 
     ghost then = { Makes };
 }
@@ -45,7 +45,7 @@ impl Play<Option<Piece>, View> for Make {
 pub struct Learn;
 
 impl Play<Option<Piece>, View> for Learn {
-    ghost use Rattle.board.specs.Inner.Plays.{Learns};
+    ghost use Rattle.board.specs.Plays.{Learns};
 
     ghost then = { Learns };
 }
@@ -54,7 +54,7 @@ impl Play<Option<Piece>, View> for Learn {
 pub struct Leave;
 
 impl Play<Option<Piece>, View> for Leave {
-    ghost use Rattle.board.specs.Inner.Plays.{Leaves};
+    ghost use Rattle.board.specs.Plays.{Leaves};
 
     ghost then = { Leaves };
 }
@@ -63,7 +63,7 @@ impl Play<Option<Piece>, View> for Leave {
 pub struct Reach;
 
 impl Play<Option<Piece>, View> for Reach {
-    ghost use Rattle.board.specs.Inner.Plays.{Reaches};
+    ghost use Rattle.board.specs.Plays.{Reaches};
 
     ghost then = { Reaches };
 }
@@ -72,7 +72,7 @@ impl Play<Option<Piece>, View> for Reach {
 pub struct Return;
 
 impl Play<Option<Piece>, View> for Return {
-    ghost use Rattle.board.specs.Inner.Plays.{Returns};
+    ghost use Rattle.board.specs.Plays.{Returns};
 
     ghost then = { Returns };
 }
@@ -81,7 +81,7 @@ impl Play<Option<Piece>, View> for Return {
 pub struct Halves;
 
 impl Split<View> for Halves {
-    ghost use Rattle.board.specs.Inner.Plays.{half_view, new_view};
+    ghost use Rattle.board.specs.Plays.{half_view, new_view};
 
     ghost left = { half_view };
 
@@ -92,7 +92,7 @@ impl Split<View> for Halves {
 pub struct Added;
 
 impl Join<View> for Added {
-    ghost use Rattle.board.specs.Inner.Plays.{both_view, spent_view};
+    ghost use Rattle.board.specs.Plays.{both_view, spent_view};
 
     ghost both = { both_view };
 

@@ -15,9 +15,10 @@ use std::marker::{Model, PhantomData};
 /// The right to take turns on a board, for one thread. It is used with the [`Board`] that it came
 /// from alone.
 ///
-/// Contracts see which board that is, the seat's share of the whole, how often its tries won, and
-/// were lost at each shard, which shards it holds, the turn that it gave back last, and the parts
-/// of the state that it has seen. It knows the facts that one of them shows.
+/// Contracts see that board, the seat's share of the whole, how often its tries won, and how often
+/// they were lost at each shard. They also see which shards it holds, the turn that it gave back
+/// last, and the parts of the state that it has seen. It knows the facts that one of these parts
+/// shows.
 #[derive(Drop)]
 pub struct Seat<J: Job> {
     pub(crate) seat: TableSeat,

@@ -16,8 +16,8 @@ ghost use Rattle.board.specs.Seat.{Knows, HoldsShard, lost_of, found};
 ghost use Rattle.board.specs.Calls.{LookedAt, AnswersBusy, IsBusyAt};
 ghost use Rattle.board.specs.Calls.{Stays, KnowsTruth, shown_waiter};
 ghost use Rattle.board.specs.Inner.Inside.{IsOut};
-ghost use Rattle.board.specs.Inner.Plays.{shown_next};
-ghost use Rattle.board.specs.Inner.Pieces.{part_in};
+ghost use Rattle.board.specs.Plays.{shown_next};
+ghost use Rattle.board.specs.Pieces.{part_in};
 
 use crate::piece::Piece;
 use crate::seat::Seat;
@@ -30,7 +30,7 @@ use core_state::{Job, PlaceEnd, ShardKind, shard};
 trait Sight<A> {
     ghost use Rattle.cfg_model.specs.Builder.Shard.{Shard};
     ghost use Rattle.cfg_model.specs.Builder.State.{BuilderState};
-    ghost use Rattle.board.specs.Inner.Pieces.{part_in, IsLike};
+    ghost use Rattle.board.specs.Pieces.{part_in, IsLike};
 
     /// The shard that it reads.
     ghost place: { Self → Shard };
@@ -244,7 +244,7 @@ impl Sight<(bool, Option<u64>)> for StartsFrom {
 // by the answer, and `read_back` what the answer is by what the seat knew. No read wants memory.
 
 impl<J: Job> Seat<J> {
-    /// The start of the block that ends at `k`; `None` where no block is known to.
+    /// The start of the block that ends at `k`; `None` if no block is known to.
     pub fn near(&mut self, board: &Board<J>, k: u64) -> Result<Option<u64>, PlaceEnd>
         requires own { self.old.board ≡ board.now }
         requires free { ¬ HoldsShard self.old (Shard.Ends (shard_of k)) }
@@ -267,7 +267,7 @@ impl<J: Job> Seat<J> {
         look(self, board, ShardKind::Ends, k, &Near { k })
     }
 
-    /// The least displaced start of the end `k`; `None` where there is none.
+    /// The least displaced start of the end `k`; `None` if there is none.
     pub fn moved(&mut self, board: &Board<J>, k: u64) -> Result<Option<u64>, PlaceEnd>
         requires own { self.old.board ≡ board.now }
         requires free { ¬ HoldsShard self.old (Shard.Ends (shard_of k)) }
@@ -290,8 +290,8 @@ impl<J: Job> Seat<J> {
     }
 
     /// The first waiter that is to be told that `k` returns: the one with the least terminator, and
-    /// `Follow` before `Release`. `None` where `k` is not known to return or no waiter is left to
-    /// be told.
+    /// `Follow` before `Release`. `None` if `k` is not known to return or no waiter is left to be
+    /// told.
     pub fn untold(&mut self, board: &Board<J>, k: u64) -> Result<Option<Waiter>, PlaceEnd>
         requires own { self.old.board ≡ board.now }
         requires free { ¬ HoldsShard self.old (Shard.Terminators (shard_of k)) }
@@ -333,8 +333,8 @@ impl<J: Job> Seat<J> {
         Ok(next)
     }
 
-    /// The least start above `a` in the line of 64 bytes that `a` lies in; `None` where none is
-    /// known there.
+    /// The least start above `a` in the line of 64 bytes that `a` lies in; `None` if none is known
+    /// there.
     pub fn start_behind(&mut self, board: &Board<J>, a: u64) -> Result<Option<u64>, PlaceEnd>
         requires own { self.old.board ≡ board.now }
         requires free { ¬ HoldsShard self.old (Shard.Starts (shard_of a)) }
@@ -357,7 +357,7 @@ impl<J: Job> Seat<J> {
     }
 
     /// Whether `a` is a start, and the least start above it in the line of 64 bytes that it lies
-    /// in, `None` where there is none: both in one turn.
+    /// in, `None` if there is none: both in one turn.
     pub fn starts_from(&mut self, board: &Board<J>, a: u64) -> Result<(bool, Option<u64>), PlaceEnd>
         requires own { self.old.board ≡ board.now }
         requires free { ¬ HoldsShard self.old (Shard.Starts (shard_of a)) }

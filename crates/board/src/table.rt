@@ -9,7 +9,7 @@ ghost use Rattle.cfg_model.specs.Builder.State.{BuilderState, empty_state};
 ghost use Rattle.board.specs.Seat.{HoldsNothing, Knows, first_seat};
 ghost use Rattle.board.specs.Inner.Closing.{AreOf, starts_room, ends_room, terms_room};
 ghost use Rattle.board.specs.Inner.Closing.{starts_with, ends_with, terms_with};
-ghost use Rattle.board.specs.Inner.Pieces.{piece_in};
+ghost use Rattle.board.specs.Pieces.{piece_in};
 
 use crate::piece::Piece;
 use crate::rule::Ruled;
@@ -22,8 +22,8 @@ use core_state::{Ends, Job, Memory, Starts, State, Terms};
 use std::alloc::Global;
 use std::marker::Model;
 
-/// The state of a builder that works for `J`, in 192 shards behind turns. Threads share it by
-/// reference. Contracts see which board it is.
+/// The state of a builder that works for `J`, in 192 shards, each under a lock, its turn. Threads
+/// share it by reference. Contracts see which board it is.
 #[derive(Drop)]
 pub struct Board<J: Job> {
     pub(crate) table: Table<Option<Piece>, View, (), Ruled<J>, Global>,
@@ -46,7 +46,7 @@ impl<J: Job> Model for Board<J> {
 
 impl<J: Job> Board<J> {
     /// A board on which nothing is known, and the only seat. The program `code` is the one that `J`
-    /// works on. [`Memory`] where memory ran out.
+    /// works on. [`Memory`] if memory ran out.
     pub fn new<C: Chains>(alloc: Global, code: &C) -> Result<(Board<J>, Seat<J>), Memory>
         requires code { C.map code.now ≡ J.map }
         requires seeds { AreSeeds J.map J.seeds }
@@ -61,8 +61,8 @@ impl<J: Job> Board<J> {
         Ok((Board { table }, Seat::of(seat)))
     }
 
-    /// All shards together as one state, of which no change is counted. The seat is the only one
-    /// and holds nothing. After [`Memory`] the state is gone.
+    /// All shards together as one state, whose count of changes is 0. The seat is the only one and
+    /// holds nothing. After [`Memory`] the state is gone.
     pub fn close(self, alloc: Global, seat: Seat<J>) -> Result<State, Memory>
         requires own { seat.board ≡ self }
         requires only { IsWhole seat.share }
@@ -80,7 +80,7 @@ impl<J: Job> Board<J> {
     }
 }
 
-/// The turn words and the event words: no turn stands taken.
+/// The turn words and the event words: no turn is taken.
 fn free_words(alloc: Global) -> Result<Vec<u64>, Memory>
     ensures { IfOk result (λ words. words.items ≡ replicate 1544 0) }
 {

@@ -4,8 +4,8 @@ ghost use Rattle.cfg_model.specs.Program.Instructions.{IsLawful};
 ghost use Rattle.board.specs.Slots.{slot_of, shard_at, shard_in};
 ghost use Rattle.board.specs.Seat.{HasSlot};
 ghost use Rattle.board.specs.Inner.Inside.{IsSettled, IsMade, IsShown, IsOut, IsInPlace};
-ghost use Rattle.board.specs.Inner.Pieces.{part_in};
-ghost use Rattle.board.specs.Inner.Plays.{Takes, Loses, values_at, giving, changed, learned};
+ghost use Rattle.board.specs.Pieces.{part_in};
+ghost use Rattle.board.specs.Plays.{Takes, Loses, values_at, giving, changed, learned};
 
 use crate::piece::Piece;
 use crate::rule::{Learn, Leave, Make, Reach, Return, Try};
@@ -25,8 +25,8 @@ pub(crate) const SLOTS: usize = 3 * SHARDS;
 /// Words from one turn word to the next, so that each slot has a cache line of its own.
 const STRIDE: usize = 8;
 
-/// Where the event word of the first slot lies: right behind its turn word, in the same cache line,
-/// so that a change, which steps on both, moves one line between processors.
+/// Where the event word of the first slot lies: right after its turn word, in the same cache line.
+/// A change steps on both, so it moves one line between processors.
 const EVENTS: usize = STRIDE + 1;
 
 /// How many words there are: eight in front and eight of each slot, so that nothing else lies in a

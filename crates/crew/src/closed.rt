@@ -18,11 +18,11 @@ use std::thread::Threads;
 use steal_pool::Pool;
 use work_ops::finish;
 
-/// The state that `workers` workers leave who build the graph of the program `code` from `seeds`,
-/// each in a thread of its own. It is kept; whatever work is left in it, [`finish`] finds. Where a
-/// thread cannot be started, its worker works when another one has ended. It may wait, for workers
-/// and for their tries. [`Memory`] where memory ran out: where it ran out for a worker, that worker
-/// ends, and the state is what all have made of it.
+/// The state that `workers` workers leave. They build the graph of the program `code` from `seeds`,
+/// each in a thread of its own. The state is kept, and [`finish`] finds the work that is left in
+/// it. If a thread cannot be started, its worker works after another one has ended. The call may
+/// wait, for workers and for their tries. [`Memory`] if memory ran out. If it ran out for one
+/// worker alone, that worker ends, and the state is what all have made of it.
 pub fn work<R: Threads + Wait + Sync, C: Chains, G: Gate>(
     rt: &R,
     alloc: Global,
@@ -40,9 +40,9 @@ pub fn work<R: Threads + Wait + Sync, C: Chains, G: Gate>(
     work_for::<Brand, R, C, G>(rt, alloc, code, seeds, workers, gate)
 }
 
-/// The closed state of the program `code` whose seeds are `seeds`, built by `workers` workers. As
-/// many threads look whether they left anything, and what they left is finished on the caller's
-/// thread. It may wait as [`work`] does. [`Memory`] where memory ran out.
+/// A closed state of the program `code` whose seeds are `seeds`, built by `workers` workers.
+/// `workers` threads then look for work that is left, and the caller's thread does it. It may wait
+/// as [`work`] does. [`Memory`] if memory ran out.
 pub fn build<R: Threads + Wait + Sync, C: Chains, G: Gate>(
     rt: &R,
     alloc: Global,

@@ -90,7 +90,7 @@ impl<'a, J: Job, S: Station> Desk<'a, J, S> {
         (self.seat, self.hand)
     }
 
-    /// A name of work: the newest that it keeps for itself, or else the oldest of a deque.
+    /// A work item: the newest that it keeps for itself, or else the oldest of a deque.
     pub(crate) fn take<R: Wait>(&mut self, rt: &R, pool: &Pool) -> Option<Name>
         requires { pool.now.deques ≡ S.deques }
     {
@@ -103,7 +103,7 @@ impl<'a, J: Job, S: Station> Desk<'a, J, S> {
         Some(name)
     }
 
-    /// Takes the newest name that it keeps for itself, where it is this one. Whether it was.
+    /// Takes the newest name that it keeps for itself, if it is this one. Whether it was.
     pub(crate) fn take_newest(&mut self, name: Name) -> bool
         ensures { self.new ≡ self.old }
     {
@@ -147,7 +147,7 @@ impl<'a, J: Job, S: Station> Desk<'a, J, S> {
         add_one(&mut self.tally.made);
     }
 
-    /// The next start in the line of `a`, where it was the line of `a` that was seen last.
+    /// The next start in the line of `a`, if it was the line of `a` that was seen last.
     fn seen_behind(&self, a: u64) -> Option<Option<u64>>
         ensures behind { IfSome result (λ next. IfSome next (λ t. a < t)) }
         ensures start { IfSome result

@@ -1,4 +1,4 @@
-//! A gate in front of each operation of a worker, by which a test holds workers.
+//! A gate before each operation of a worker, by which a test holds workers.
 
 use crate::tally::Tally;
 use core_state::WorkKind;

@@ -7,9 +7,9 @@ use core_state::{Memory, Name, WorkKind};
 use std::alloc::Global;
 use steal_pool::{Hand, Hands, Pool};
 
-/// All hands of a new pool, each with the names of its share of the seeds: the seeds rise, and the
-/// shares lie side by side and are as large as one another, or nearly so. So what a worker finds
-/// lies most often in its own part of the code, and others seldom write the memory that it reads.
+/// All hands of a new pool, each with the names of its share of the seeds. The seeds rise. The
+/// shares lie side by side and are of about the same size. So what a worker finds lies most often
+/// in its own part of the code, and others seldom write the memory that it reads.
 pub(crate) fn dealt(
     alloc: Global,
     pool: &Pool,
@@ -30,9 +30,9 @@ pub(crate) fn dealt(
     Ok(all)
 }
 
-/// Puts the names of these seeds into the hand, the last one first: of many seeds on one run of
-/// instructions each finds its neighbour in front of it then. A name that comes back is dropped,
-/// and its work is found when all workers have ended.
+/// Puts the names of these seeds into the hand, the last one first. So each of many seeds on one
+/// run of instructions finds its neighbour before it. A name that comes back is dropped, and its
+/// work is found when all workers have ended.
 fn deal(hand: &mut Hand, seeds: &[u64])
     ensures { IsSameHand hand.old hand.new }
 {

@@ -12,14 +12,14 @@ const PLACES: usize = 4096;
 /// What stands at a place that keeps none: an odd address, which no instruction has.
 const NONE: u64 = u64::MAX;
 
-/// Addresses of which a worker knows some one thing: the last one for each place that addresses are
-/// spread over. What is asked of a place that threads share costs a turn of a shard, and most of
-/// what a worker asks it knew a moment ago: that the start which it found is one, that the
-/// terminator of many starts of one function is entered, and that one which waits at several others
-/// returns.
+/// Addresses of which a worker knows one thing: the last one for each place that addresses are
+/// spread over. Each question to a place that threads share costs a turn of a shard, and a worker
+/// knew most of the answers a moment ago. It knew that the start which it found is one. It knew
+/// that the terminator of many starts of one function is entered. It knew that a terminator which
+/// waits at several others returns.
 #[derive(Drop)]
 pub(crate) struct Known {
-    /// Empty where memory for it was missing: then none is kept in mind.
+    /// Empty if memory for it was missing: then none is kept in mind.
     places: Vec<u64>,
 }
 
@@ -55,7 +55,7 @@ impl Known {
         }
     }
 
-    /// Keeps the address in mind, where there is one.
+    /// Keeps the address in mind, if there is one.
     pub(crate) fn note_some(&mut self, a: Option<u64>)
         ensures { (b : ℕ) → Minds self.new b → Minds self.old b ⊎ (a ≡ Some b) }
     {
@@ -64,7 +64,7 @@ impl Known {
         }
     }
 
-    /// Whether the address is kept in mind. Where it is not, nothing is said of it.
+    /// Whether the address is kept in mind. If it is not, nothing is said of it.
     pub(crate) fn has(&self, a: u64) -> bool
         ensures { IsTrue result → Minds self.now a }
     {

@@ -1,4 +1,4 @@
-//! Doing the work of a name, of which nothing is known but the name.
+//! Doing the work of a name, if only the name is known.
 
 ghost use Rattle.std.specs.Prelude.{◌≡◌, ◌≤◌, IfOk, IfErr, IfSome, IsTrue, IsSome};
 ghost use Rattle.cfg_model.specs.Program.Chain.{IsTerminator, IsTerminatorOf};
@@ -14,12 +14,11 @@ use cfg_model::{Chains, Flow, term};
 use core_state::{Job, Name, Place, PlaceEnd, WorkKind};
 use work_ops::{edges_op, move_op, parse_op, tell_op, want_op};
 
-/// Does the work of a name. A name says nothing of the state, whoever put it: so the worker looks
-/// first whether there is such a seed, start or terminator, and where there is none it does
-/// nothing.
+/// Does the work of a name. A name says nothing of the state. So the worker looks first for such a
+/// seed, start or terminator, and does nothing if there is none.
 ///
-/// Where it followed a chain, it gives the terminator there, if it found that its edges have to be
-/// followed and keeps that name no more.
+/// If it followed a chain and found that the edges of the terminator there have to be followed, it
+/// gives that terminator and no longer keeps that name.
 pub(crate) fn do_named<J: Job, S: Station, C: Chains>(
     desk: &mut Desk<J, S>,
     code: &C,
@@ -44,7 +43,7 @@ pub(crate) fn do_named<J: Job, S: Station, C: Chains>(
     Ok(None)
 }
 
-/// Makes `s` a start, where it is a seed.
+/// Makes `s` a start, if it is a seed.
 fn want_seed<J: Job, S: Station, C: Chains>(
     desk: &mut Desk<J, S>,
     code: &C,
@@ -62,8 +61,8 @@ fn want_seed<J: Job, S: Station, C: Chains>(
     }
 }
 
-/// Follows the chain of `s` to its end, where `s` is a start. Gives the terminator, where the name
-/// of its edges was the last that it found and it does not remember to have followed them.
+/// Follows the chain of `s` to its end, if `s` is a start. Gives the terminator, if the name of its
+/// edges was the last that it found and it does not remember to have followed them.
 fn parse_start<J: Job, S: Station, C: Chains>(
     desk: &mut Desk<J, S>,
     code: &C,
@@ -100,7 +99,7 @@ fn end_of<J: Job, C: Chains>(code: &C, s: u64) -> u64
     term(code, s)
 }
 
-/// Follows the edges of `k`, where `k` is a terminator at which a block ends.
+/// Follows the edges of `k`, if `k` is a terminator at which a block ends.
 fn follow_edges<J: Job, S: Station, C: Chains>(
     desk: &mut Desk<J, S>,
     code: &C,

@@ -39,8 +39,8 @@ impl Mind {
         }
     }
 
-    /// A waiter of the terminator `k`, which returns, that the worker has placed there, and of
-    /// which it need not ask anything. Others may have told it in the meantime.
+    /// A waiter of the terminator `k`, which returns. The worker has placed it there, and need not
+    /// ask for it. Others may have told it in the meantime.
     pub(crate) fn waiter_of(&self, k: u64) -> Option<Waiter>
         ensures placed { IfSome result (λ w. IsPlaced self.now.waiting k w) }
         ensures returned { IfSome result (λ _. Minds self.now.returned k) }

@@ -1,4 +1,4 @@
-//! The names of work that a worker found and keeps for itself.
+//! The work items that a worker found and keeps for itself.
 
 ghost use Rattle.steal_pool.specs.Pool.{IsSameHand};
 
@@ -31,7 +31,7 @@ impl Names {
         self.names.pop_back()
     }
 
-    /// Takes the newest name, where it is this one. Whether it was.
+    /// Takes the newest name, if it is this one. Whether it was.
     pub(crate) fn take_newest(&mut self, name: Name) -> bool {
         if self.names.back() != Some(&name) {
             return false;
@@ -40,9 +40,9 @@ impl Names {
         true
     }
 
-    /// Keeps a name. Where there are many already, the oldest goes into the deque of `hand`; where
-    /// that gives it back, or memory is missing, the new name is dropped, and its work is found
-    /// when all workers have ended.
+    /// Keeps a name. If there are many already, the oldest goes into the deque of `hand`. If that
+    /// gives it back, or memory is missing, the new name is dropped; its work is found after all
+    /// workers have ended.
     pub(crate) fn keep(&mut self, hand: &mut Hand, tally: &mut Tally, name: Name)
         ensures { IsSameHand hand.old hand.new }
     {
@@ -69,8 +69,7 @@ impl Names {
         true
     }
 
-    /// Puts a name off: into the deque, behind all that lie there. Where that gives it back it is
-    /// kept.
+    /// Puts a name off: into the deque, after all others. If that gives it back it is kept.
     pub(crate) fn put_off(&mut self, hand: &mut Hand, tally: &mut Tally, name: Name)
         ensures { IsSameHand hand.old hand.new }
     {

@@ -3,8 +3,8 @@
 use std::marker::Brand;
 
 /// What a worker was given and has to give back: a seat of this board with this share, and the hand
-/// with this number of this pool. An operation is done on a desk of which it knows nothing else, so
-/// the desk's type says it. It has no function, and contracts alone see it.
+/// with this number of this pool. An operation knows nothing else of its desk, so the desk's type
+/// says it. It has no function, and contracts alone see it.
 pub(crate) trait Station {
     ghost use Rattle.std.specs.Prelude.{ℕ, List};
     ghost use Rattle.shares.specs.Share.{Share};

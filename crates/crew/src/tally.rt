@@ -1,14 +1,14 @@
 //! What a worker counts of its own work.
 
-/// What a worker counted of its own work, for those who measure. It counts by itself: no other
-/// worker reads its counts or waits for them. Each stops at 2^64 - 1.
+/// What a worker counted of its own work, as measurements. It counts by itself: no other worker
+/// reads its counts or waits for them. Each stops at 2^64 - 1.
 #[derive(Clone, Copy, Debug, Default, PartialEq, Eq)]
 pub struct Tally {
     /// Tries to take the turn of a shard.
     pub tries: u64,
     /// Those of them that found the shard in other hands. The operation was made again later.
     pub lost: u64,
-    /// Names of work that it found and kept for itself.
+    /// Work items that it found and kept for itself.
     pub kept: u64,
     /// Names that it put into its deque: of those that it kept, and those that it put off.
     pub put: u64,
@@ -22,7 +22,7 @@ pub struct Tally {
     pub made: u64,
 }
 
-/// One more, where that is a number.
+/// One more, if that is a number.
 pub(crate) fn add_one(count: &mut u64) {
     *count = count.saturating_add(1);
 }

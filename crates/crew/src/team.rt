@@ -20,8 +20,8 @@ use steal_pool::Hand;
 pub(crate) type Back<J> = (Seat<J>, Vec<Hand>);
 
 /// Lets a worker work for each of these hands, in a thread of its own, the first with this number.
-/// The seat is split for them, and joined as it was split. [`Memory`] where memory ran out: then
-/// the seat and the hands are gone.
+/// The seat is split for them, and joined as it was split. [`Memory`] if memory ran out: then the
+/// seat and the hands are gone.
 pub(crate) fn employ_all<J: Job + Send + Sync, R: Threads + Wait + Sync, C: Chains, G: Gate>(
     alloc: Global,
     hall: &Hall<J, R, C, G>,

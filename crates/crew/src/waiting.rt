@@ -16,7 +16,7 @@ const PLACES: usize = 1024;
 /// too, and soon after.
 #[derive(Drop)]
 pub(crate) struct Waiting {
-    /// Empty where memory for it was missing: then none is kept in mind.
+    /// Empty if memory for it was missing: then none is kept in mind.
     places: Vec<Option<Placed>>,
 }
 

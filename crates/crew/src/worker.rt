@@ -66,7 +66,7 @@ fn stay<J: Job, S: Station, R: Wait, C: Chains, G: Gate>(
     desk.into_parts()
 }
 
-/// Works until no name was found so many times in a row, or memory ran out.
+/// Works until no name was found this many times in a row, or memory ran out.
 fn work_off<J: Job, S: Station, R: Wait, C: Chains, G: Gate>(
     hall: &Hall<J, R, C, G>,
     desk: &mut Desk<J, S>,
@@ -98,9 +98,9 @@ fn work_off<J: Job, S: Station, R: Wait, C: Chains, G: Gate>(
     }
 }
 
-/// Does the work of a name. Whether it was done: where a shard was in other hands at each of a few
-/// tries, the work is put off. Whoever holds the shard may itself be held up by the system, for
-/// milliseconds: the others do what does not need that shard meanwhile.
+/// Does the work of a name. Whether it was done: if a shard was in other hands at each of a few
+/// tries, the work is put off. The system may hold up the holder of the shard for milliseconds; the
+/// others do what does not need that shard meanwhile.
 fn do_or_put_off<J: Job, S: Station, R: Wait, C: Chains, G: Gate>(
     hall: &Hall<J, R, C, G>,
     desk: &mut Desk<J, S>,
@@ -134,7 +134,7 @@ fn do_or_put_off<J: Job, S: Station, R: Wait, C: Chains, G: Gate>(
 }
 
 /// Follows the edges of the terminator `k`, which the worker has just entered: so it need not look
-/// whether it is one. Where a shard is in other hands, the name is kept for later.
+/// whether it is one. If a shard is in other hands, the name is kept for later.
 fn go_on<J: Job, S: Station, R: Wait, C: Chains, G: Gate>(
     hall: &Hall<J, R, C, G>,
     desk: &mut Desk<J, S>,

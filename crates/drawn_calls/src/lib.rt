@@ -1,7 +1,7 @@
 //! Calls side by side, whose numbers threads draw one after another.
 //!
-//! Where the calls are cut into one fixed piece for each thread, all wait for the slowest one, and
-//! for one that begins late. Here a thread that is done with a number draws the next, so fast threads
+//! If the calls are cut into one fixed piece for each thread, all wait for the slowest one, and for
+//! one that begins late. Here a thread that is done with a number draws the next, so fast threads
 //! make more calls.
 //!
 //! Nothing is known of the counter: what the threads made is put in place by its number, and what
@@ -19,8 +19,8 @@ use std::marker::{Send, Sync};
 use std::sync::atomic::{AtomicUsize, Ordering};
 use std::thread::Threads;
 
-/// Calls `f` at each number below `count` and gives the results in order. So many threads, the
-/// caller's among them, draw the numbers one after another, and no more of them than there are
+/// Calls `f` at each number below `count` and gives the results in order. `threads` threads, the
+/// caller's among them, draw the numbers one after another, but no more threads than there are
 /// numbers. With one thread or one number no other is started. The stack grows with the number of
 /// threads. On [`AllocError`], which means that memory ran out, the results are dropped.
 ///
@@ -45,8 +45,8 @@ pub fn map_drawn<R: Threads + Sync, X: Send + Drop, F: Fn(usize) -> X + Sync>(
     in_order(alloc, lists, count, f)
 }
 
-/// The results at the numbers below `count` that this thread draws, each with its number. Where
-/// memory runs out it draws no more.
+/// The results at the numbers below `count` that this thread draws, each with its number. If memory
+/// runs out it draws no more.
 fn drawn<X: Drop, F: Fn(usize) -> X>(
     alloc: Global,
     next: &AtomicUsize,
@@ -88,7 +88,7 @@ fn in_order<X: Drop, F: Fn(usize) -> X>(
     all_results(alloc, places, f)
 }
 
-/// So many empty places.
+/// This many empty places.
 fn no_results<X: Drop>(alloc: Global, count: usize) -> Result<Vec<Option<X>>, AllocError>
     ensures len { IfOk result (λ v. vec_len v ≡ count) }
     ensures empty { IfOk result (λ v. All (λ place. place ≡ None) v.items) }
@@ -122,7 +122,7 @@ fn put<X: Drop, F: Fn(usize) -> X>(places: &mut [Option<X>], i: usize, value: X,
     places[i] = Some(value);
 }
 
-/// What stands in the places, with the results made now where none does.
+/// What stands in the places, with the results made now if none does.
 fn all_results<X: Drop, F: Fn(usize) -> X>(
     alloc: Global,
     places: Vec<Option<X>>,

@@ -10,7 +10,7 @@ use std::marker::{Send, Sync};
 use std::thread::{Threads, join_mut};
 
 /// Calls `f(start, chunk)` at each chunk that `s.chunks_mut(size)` has, each but the last on a
-/// thread of its own, or on the caller's where none can be made. The stack grows with the number of
+/// thread of its own, or on the caller's if none can be made. The stack grows with the number of
 /// chunks.
 pub fn for_each_chunk_mut<R: Threads + Sync, T: Send, F: Fn(usize, &mut [T]) + Sync>(
     rt: &R,

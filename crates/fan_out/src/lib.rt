@@ -1,8 +1,8 @@
 //! Calls side by side, each on a thread of its own.
 //!
 //! `std::thread::map_indices` and `for_each_chunk_mut` halve their calls, and start half of the
-//! threads from threads that they have just started. Linux may lay such a thread on the processor of
-//! the one that started it, where it waits for milliseconds beside idle processors. Here the caller
+//! threads from threads that they have just started. Linux may lay such a thread on the processor
+//! of the one that started it, if it waits for milliseconds beside idle processors. Here the caller
 //! starts all threads itself.
 #![tactic(auto)]
 
@@ -19,8 +19,8 @@ mod chunks;
 pub use chunks::for_each_chunk_mut;
 
 /// Calls `f` at each number below `count`, each but the first on a thread of its own, or on the
-/// caller's where none can be made, and gives the results in order. The stack grows with `count`.
-/// On [`AllocError`], which means that memory ran out, the results are dropped.
+/// caller's if none can be made, and gives the results in order. The stack grows with `count`. On
+/// [`AllocError`], which means that memory ran out, the results are dropped.
 pub fn map_indices<R: Threads + Sync, X: Send + Drop, F: Fn(usize) -> X + Sync>(
     rt: &R,
     alloc: Global,

@@ -48,7 +48,7 @@ IsSame s t = s.parts * 2 ^ t.power ≡ t.parts * 2 ^ s.power
 abbrev pub AddUpToOne : List Share → Type 0
 AddUpToOne ss = IsWhole (total ss)
 
--- How a proof stores a share, where it is ghost data of a struct.
+-- How a proof stores a share, if it is ghost data of a struct.
 abbrev pub share_coded : Coded Share
 share_coded = coded_via (coded× coded_ℕ coded_ℕ) (λ (s : Share). (s.parts, s.power))
     (λ x y e i. record { parts = (e i).0; power = (e i).1 })

@@ -7,7 +7,7 @@ use Rattle.shares.specs.Share.{IsSame, AddUpToOne}
 abbrev pub WholeAddsUp : Type 0
 WholeAddsUp = AddUpToOne (whole ∷ [])
 
--- The i-th share is cut in two: half of it stays, and half goes to a new seat behind all others.
+-- The i-th share is cut in two: half of it stays, and half goes to a new seat after all others.
 abbrev pub SplitAddsUp : Type 0
 SplitAddsUp = (ss : List Share) (i : ℕ) (s : Share) → slice_get ss i ≡ Some s → AddUpToOne ss
     → AddUpToOne (slice_set ss i (half s) ++ half s ∷ [])
@@ -18,7 +18,7 @@ JoinAddsUp = (ss : List Share) (i j : ℕ) (s t : Share)
     → slice_get ss i ≡ Some s → slice_get ss j ≡ Some t → j ≢ i
     → AddUpToOne ss → AddUpToOne (slice_set (slice_set ss i (both s t)) j nothing)
 
--- Where the i-th share is whole, every other one is spent.
+-- If the i-th share is whole, every other one is spent.
 abbrev pub WholeLeavesNothing : Type 0
 WholeLeavesNothing = (ss : List Share) (i j : ℕ) (s t : Share)
     → slice_get ss i ≡ Some s → slice_get ss j ≡ Some t → j ≢ i

@@ -20,8 +20,7 @@ pub fn a_split_adds_up()
     ensures { SplitAddsUp }
 {}
 
-/// Shares that add up to one still do after two of them are joined, and nothing stays in the place
-/// of the second.
+/// Shares that add up to one still do after two of them are joined and the second is gone.
 pub fn a_join_adds_up()
     ensures { JoinAddsUp }
 {}
@@ -31,13 +30,13 @@ pub fn a_whole_share_leaves_nothing()
     ensures { WholeLeavesNothing }
 {}
 
-/// The halves of a share together are that share again, which is whole where the share was.
+/// The halves of a share together are that share again, which is whole if the share was.
 pub fn halves_are_all_of_it()
     ensures { HalvesAreAll }
 {}
 
-/// Shares of the same part of the whole: each share is one with itself, in both directions, and by
-/// way of a third; one of them is whole where the other is; and what is joined to either comes to
+/// Two shares may stand for the same part of the whole. This relation is reflexive, symmetric and
+/// transitive. One of two such shares is whole if the other is. Joining a share to either comes to
 /// the same.
 pub fn shares_may_be_written_otherwise()
     ensures equivalence { SameIsEquivalence }

@@ -15,7 +15,7 @@ use Rattle.steal_pool.specs.declared.end.End.{End}
 use Rattle.steal_pool.specs.declared.end.Row.{Row}
 use Rattle.steal_pool.specs.Often.{EachAsOften}
 use Rattle.steal_pool.specs.Pool.{DequeId, HandValue, PoolValue, AreAllHands, IsLeftInOrder}
-use Rattle.steal_pool.specs.inner.Rule.{note, HasAll, AreNext}
+use Rattle.steal_pool.specs.Rule.{note, HasAll, AreNext}
 use Rattle.steal_pool.specs.inner.Ends.{deque_of, note_of, IsWired, IsPlaced, IsWell, ends_weight}
 use Rattle.steal_pool.specs.inner.Building.{whole_of, IsApart, AreApart, IsJoined, AreJoined, IsDrained, AreDrained, Each}
 use Rattle.steal_pool.proofs.Making.{map_from}

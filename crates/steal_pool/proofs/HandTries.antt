@@ -18,7 +18,7 @@ use Rattle.steal_pool.specs.Rose.{Rose, greatest_count}
 use Rattle.steal_pool.specs.Tries.{MatchTried, Misses}
 use Rattle.steal_pool.specs.Pool.{HandValue, IsOnly, IsSameHand}
 use Rattle.steal_pool.specs.Taking.{TryOfHand, CountsTry, CountsLast, empties_at, beaten_at}
-use Rattle.steal_pool.specs.inner.Rule.{note, HasAll, AreNext}
+use Rattle.steal_pool.specs.Rule.{note, HasAll, AreNext}
 use Rattle.steal_pool.specs.inner.Ends.{deque_of, note_of, IsWired, IsPlaced, OwnsPart, IsWell, ends_weight}
 use Rattle.steal_pool.proofs.Lists.{got_set, map_same, map_set, sum_got, got_behind, often_length}
 

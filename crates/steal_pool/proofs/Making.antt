@@ -14,7 +14,7 @@ use Rattle.steal_pool.specs.declared.note.Note.{Note}
 use Rattle.steal_pool.specs.declared.end.End.{End}
 use Rattle.steal_pool.specs.declared.end.Row.{Row}
 use Rattle.steal_pool.specs.Pool.{DequeId, HandValue, PoolValue, IsFresh, AreFresh}
-use Rattle.steal_pool.specs.inner.Rule.{note}
+use Rattle.steal_pool.specs.Rule.{note}
 use Rattle.steal_pool.specs.inner.Ends.{deque_of, note_of, first_room, IsWired, IsPlaced, OwnsPart, IsWell, ends_weight}
 use Rattle.steal_pool.specs.inner.Building.{whole_of, IsNew, AreOwners, AreEnds, AreRows}
 use Rattle.steal_pool.proofs.Lists.{got_set, got_snoc, map_same, take_next}

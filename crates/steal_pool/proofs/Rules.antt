@@ -9,7 +9,8 @@ use Rattle.crossbeam_deque.proofs.Lists.{at_set, at_snoc, set_again}
 use Rattle.core_state.specs.declared.answer.Name.{Name}
 use Rattle.steal_pool.specs.declared.note.Note.{Note}
 use Rattle.steal_pool.specs.Often.{EachAsOften}
-use Rattle.steal_pool.specs.inner.Rule.{note, parts_of, taken_weight, Fits, Kept, HasAll, AreNext}
+use Rattle.steal_pool.specs.Rule.{note, parts_of, taken_weight, Fits, Kept, HasAll, AreNext}
+use Rattle.steal_pool.specs.PoolLaws.{NothingIsTakenTwice, FirstLeaveFirst}
 use Rattle.steal_pool.proofs.Sums.{sum_set, sum_only}
 
 abbrev parts : Note → ℕ
@@ -134,3 +135,16 @@ gathers port v other w owns items notes kept at two at' =
           omega (arith, sum_by-append weight v.taken w.taken)),
       all_set F mid other spent ((λ _. refl), λ h. absurd (omega arith)) (λ j u apart e. now j u e apart),
     )
+
+-- The laws of a deque.
+pub nothing_twice : NothingIsTakenTwice
+nothing_twice items notes kept port owner at owns weight =
+    let put = ((kept.3 port owner at).1 owns).2 in
+    ap (sum_by weight) put ∙ (sum_by-append weight kept.1 items ∙ ap (λ (n : ℕ). n + sum_by weight items) (sym (kept.2 weight)))
+
+pub first_first : FirstLeaveFirst
+first_first items notes kept port owner at owns = record {
+  left = kept.1;
+  put_is = ((kept.3 port owner at).1 owns).2;
+  taken = kept.2;
+}

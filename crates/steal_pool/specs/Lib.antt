@@ -1,4 +1,6 @@
 pub mod Often
+pub mod Rule
+pub mod PoolLaws
 pub mod Rose
 pub mod Tries
 pub mod Pool

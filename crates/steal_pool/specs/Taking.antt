@@ -23,7 +23,7 @@ CountsLast old new = (i : ℕ) → (empties_at old i ≤ empties_at new i)
 
 -- One try of a hand: a name that it gets is the last one taken, and nothing else is noted as put or
 -- taken. The only hand of a pool gets the names in the order in which it put them, and finds none
--- only where all are taken.
+-- only if all are taken.
 abbrev pub TryOfHand : HandValue → ℕ → Tried → HandValue → Type 0
 TryOfHand old i tried new =
     IsSameHand old new × (new.put ≡ old.put)

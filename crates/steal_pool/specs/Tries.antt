@@ -20,8 +20,8 @@ MatchRound round.Dry got again dry = dry
 
 module _ {E : Type 0} (try_made : E → ℕ → Tried → E → Type 0) (own count : ℕ) (old : E) where
   -- Some tries that got no name, each once, at number `own` and the deques that follow it, where
-  -- the first follows the last. They are counted, and it is told whether another taker was faster
-  -- in one of them.
+  -- the first follows the last. They are counted, and the answer says whether another taker was
+  -- faster in one of them.
   pub data Misses : ℕ → Bool → E → Type 0 where
     no_try : Misses 0 false old
     one_empty : (n : ℕ) (lost : Bool) (mid now : E) → Misses n lost mid

@@ -1,3 +1,2 @@
-pub mod Rule
 pub mod Ends
 pub mod Building

@@ -72,8 +72,7 @@ pub trait Deques {
         ensures beaten { (j : ℕ) → beaten self.old j ≤ beaten self.new j };
 }
 
-/// The deque that comes `step` deques behind number `own` of `count`, where the first follows the
-/// last.
+/// The deque that comes `step` deques after number `own` of `count`; the first follows the last.
 fn turn(own: u32, step: u32, count: u32) -> u32
     requires own { own < count }
     requires step { step < count }
@@ -86,8 +85,8 @@ fn turn(own: u32, step: u32, count: u32) -> u32
     }
 }
 
-/// One round over all deques, of which there are `count`: tries each once, from number `own` on and
-/// round, and stops at the first name.
+/// One round over all `count` deques: tries each once, from number `own` on and round, and stops at
+/// the first name.
 pub fn first_of<E: Deques>(ends: &mut E, own: u32, count: u32) -> Round
     requires count { count ≡ E.size ends.old }
     requires own { own < count }

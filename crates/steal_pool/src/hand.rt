@@ -77,8 +77,7 @@ impl Hand {
         }
     }
 
-    /// How many names it has taken from other hands' deques, for those who measure. It stops at
-    /// 2^64 - 1.
+    /// How many names it has taken from other hands' deques, a measurement. It stops at 2^64 - 1.
     pub fn stolen(&self) -> u64 {
         self.stolen
     }
@@ -90,7 +89,7 @@ impl Hand {
         (self.own, self.ends)
     }
 
-    /// Puts a name behind all others of the hand's own deque, or gives it back. The first 64 names
+    /// Puts a name after all others of the hand's own deque, or gives it back. The first 64 names
     /// never come back.
     pub fn put(&mut self, name: Name) -> Result<(), Back>
         ensures put { MatchResult result

@@ -1,10 +1,11 @@
-//! Names of work, in one deque for each worker. A worker puts names into its own deque, and takes
-//! the first name of its own deque or else of another's (work stealing).
+//! Work items, by their names, in one deque for each worker. A worker puts names into its own
+//! deque, and takes the first name of its own deque or else of another's (work stealing).
 //!
 //! - [`pool`]: a pool, its hands, one for each worker, and what is left at the end.
 //! - [`hand`]: a worker's hand, which puts and takes.
 //! - [`deques`]: one round of tries, over any deques.
 //! - [`names`]: a list of names.
+//! - [`laws`]: what holds of each deque at every moment.
 //!
 //! Names leave a deque in the order in which they were put, at either end, so that a hand that
 //! finds no name knows that each deque was empty when it was tried. A hand notes what it put and
@@ -15,6 +16,7 @@
 pub mod deques;
 mod end;
 pub mod hand;
+pub mod laws;
 pub mod memory;
 pub mod names;
 mod note;

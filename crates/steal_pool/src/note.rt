@@ -5,8 +5,7 @@ use crossbeam_deque::protocol::{Join, Outcome, Protocol, Split};
 use std::collections::LinkedList;
 
 /// What one pass has put into its deque and taken from it, and its part of all passes. The owner's
-/// pass knows besides how many parts there are; another one has none of them. No value of it is
-/// made.
+/// pass also knows how many parts there are; another one has none of them. No value of it is made.
 pub struct Note {
     /// Its parts of the whole.
     pub parts: u64,
@@ -23,7 +22,7 @@ pub struct FirstOut;
 
 impl Protocol<Name, Note> for FirstOut {
     ghost use Rattle.std.specs.Prelude.{[]};
-    ghost use Rattle.steal_pool.specs.inner.Rule.{note, Kept};
+    ghost use Rattle.steal_pool.specs.Rule.{note, Kept};
 
     ghost holds = { Kept };
 
@@ -37,7 +36,7 @@ pub struct Part;
 
 impl Split<Note> for Part {
     ghost use Rattle.std.specs.Prelude.{◌+◌, []};
-    ghost use Rattle.steal_pool.specs.inner.Rule.{note};
+    ghost use Rattle.steal_pool.specs.Rule.{note};
 
     ghost left = { λ v. note v.parts (v.whole + 1) v.put v.taken };
 
@@ -49,7 +48,7 @@ pub struct Spare;
 
 impl Split<Note> for Spare {
     ghost use Rattle.std.specs.Prelude.{[]};
-    ghost use Rattle.steal_pool.specs.inner.Rule.{note};
+    ghost use Rattle.steal_pool.specs.Rule.{note};
 
     ghost left = { λ v. v };
 
@@ -61,7 +60,7 @@ pub struct Gathered;
 
 impl Join<Note> for Gathered {
     ghost use Rattle.std.specs.Prelude.{◌+◌, ◌++◌, []};
-    ghost use Rattle.steal_pool.specs.inner.Rule.{note};
+    ghost use Rattle.steal_pool.specs.Rule.{note};
 
     ghost both = { λ v w. note (v.parts + w.parts) v.whole v.put (v.taken ++ w.taken) };
 
@@ -73,19 +72,19 @@ pub struct Puts;
 
 impl Outcome<Name, Note> for Puts {
     ghost use Rattle.std.specs.Prelude.{◌≡◌, ◌++◌};
-    ghost use Rattle.steal_pool.specs.inner.Rule.{note};
+    ghost use Rattle.steal_pool.specs.Rule.{note};
 
     ghost then = { λ v xs w. w ≡ note v.parts v.whole (v.put ++ xs) v.taken };
 }
 
 /// A name that is taken is the last one taken. A pass that has all parts sees which name it is, and
-/// finds no name only where all are taken.
+/// finds no name only if all are taken.
 pub struct Takes;
 
 impl Outcome<Name, Note> for Takes {
     ghost use Rattle.std.specs.Prelude.{◌≡◌, ◌++◌};
     ghost use Rattle.steal_pool.specs.Often.{EachAsOften};
-    ghost use Rattle.steal_pool.specs.inner.Rule.{note, HasAll, AreNext};
+    ghost use Rattle.steal_pool.specs.Rule.{note, HasAll, AreNext};
 
     ghost then = { λ v xs w. (w ≡ note v.parts v.whole v.put (v.taken ++ xs))
         × (HasAll v → AreNext v xs) };

@@ -6,7 +6,7 @@ ghost use Rattle.crossbeam_deque.specs.Handles.{worker_deque, worker_flavor, wor
 ghost use Rattle.crossbeam_deque.specs.Handles.{stealer_deque};
 ghost use Rattle.steal_pool.specs.Often.{EachAsOften};
 ghost use Rattle.steal_pool.specs.Pool.{workers_of, AreFresh, AreAllHands, IsLeftInOrder};
-ghost use Rattle.steal_pool.specs.inner.Rule.{note, HasAll};
+ghost use Rattle.steal_pool.specs.Rule.{note, HasAll};
 ghost use Rattle.steal_pool.specs.inner.Ends.{deque_of, note_of, IsWired};
 ghost use Rattle.steal_pool.specs.inner.Building.{whole_of, IsNew, AreOwners, AreEnds, AreRows};
 ghost use Rattle.steal_pool.specs.inner.Building.{AreApart, AreJoined, AreDrained, IsDrained, Each};
@@ -68,7 +68,7 @@ impl Hands {
 }
 
 impl Pool {
-    /// A pool for `workers` workers, and a hand for each. [`Memory`] where memory ran out.
+    /// A pool for `workers` workers, and a hand for each. [`Memory`] if memory ran out.
     pub fn new(alloc: Global, workers: u32) -> Result<(Pool, Hands), Memory>
         requires some { 0 < workers }
         requires few { workers ≤ 64 }
@@ -89,9 +89,9 @@ impl Pool {
         self.thieves.len() as u32
     }
 
-    /// Ends the pool, and gives the names that are left in its deques. Takes time linear in their
-    /// number, and quadratic in that of the workers. [`Memory`] where memory ran out, and then the
-    /// names are gone.
+    /// Ends the pool, and gives the names that are left in its deques. [`Memory`] if memory ran
+    /// out, and then the names are gone.
+    /// Time: O(names + workers²).
     pub fn gather(self, alloc: Global, hands: Vec<Hand>) -> Result<Names, Memory>
         requires hands { AreAllHands self hands.items }
         ensures as_often { IfOk result

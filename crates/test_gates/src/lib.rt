@@ -11,7 +11,7 @@ use std::sync::atomic::{AtomicU64, Ordering};
 /// How often a gate looks whether a worker may go on.
 const TURNS: u64 = 200_000_000;
 
-/// Whether the word comes to have so many bits before the last turn.
+/// Whether the word comes to have this many bits before the last turn.
 fn reaches(word: &AtomicU64, bits: u32) -> bool {
     for _ in 0..TURNS {
         if word.load(Ordering::SeqCst).count_ones() >= bits {

@@ -31,7 +31,7 @@ fn sent<T: Send>(value: T) -> T
     value
 }
 
-// Tries the turn of slot `i` once, and gives the slot back where the try won.
+// Tries the turn of slot `i` once, and gives the slot back if the try won.
 fn try_once(turns: &Slots, seat: &mut Seat, i: u32) -> Option<Taken>
     requires own { seat.old.turns ≡ turns.now }
     requires slot { i < turns.now.slots }
@@ -89,7 +89,7 @@ fn two_seats_take_turns(rt: HostRuntime) -> Result<(), Fail> {
     Ok(())
 }
 
-// Swaps the value of a slot that is held with that of slot `j`, where its turn is free.
+// Swaps the value of a slot that is held with that of slot `j`, if its turn is free.
 fn exchange(turns: &Slots, seat: &mut Seat, held: Hold<u64>, j: u32) -> Hold<u64>
     requires own { seat.old.turns ≡ turns.now }
     requires slot { j < turns.now.slots }
@@ -113,7 +113,7 @@ fn exchange(turns: &Slots, seat: &mut Seat, held: Hold<u64>, j: u32) -> Hold<u64
     }
 }
 
-// Swaps the values of two slots, where both turns are free.
+// Swaps the values of two slots, if both turns are free.
 fn swap(turns: &Slots, seat: &mut Seat, i: u32, j: u32)
     requires own { seat.old.turns ≡ turns.now }
     requires first { i < turns.now.slots }

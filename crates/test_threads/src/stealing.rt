@@ -51,7 +51,7 @@ fn left_of_two(alloc: Global, pool: Pool, zero: Hand, one: Hand) -> Result<Names
     pool.gather(alloc, Vec::from_array(alloc, [zero, one])?)
 }
 
-/// The keys that are named, each of which may be named once.
+/// The keys that are named; each may be named once.
 fn marked(rt: &impl Abort, marks: &mut Vec<bool>, keys: &[u64]) {
     for key in keys {
         let at = *key as usize;

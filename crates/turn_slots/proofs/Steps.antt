@@ -15,7 +15,7 @@ use Rattle.shares.proofs.Views.{still_add_up, split_adds_up, join_adds_up, other
 use Rattle.turn_slots.specs.declared.view.View.{View}
 use Rattle.turn_slots.specs.TurnsId.{turn_word}
 use Rattle.turn_slots.specs.Rule.{IsKept, HasTurn}
-use Rattle.turn_slots.specs.Inner.Plays.{Tries, Leaves, Reaches, Returns, with_turn, with_try, with_half, newcomer, with_both, spent_view}
+use Rattle.turn_slots.specs.Plays.{Tries, Leaves, Reaches, Returns, with_turn, with_try, with_half, newcomer, with_both, spent_view}
 use Rattle.turn_slots.proofs.Marks.{mark, mark_set, mark_else, no_marks, unmarked, same_slot}
 use Rattle.turn_slots.proofs.Touches.{sound_of, kept_of, stands, alone, touched, noted, seated}
 

@@ -8,7 +8,7 @@ use Rattle.shares.specs.Share.{Share, IsWhole, IsAboveZero}
 use Rattle.turn_slots.specs.declared.view.View.{View}
 use Rattle.turn_slots.specs.Seat.{SeatState, with_slot, with_lost_try, lost_of}
 use Rattle.turn_slots.specs.Inner.Inside.{state_of, IsSettled}
-use Rattle.turn_slots.specs.Inner.Plays.{with_turn, with_try}
+use Rattle.turn_slots.specs.Plays.{with_turn, with_try}
 
 -- what a try of slot i told, with the number that it found
 abbrev pub Told : {V : Type 0} → (ℕ → V → Type 0) → ℕ → ℕ → Me (Option V) View → Me (Option V) View → Type 0

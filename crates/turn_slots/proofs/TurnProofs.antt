@@ -1,9 +1,12 @@
 -- Proofs of the laws of turns.
-use Rattle.std.proofs.Common.{◌≡◌, ◌≢◌, ⊎_elim, inl, inr, ℕ, zero, suc, Bool, true, false, true≢false, List, [], ◌∷◌, get_or, set, refl, sym, ap, ◌∙◌}
+use Rattle.std.proofs.Common.{◌≡◌, ◌≢◌, ⊎_elim, inl, inr, ℕ, zero, suc, Bool, true, false, eqb, true≢false, List, [], ◌∷◌, get_or, set, refl, sym, ap, ◌∙◌}
+use Rattle.std.specs.Prelude.{MatchBool, Option}
+use Rattle.atomic_table.specs.Table.{Me, Step}
 use Rattle.std.proofs.lemmas.Bool.{cases_eq}
 use Rattle.std.proofs.lemmas.List.{get_or-set_same, get_or-set_other}
 use Rattle.turn_slots.specs.Seat.{SeatState, Holds, with_slot, without_slot}
-use Rattle.turn_slots.specs.TurnLaws.{HeldOnce, FreshHoldsNothing, TakeAddsOneSlot, GiveTakesOneSlot, GiveUndoesTake}
+use Rattle.turn_slots.specs.declared.view.View.{View}
+use Rattle.turn_slots.specs.TurnLaws.{HeldOnce, FreshHoldsNothing, TakeAddsOneSlot, GiveTakesOneSlot, GiveUndoesTake, OnlyATakenTurnIsLost, OtherStepsLoseNothing}
 use Rattle.turn_slots.proofs.Marks.{no_marks, unmarked}
 use Rattle.shares.specs.Share.{Share, half, both, IsSame}
 use Rattle.shares.proofs.Same.{transits, same_both, halves}
@@ -60,3 +63,17 @@ gives_back s0 s1 s2 s3 i j won same slot given free =
 -- two halves that were split off and joined again, however their shares are written by then
 pub rejoined : (s a b : Share) → IsSame a (half s) → IsSame b (half s) → IsSame (both a b) s
 rejoined s a b e f = transits (both a b) (both (half s) (half s)) s (same_both a (half s) b (half s) e f) (halves s)
+
+-- what follows from either case of a test
+pub in_each_case : {A B C D : Type 0} → (A → C) → (B → D) → (b : Bool) → MatchBool b A B → MatchBool b C D
+in_each_case f g true x = f x
+in_each_case f g false x = g x
+
+pub only_taken_is_lost : {V : Type 0} (fits : ℕ → V → Type 0) → OnlyATakenTurnIsLost fits
+only_taken_is_lost fits st m found n i word tries =
+    in_each_case (λ won. ap (λ (x : Me (Option _) View). x.0.lost) won.2) (λ lost. ap (λ (x : Me (Option _) View). x.0.lost) lost.1) (eqb found 0) (tries i word)
+
+pub others_lose_nothing : {V : Type 0} (fits : ℕ → V → Type 0) → OtherStepsLoseNothing fits
+others_lose_nothing fits st m found n i word step =
+    ⊎_elim (λ left. ap (λ (x : Me (Option _) View). x.0.lost) left)
+    (λ step. ⊎_elim (λ reached. ap (λ (x : Me (Option _) View). x.0.lost) (reached i word)) (λ returned. ap (λ (x : Me (Option _) View). x.0.lost) (returned i word)) step) step

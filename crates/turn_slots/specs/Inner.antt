@@ -1,5 +1,3 @@
--- What no public contract cites: what each step tells, a seat of the table, and the slots of a
--- closed table.
-pub mod Plays
+-- What no public contract cites: a seat of the table, and the slots of a closed table.
 pub mod Inside
 pub mod Closing

@@ -1,5 +1,6 @@
 pub mod TurnsId
 pub mod Seat
 pub mod Rule
+pub mod Plays
 pub mod TurnLaws
 pub mod Inner

@@ -34,10 +34,10 @@ pub record HasOneHolder (views : List View) (i : ℕ) : Type 0 where
   pub alone : (other : ℕ) (v : View) → get_elem? views other ≡ some v → other ≢ id → ¬ HasTurn v i
 
 module _ {V : Type 0} (fits : ℕ → V → Type 0) (slots : ℕ) (s : State (Option V) View) where
-  -- Each slot has a turn word. Where it is 0, the slot's value lies at home and fits, and no seat
-  -- holds the slot. Otherwise the turn stands taken, and one seat holds the slot. A slot that is
-  -- held is empty where it lies at home. The shares of all seats add up to one, and a spent seat
-  -- holds nothing.
+  -- Each slot has a turn word. If it is 0, the slot's value lies at home and fits, and no seat
+  -- holds the slot. Otherwise the turn is taken, and one seat holds the slot. A slot that is held
+  -- is empty if it lies at home. The shares of all seats add up to one, and a spent seat holds
+  -- nothing.
   pub record IsKept : Type 0 where
     pub words : length s.words ≡ 8 * slots + 1
     pub value : (i : ℕ) → i < slots → slice_index s.words (turn_word i) ≡ 0

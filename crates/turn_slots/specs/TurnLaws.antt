@@ -1,22 +1,24 @@
 -- The laws of turns.
-use Rattle.std.specs.Prelude.{◌≡◌, ◌≢◌, ◌↔◌, ◌⊎◌, ℕ, ◌<◌, length, map, slice_index, Option, Some}
+use Rattle.std.specs.Prelude.{◌≡◌, ◌≢◌, ◌↔◌, ◌⊎◌, ℕ, ◌+◌, ◌<◌, ◌==◌, MatchBool, length, map}
+use Rattle.std.specs.Prelude.{slice_index, slice_set, Option, Some}
 use mathlib.Core.Option.{some}
 use lib.ListN.{get_elem?}
-use Rattle.atomic_table.specs.Table.{State}
+use Rattle.atomic_table.specs.Table.{Me, State, Step}
 use Rattle.shares.specs.Share.{Share, AddUpToOne, IsSpent}
 use Rattle.turn_slots.specs.declared.view.View.{View}
 use Rattle.turn_slots.specs.TurnsId.{TurnsId, turn_word}
 use Rattle.turn_slots.specs.Seat.{SeatState, Holds, HoldsNothing, fresh_seat, with_slot}
 use Rattle.turn_slots.specs.Seat.{without_slot}
 use Rattle.turn_slots.specs.Rule.{IsKept, HasTurn, HasOneHolder}
+use Rattle.turn_slots.specs.Plays.{Tries, Leaves, Reaches, Returns}
 
 module _ {V : Type 0} (fits : ℕ → V → Type 0) where
-  -- A turn that stands taken is held by one seat, and by no other.
+  -- A turn that is taken is held by one seat, and by no other.
   abbrev pub TakenIsHeldByOne : Type 0
   TakenIsHeldByOne = (slots : ℕ) (s : State (Option V) View) → IsKept fits slots s
       → (i : ℕ) → i < slots → slice_index s.words (turn_word i) ≢ 0 → HasOneHolder s.views i
 
-  -- A turn that does not stand taken has its value at home, which fits.
+  -- A turn that is not taken has its value at home, which fits.
   abbrev pub FreeHasItsValue : Type 0
   FreeHasItsValue = (slots : ℕ) (s : State (Option V) View) → IsKept fits slots s
       → (i : ℕ) → i < slots → slice_index s.words (turn_word i) ≡ 0
@@ -38,6 +40,21 @@ module _ {V : Type 0} (fits : ℕ → V → Type 0) where
   SpentHoldsNothing = (slots : ℕ) (s : State (Option V) View) → IsKept fits slots s
       → (id : ℕ) (v : View) → get_elem? s.views id ≡ some v → IsSpent v.share → (i : ℕ)
       → ¬ HasTurn v i
+
+  -- A try of a turn that finds it free counts as lost nowhere. One that finds it taken raises the
+  -- count of lost tries of that slot by one, and no other.
+  abbrev pub OnlyATakenTurnIsLost : Type 0
+  OnlyATakenTurnIsLost = (st : Step (Option V)) (m : Me (Option V) View) (found : ℕ)
+      (n : Me (Option V) View) (i : ℕ) → st.word ≡ turn_word i → Tries fits st m found n
+      → MatchBool (found == 0) (n.0.lost ≡ m.0.lost)
+      (n.0.lost ≡ slice_set m.0.lost i (slice_index m.0.lost i + 1))
+
+  -- No other step of a seat moves these counts.
+  abbrev pub OtherStepsLoseNothing : Type 0
+  OtherStepsLoseNothing = (st : Step (Option V)) (m : Me (Option V) View) (found : ℕ)
+      (n : Me (Option V) View) (i : ℕ) → st.word ≡ turn_word i
+      → Leaves st m found n ⊎ (Reaches st m found n ⊎ Returns st m found n)
+      → n.0.lost ≡ m.0.lost
 
 -- A new seat holds nothing.
 abbrev pub FreshHoldsNothing : Type 0

@@ -7,11 +7,11 @@ use std::alloc::{AllocError, AllocFailed};
 pub struct Hold<V> {
     /// The slot that it came from.
     pub slot: u32,
-    /// Its value, which may be changed, as long as it fits the slot when it is given back.
+    /// Its value, which may be changed. It has to fit the slot when it is given back.
     pub value: V,
 }
 
-/// The turn of a slot stood taken at the one try.
+/// The turn of a slot was taken at the one try.
 #[derive(Clone, Copy, Debug, PartialEq, Eq)]
 pub struct Taken {
     /// The slot asked for.

@@ -3,11 +3,12 @@
 ghost use Rattle.turn_slots.specs.TurnLaws.{TakenIsHeldByOne, FreeHasItsValue, HeldOnce};
 ghost use Rattle.turn_slots.specs.TurnLaws.{SharesAddUp, SpentHoldsNothing, FreshHoldsNothing};
 ghost use Rattle.turn_slots.specs.TurnLaws.{TakeAddsOneSlot, GiveTakesOneSlot, GiveUndoesTake};
+ghost use Rattle.turn_slots.specs.TurnLaws.{OnlyATakenTurnIsLost, OtherStepsLoseNothing};
 
 use crate::rule::Fits;
 
-/// A turn word stands taken only while one seat, and no other, holds its slot. Where it does not,
-/// the value lies in its slot and fits.
+/// A turn word is taken only while one seat, and no other, holds its slot. If it is not taken, the
+/// value lies in its slot and fits.
 pub fn a_taken_turn_has_one_holder<V, F: Fits<V>>()
     ensures taken { TakenIsHeldByOne F.fits }
     ensures free { FreeHasItsValue F.fits }
@@ -31,4 +32,11 @@ pub fn a_call_moves_its_own_slot_alone()
     ensures take { TakeAddsOneSlot }
     ensures give { GiveTakesOneSlot }
     ensures undone { GiveUndoesTake }
+{}
+
+/// A seat's count of lost tries of a slot rises only by a try of that slot's turn that finds it
+/// taken, and then by one. A try that finds the turn free raises none, and no other step does.
+pub fn only_a_taken_turn_is_lost<V, F: Fits<V>>()
+    ensures tries { OnlyATakenTurnIsLost F.fits }
+    ensures others { OtherStepsLoseNothing F.fits }
 {}

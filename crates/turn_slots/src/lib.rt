@@ -1,6 +1,6 @@
-//! Values behind turns: each value lies in a slot of its own, and whoever has the turn of a slot
-//! has its value, alone, until it is given back. No call waits: a try either wins the turn or finds
-//! it taken.
+//! Values under locks, here called turns: each value lies in a slot of its own. The holder of a
+//! slot's turn has its value, alone, until it gives the turn back. No call waits: a try either wins
+//! the turn or finds it taken.
 //!
 //! - [`Fits`]: what holds of the value of each slot, at every moment.
 //! - [`Turns`]: the slots with their turn words, which threads share by reference.

@@ -32,7 +32,7 @@ pub struct Try<F> {
 }
 
 impl<V, F: Fits<V>> Play<Option<V>, View> for Try<F> {
-    ghost use Rattle.turn_slots.specs.Inner.Plays.{Tries};
+    ghost use Rattle.turn_slots.specs.Plays.{Tries};
 
     ghost then = { Tries F.fits };
 }
@@ -41,7 +41,7 @@ impl<V, F: Fits<V>> Play<Option<V>, View> for Try<F> {
 pub struct Leave;
 
 impl<V> Play<Option<V>, View> for Leave {
-    ghost use Rattle.turn_slots.specs.Inner.Plays.{Leaves};
+    ghost use Rattle.turn_slots.specs.Plays.{Leaves};
 
     ghost then = { Leaves };
 }
@@ -50,7 +50,7 @@ impl<V> Play<Option<V>, View> for Leave {
 pub struct Reach;
 
 impl<V> Play<Option<V>, View> for Reach {
-    ghost use Rattle.turn_slots.specs.Inner.Plays.{Reaches};
+    ghost use Rattle.turn_slots.specs.Plays.{Reaches};
 
     ghost then = { Reaches };
 }
@@ -59,7 +59,7 @@ impl<V> Play<Option<V>, View> for Reach {
 pub struct Return;
 
 impl<V> Play<Option<V>, View> for Return {
-    ghost use Rattle.turn_slots.specs.Inner.Plays.{Returns};
+    ghost use Rattle.turn_slots.specs.Plays.{Returns};
 
     ghost then = { Returns };
 }
@@ -68,7 +68,7 @@ impl<V> Play<Option<V>, View> for Return {
 pub struct Halves;
 
 impl Split<View> for Halves {
-    ghost use Rattle.turn_slots.specs.Inner.Plays.{with_half, newcomer};
+    ghost use Rattle.turn_slots.specs.Plays.{with_half, newcomer};
 
     ghost left = { with_half };
 
@@ -79,7 +79,7 @@ impl Split<View> for Halves {
 pub struct Added;
 
 impl Join<View> for Added {
-    ghost use Rattle.turn_slots.specs.Inner.Plays.{with_both, spent_view};
+    ghost use Rattle.turn_slots.specs.Plays.{with_both, spent_view};
 
     ghost both = { with_both };
 

@@ -54,7 +54,7 @@ impl<V, F: Fits<V>> TurnSeat<V, F> {
     }
 
     /// One try of the turn of slot `i`, which this seat does not hold. `Ok` gives its value, which
-    /// fits and has to be given back; `Taken` where the turn stood taken.
+    /// fits and has to be given back; `Taken` if the turn was taken.
     pub fn take(&mut self, turns: &Turns<V, F>, i: u32) -> Result<Hold<V>, Taken>
         requires own { self.old.turns ≡ turns.now }
         requires slot { i < turns.now.slots }

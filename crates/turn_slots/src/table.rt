@@ -70,7 +70,7 @@ impl<V: Drop, F: Fits<V>> Turns<V, F> {
     }
 }
 
-// The turn words of so many slots, none of which stands taken.
+// The turn words of so many slots, none of which is taken.
 fn free_turns(alloc: Global, slots: usize) -> Result<Vec<u64>, Memory>
     requires { slots ≤ 4096 }
     ensures { IfOk result (λ words. words.items ≡ replicate (8 * slots + 1) 0) }

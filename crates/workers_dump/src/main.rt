@@ -1,5 +1,4 @@
-//! Prints what workers counted of their own work while they built the graph of a file, for those
-//! who measure.
+//! Prints what workers counted of their own work while they built the graph of a file.
 //!
 //! The first argument is the number of workers, from 2 to 64, the second names the file. They build
 //! its closed state without cuts of jump tables. Each worker gets a line, by rising number:

@@ -14,7 +14,7 @@ pub(crate) struct Tallies {
 }
 
 impl Tallies {
-    /// Empty places for so many workers.
+    /// Empty places for this many workers.
     pub(crate) fn new(alloc: Global, workers: u32) -> Result<Tallies> {
         let mut by_worker = Vec::new(alloc);
         for _ in 0..workers {
@@ -34,7 +34,7 @@ impl Tallies {
     }
 }
 
-/// The line of one worker. It has taken as many turns as it has won tries.
+/// The line of one worker. It has taken one turn for each try that it won.
 fn write_tally<W: Write>(out: &mut W, worker: usize, tally: &Tally) -> Result<()> {
     let turns = tally.tries.saturating_sub(tally.lost);
     write!(out, "worker={worker} turns={turns} lost={}", tally.lost)?;

@@ -9,7 +9,7 @@ use Rattle.cfg_model.specs.Builder.Shard.{part_of}
 use Rattle.cfg_model.specs.Builder.State.{BuilderState, StartMap, EndMap, TerminatorMap}
 use Rattle.board.specs.declared.piece.Piece.{Piece}
 use Rattle.board.specs.declared.piece.Piece.TheVariants.{Starts, Ends, Terms}
-use Rattle.board.specs.Inner.Pieces.{piece_in}
+use Rattle.board.specs.Pieces.{piece_in}
 
 -- Each slot has the shard of this state that belongs there.
 pub record AreOf (whole : BuilderState) (slots : List (Option Piece)) : Type 0 where

@@ -19,8 +19,8 @@ use Rattle.board.specs.declared.view.View.{View}
 use Rattle.board.specs.declared.piece.Piece.{Piece}
 use Rattle.board.specs.Slots.{shard_in}
 use Rattle.board.specs.Seat.{SeatState, Values, HasSlot, AnyShows}
-use Rattle.board.specs.Inner.Pieces.{part_in, piece_of, IsLike}
-use Rattle.board.specs.Inner.Plays.{values_at}
+use Rattle.board.specs.Pieces.{part_in, piece_of, IsLike}
+use Rattle.board.specs.Plays.{values_at}
 
 abbrev pub state_of : Seat (Option Piece) View → SeatState
 state_of seat = record { board = seat.table_id; notes = seat.me.0.notes }

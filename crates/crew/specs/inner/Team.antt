@@ -19,7 +19,7 @@ pub record IsFree (id : BoardId) (seat : SeatState) : Type 0 where
   pub board : seat.board ≡ id
   pub nothing : HoldsNothing seat
 
--- The hands belong to the pool, and with the first number so many are no more than 64.
+-- The hands belong to the pool. Their count and the first number together are at most 64.
 pub record AreOf (pool : PoolValue) (first : ℕ) (hands : List HandValue) : Type 0 where
   pub few : first + length hands ≤ 64
   pub own : All (IsHandOf pool) hands

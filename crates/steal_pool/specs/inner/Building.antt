@@ -11,7 +11,7 @@ use Rattle.steal_pool.specs.declared.end.End.{End}
 use Rattle.steal_pool.specs.declared.end.Row.{Row}
 use Rattle.steal_pool.specs.Pool.{DequeId, HandValue}
 use Rattle.steal_pool.specs.Often.{EachAsOften}
-use Rattle.steal_pool.specs.inner.Rule.{note}
+use Rattle.steal_pool.specs.Rule.{note}
 use Rattle.steal_pool.specs.inner.Ends.{deque_of, note_of, first_room, IsWired, IsPlaced, IsWell}
 
 -- All parts of a deque, as its owner knows them.
@@ -78,7 +78,7 @@ AreJoined {P} from old ends new =
     × (from ≤ k → (before : Worker Name Global Note P) × (e : End) × (slice_get old k ≡ Some before)
     × (slice_get ends k ≡ Some e) × IsJoined before e own))
 
--- The names left in a deque, whose owner has noted v, go behind those that were left before.
+-- The names left in a deque, whose owner has noted v, go after those that were left before.
 abbrev pub IsDrained : Note → List Name → List Name → Type 0
 IsDrained v before after =
     (gone : List Name) × (rest : List Name) × (after ≡ before ++ rest) × (v.put ≡ gone ++ rest)

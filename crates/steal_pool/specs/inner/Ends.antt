@@ -38,8 +38,8 @@ ends_weight weight ends = sum_by (λ (e : End). sum_by weight (note_of e).taken)
 abbrev pub first_room : ℕ
 first_room = 64
 
--- The owner of a deque first in, first out, with one part of `hands`, of which names come back only
--- behind the first room.
+-- The owner of a deque, first in, first out, with one part of `hands`. From it names come back only
+-- after the first room.
 pub record OwnsPart {P : Type 0} (hands : ℕ) (own : Worker Name Global Note P) : Type 0 where
   pub first_out : worker_flavor own ≡ 0
   pub part : (worker_view own).parts ≡ 1

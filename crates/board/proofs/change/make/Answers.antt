@@ -4,7 +4,7 @@ use Rattle.cfg_model.specs.Builder.Shard.{shard_of}
 use Rattle.board.specs.Slots.{shard_at, slot_of}
 use Rattle.board.specs.Seat.{Notes, HasSlot, Knows}
 use Rattle.board.specs.Inner.Inside.{state_of, IsSettled}
-use Rattle.board.specs.Inner.Pieces.{IsLike}
+use Rattle.board.specs.Pieces.{IsLike}
 use Rattle.board.proofs.Rounds.{change_ready, changed_out}
 use Rattle.board.proofs.Calls.{Answered, answered}
 use Rattle.board.proofs.change.make.Given.{Over}

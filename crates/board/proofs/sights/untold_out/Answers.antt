@@ -1,6 +1,6 @@
 use Rattle.std.proofs.Common.{subst}
 use Rattle.core_state.specs.Reads.{IsNextToTell}
-use Rattle.board.specs.Inner.Pieces.{part_in}
+use Rattle.board.specs.Pieces.{part_in}
 use Rattle.board.proofs.Untold.{shown_here}
 use Rattle.board.proofs.sights.untold_out.Goals as goal
 

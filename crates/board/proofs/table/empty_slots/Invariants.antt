@@ -2,7 +2,7 @@ use Rattle.std.proofs.Common.{◌≡◌, ◌≤◌, ◌<◌, ℕ, vec_len, vec_c
 use mathlib.Core.Option.{some}
 use lib.ListN.{get_elem?}
 use Rattle.cfg_model.specs.Builder.State.{empty_state}
-use Rattle.board.specs.Inner.Pieces.{piece_in}
+use Rattle.board.specs.Pieces.{piece_in}
 use Rattle.board.proofs.table.empty_slots.Given as goal
 
 abbrev pub invariant-loop-slot : goal.invariant-loop-slot

@@ -1,7 +1,7 @@
 use Rattle.std.proofs.Common.{◌≡◌, ◌+◌, ◌∙◌, [], length, ap, subst, sym, arith}
 use Rattle.std.proofs.lemmas.List.{length_push}
 use Rattle.steal_pool.specs.declared.note.Note.{Note}
-use Rattle.steal_pool.specs.inner.Rule.{note}
+use Rattle.steal_pool.specs.Rule.{note}
 use Rattle.steal_pool.specs.inner.Building.{whole_of, IsNew, AreOwners}
 use Rattle.steal_pool.proofs.Making.{owners_more}
 use Rattle.steal_pool.proofs.pool.owners_of.Goals as goal

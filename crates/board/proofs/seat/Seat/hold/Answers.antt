@@ -1,6 +1,6 @@
 use Rattle.std.proofs.Common.{◌∙◌}
 use Rattle.board.proofs.Rounds.{taken_out}
-use Rattle.board.proofs.Holding.{held_like, held_truth, held_state, held_settled, held_by}
+use Rattle.board.proofs.Holding.{held_like, held_truth, held_state, held_settled, held_by, held_part}
 use Rattle.board.proofs.seat.Seat.hold.Goals as goal
 
 pub lift-piece-requires-clause-out : goal.lift-piece-requires-clause-out
@@ -28,3 +28,8 @@ pub returns-clause-held : goal.returns-clause-held
 returns-clause-held g c =
     held_by g.J.Job.map g.J.Job.seeds c.slot_at-slot.result c.slot_at-slot.ensures.below _ c.slot_at-slot.ensures.place c.slot_at-slot.ensures.slot c.self.inside.seat c.self.invariant c.take.new.seat.me c.if-not-take.ensures.tried c.lift-piece.result c.lift-piece.ensures.value
     c.lift-piece.new.seat c.lift-piece.ensures.left
+
+pub returns-clause-part : goal.returns-clause-part
+returns-clause-part g c =
+    held_part g.J.Job.map g.J.Job.seeds c.slot_at-slot.result c.slot_at-slot.ensures.below _ c.slot_at-slot.ensures.place c.slot_at-slot.ensures.slot c.self.inside.seat c.self.invariant c.take.new.seat.me c.if-not-take.ensures.tried c.lift-piece.result c.lift-piece.ensures.value
+    c.args.self.now c.self.view_is

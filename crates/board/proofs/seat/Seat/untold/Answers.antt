@@ -6,8 +6,8 @@ use Rattle.core_state.specs.Reads.{IsNextToTell}
 use Rattle.board.specs.Slots.{shard_at, slot_of}
 use Rattle.board.specs.Seat.{Notes, Values, HasSlot}
 use Rattle.board.specs.Calls.{shown_waiter}
-use Rattle.board.specs.Inner.Plays.{shown_next, Takes}
-use Rattle.board.specs.Inner.Pieces.{part_in, piece_in}
+use Rattle.board.specs.Plays.{shown_next, Takes}
+use Rattle.board.specs.Pieces.{part_in, piece_in}
 use Rattle.board.specs.Inner.Inside.{state_of, IsSettled}
 use Rattle.board.proofs.Rounds.{taken_out, taken_here}
 use Rattle.board.proofs.Calls.{Round}

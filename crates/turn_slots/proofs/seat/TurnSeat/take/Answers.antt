@@ -1,7 +1,7 @@
 use Rattle.std.proofs.Common.{true, false, true≢false, refl, sym, ap, ◌∙◌, subst, arith, get_or, length, Some, None}
 use Rattle.std.proofs.lemmas.List.{get_or-set_same}
 use Rattle.turn_slots.specs.Seat.{with_slot, with_lost_try}
-use Rattle.turn_slots.specs.Inner.Plays.{with_turn}
+use Rattle.turn_slots.specs.Plays.{with_turn}
 use Rattle.shares.specs.Share.{IsAboveZero, IsWhole}
 use Rattle.turn_slots.proofs.Marks.{mark_set}
 use Rattle.turn_slots.proofs.Steps.{tries, leaves}

@@ -17,7 +17,7 @@ use Rattle.board.specs.declared.piece.Piece.{Piece}
 use Rattle.board.specs.Slots.{shard_in, event_word}
 use Rattle.board.specs.Seat.{Notes, Values, AnyShows, with_try, with_half, newcomer, with_both}
 use Rattle.board.specs.Calls.{entered_alone}
-use Rattle.board.specs.Inner.Pieces.{part_in, piece_in}
+use Rattle.board.specs.Pieces.{part_in, piece_in}
 
 -- The values of the shard that it holds in this slot.
 abbrev pub values_at : Notes → ℕ → Option Values
@@ -52,8 +52,8 @@ giving notes slot (Some values) = record notes {
   seen = values.second ∷ notes.seen;
 }
 
--- A try that won has the shard as part of the state that all shards are together, of which all
--- holds that the seat knows.
+-- A try that won has the shard as a part of the state of all shards together. Every fact that the
+-- seat knows holds of that state.
 pub record Takes (code : InstructionMap) (seeds : List ℕ) (slot : ℕ)
     (m n : Me (Option Piece) View) : Type 0 where
   pub whole : BuilderState
@@ -79,7 +79,7 @@ abbrev pub learned : ℕ → Me (Option Piece) View → Me (Option Piece) View
 learned at m =
     (record m.0 { notes = record m.0.notes { seen = entered_alone at ∷ m.0.notes.seen } }, m.1)
 
--- It is shown the terminator of a waiter, where there is one.
+-- It is shown the terminator of a waiter, if there is one.
 abbrev pub shown_next : Option Waiter → Me (Option Piece) View → Me (Option Piece) View
 shown_next None m = m
 shown_next (Some w) m = learned w.terminator m

@@ -36,7 +36,7 @@ Kept items notes =
 abbrev pub HasAll : Note → Type 0
 HasAll v = (0 < v.whole) × (v.parts ≡ v.whole)
 
--- The names xs were put next behind those that were taken.
+-- The names xs were put next after those that were taken.
 abbrev pub AreNext : Note → List Name → Type 0
 AreNext v xs = (left : List Name) × (rest : List Name) × (v.put ≡ left ++ (xs ++ rest))
     × EachAsOften left v.taken
