@@ -1,3 +1,1 @@
-pub mod UnderCuts
 pub mod Accepted
-pub mod Unique

@@ -2,7 +2,7 @@
 use Rattle.std.specs.Prelude.{◌≡◌, ℕ, List, None}
 use Rattle.cfg_model.specs.declared.graph.Graph.{Graph}
 use Rattle.elf_image.specs.Faults.{first_fault}
-use Rattle.file_graph.specs.FileGraph.{IsGraphOf}
+use Rattle.file_program.specs.FileGraph.{IsGraphOf}
 
 -- The bytes of the file, and its graph.
 pub record GraphedFile : Type 0 where

@@ -1,33 +1,29 @@
 //! Who builds a graph: the caller's thread, or workers.
 
-ghost use Rattle.file_graph.specs.Inner.{Builds, FindsCuts, Searches, Shows, Surveys};
+ghost use Rattle.file_graph.specs.Inner.{Builds, Searches, Shows, Surveys};
 
 use crate::memory::Memory;
 use crate::shown::shown;
 use crate::survey::{Survey, make_survey};
 use alone::build_alone;
 use cfg_model::Graph;
-use code_view::{Code, Cuts};
+use code_view::Code;
 use core_state::State;
 use elf_image::{ElfError, Image};
 use std::alloc::Global;
-use table_trim::{TableJump, all_tables, cuts};
+use table_cuts::TableJump;
+use table_trim::all_tables;
 
-/// Who does the parts of a graph's making that several threads can share: the survey of the file,
-/// the jump tables of all code, the closed states, the cuts that a state shows, and the graph that
-/// it shows. Whoever does them answers the same, or want of memory.
+/// Does the parts of a graph's making that several threads can share. They are the survey of the
+/// file, the jump tables of all code, the closed state, and the graph that it shows. The contracts
+/// are the same for each builder, and each may answer want of memory.
 pub trait Builder {
-    ghost use Rattle.std.specs.Prelude.{◌≡◌, List, ℕ, IfOk, IfErr, ⊤};
-    ghost use Rattle.std.specs.FinMap as map;
-    ghost use Rattle.cfg_model.specs.Program.Cuts.{AreCuts};
-    ghost use Rattle.cfg_model.specs.Program.Reach.{AreSeeds, Reached};
+    ghost use Rattle.std.specs.Prelude.{IfOk, IfErr, ⊤};
+    ghost use Rattle.cfg_model.specs.Program.Reach.{AreSeeds};
     ghost use Rattle.cfg_model.specs.Builder.Kept.{IsClosed};
     ghost use Rattle.cfg_model.specs.Graph.Graph.{IsGraph};
-    ghost use Rattle.code_view.specs.Cuts.{cut_of, CutsFit};
     ghost use Rattle.code_view.specs.FileCode.{program_of};
-    ghost use Rattle.finaliser.specs.Closed.{IsClosedFromSome};
-    ghost use Rattle.table_trim.specs.Extents.{extent_at};
-    ghost use Rattle.table_trim.specs.Tables.{AreAllTables};
+    ghost use Rattle.table_cuts.specs.Tables.{AreAllTables};
     ghost use Rattle.file_graph.specs.Survey.{IsFaultOf, IsSurveyOf};
 
     /// What holds of a builder that may be asked.
@@ -44,23 +40,12 @@ pub trait Builder {
         requires ready { ready self.now }
         ensures tables { IfOk result (λ jumps. AreAllTables code.now.bytes jumps.items) };
 
-    /// The closed state of the program `code` whose seeds are `seeds`.
+    /// A closed state of the program `code` whose seeds are `seeds`.
     fn state(&self, code: &Code, seeds: &[u64]) -> Result<State, Memory>
         requires ready { ready self.now }
         requires seeds { AreSeeds (program_of code.now) seeds.now }
         ensures closed { IfOk result
             (λ state. IsClosed (program_of code.now) seeds.now state.maps) };
-
-    /// The cuts of the jump tables of the program `code`, which has none yet, from its closed state.
-    fn cuts(&self, code: &Code, state: &State) -> Result<Cuts, Memory>
-        requires ready { ready self.now }
-        requires uncut { code.now.cuts ≡ map.empty }
-        requires closed { IsClosedFromSome (program_of code.now) state.now.maps }
-        ensures cuts { IfOk result (λ cuts. (seeds : List ℕ)
-            → IsClosed (program_of code.now) seeds state.now.maps
-            → AreCuts (extent_at code.now.bytes) (Reached (program_of code.now) seeds)
-            (cut_of cuts)) }
-        ensures fits { IfOk result (λ cuts. CutsFit code.now.bytes (cut_of cuts)) };
 
     /// The graph of the program `code` with this entry, from its closed state.
     fn graph(&self, code: &Code, seeds: &[u64], state: &State, entry: u64) -> Result<Graph, Memory>
@@ -89,10 +74,6 @@ impl Builder for Alone {
         Ok(build_alone(self.alloc, code, seeds)?)
     }
 
-    fn cuts(&self, code: &Code, state: &State) -> Result<Cuts, Memory> {
-        Ok(cuts(self.alloc, code, state)?)
-    }
-
     fn graph(
         &self,
         code: &Code,
@@ -107,15 +88,13 @@ impl Builder for Alone {
 /// Workers, as the closures that set them to work. What starts threads has to stand where the
 /// runtime is: a method of an `impl` hands its block's bounds to no other thread.
 #[derive(Drop)]
-pub struct Workers<V, T, S, K, G> {
+pub struct Workers<V, T, S, G> {
     /// Makes the survey of a file.
     pub survey: V,
     /// Finds the jump tables of all code.
     pub tables: T,
     /// Builds a closed state.
     pub state: S,
-    /// Finds the cuts of jump tables.
-    pub cuts: K,
     /// Makes the graph that a closed state shows.
     pub graph: G,
 }
@@ -124,13 +103,11 @@ impl<
     V: Fn(&Image) -> Result<Survey, ElfError>,
     T: Fn(&Code) -> Result<Vec<TableJump>, Memory>,
     S: Fn(&Code, &[u64]) -> Result<State, Memory>,
-    K: Fn(&Code, &State) -> Result<Cuts, Memory>,
     G: Fn(&Code, &[u64], &State, u64) -> Result<Graph, Memory>,
-> Builder for Workers<V, T, S, K, G> {
+> Builder for Workers<V, T, S, G> {
     ghost ready = { λ workers. Surveys (V.pre workers.survey) (V.post workers.survey)
         × Searches (T.pre workers.tables) (T.post workers.tables)
         × Builds (S.pre workers.state) (S.post workers.state)
-        × FindsCuts (K.pre workers.cuts) (K.post workers.cuts)
         × Shows (G.pre workers.graph) (G.post workers.graph) };
 
     fn survey(&self, image: &Image) -> Result<Survey, ElfError> {
@@ -143,10 +120,6 @@ impl<
 
     fn state(&self, code: &Code, seeds: &[u64]) -> Result<State, Memory> {
         (self.state)(code, seeds)
-    }
-
-    fn cuts(&self, code: &Code, state: &State) -> Result<Cuts, Memory> {
-        (self.cuts)(code, state)
     }
 
     fn graph(

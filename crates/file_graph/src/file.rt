@@ -1,25 +1,24 @@
 //! A file with its graph.
 
 ghost use Rattle.std.specs.Prelude.{◌≡◌, ◌≤◌, IfOk, IfErr};
-ghost use Rattle.std.specs.FinMap as map;
 ghost use Rattle.std.specs.Thread.{IsSync};
 ghost use Rattle.cfg_model.specs.Program.Reach.{AreSeeds};
 ghost use Rattle.cfg_model.specs.Builder.Kept.{IsClosed};
 ghost use Rattle.code_view.specs.FileCode.{program_of};
-ghost use Rattle.finaliser.specs.Closed.{IsClosedFromSome};
-ghost use Rattle.table_trim.specs.Tables.{AreAllTables};
-ghost use Rattle.file_graph.specs.FileGraph.{IsGraphOf};
+ghost use Rattle.table_cuts.specs.Tables.{AreAllTables};
+ghost use Rattle.file_program.specs.FileGraph.{IsGraphOf};
 ghost use Rattle.file_graph.specs.File.{IsGraphedFile};
-ghost use Rattle.file_graph.specs.Survey.{AreSeedsOf, IsFaultOf};
-ghost use Rattle.file_graph.specs.Inner.{AnswersCuts, AnswersGraph, AnswersSurvey};
+ghost use Rattle.file_program.specs.FileSeeds.{AreSeedsOf};
+ghost use Rattle.file_graph.specs.Survey.{IsFaultOf};
+ghost use Rattle.file_graph.specs.Inner.{AnswersGraph, AnswersSurvey};
 
 use crate::builder::{Alone, Builder, Workers};
 use crate::graph::{Shown, graph_of};
 use crate::memory::Memory;
-use crate::sharing::{cuts_with, graph_with, state_with, survey_with, tables_with};
+use crate::sharing::{graph_with, state_with, survey_with, tables_with};
 use crate::survey::Survey;
 use cfg_model::Graph;
-use code_view::{Code, Cuts};
+use code_view::Code;
 use core_state::State;
 use crew::Gate;
 use elf_image::{ElfError, Image};
@@ -28,7 +27,7 @@ use std::alloc::Global;
 use std::marker::{Model, Sync};
 use std::sync::Wait;
 use std::thread::Threads;
-use table_trim::TableJump;
+use table_cuts::TableJump;
 
 /// A file with its seeds and its graph: the seeds and their names are those of the file, and the
 /// graph is the one graph that the file has.
@@ -45,8 +44,8 @@ pub struct FileGraph {
 
 impl Model for FileGraph {
     ghost use Rattle.file_graph.specs.File.{GraphedFile};
-    ghost use Rattle.file_graph.specs.FileGraph.{IsGraphOf};
-    ghost use Rattle.file_graph.specs.Survey.{AreSeedsOf};
+    ghost use Rattle.file_program.specs.FileGraph.{IsGraphOf};
+    ghost use Rattle.file_program.specs.FileSeeds.{AreSeedsOf};
 
     ghost Value = { GraphedFile };
 
@@ -90,7 +89,7 @@ pub fn file_graph(alloc: Global, bytes: Vec<u8>) -> Result<FileGraph, ElfError>
     graphed(alloc, &Alone { alloc }, bytes)
 }
 
-/// The file with these bytes and its graph, made by so many workers. One thread more reads the
+/// The file with these bytes and its graph, made by `workers` workers. One thread more reads the
 /// seeds meanwhile. With two seeds or more, workers build the closed state on a board that they
 /// share, and pass the gate before each operation; the call may wait then.
 ///
@@ -120,11 +119,6 @@ pub fn file_graph_by<R: Threads + Wait + Sync, G: Gate>(
             × AreSeeds (program_of code.now) seeds.now }
         ensures { IfOk result (λ state. IsClosed (program_of code.now) seeds.now state.maps) }
     { state_with(rt, alloc, code, seeds, workers, gate) };
-    let cuts = |code: &Code, state: &State| -> Result<Cuts, Memory>
-        requires { IsSync R.row × (1 ≤ workers) × (code.now.cuts ≡ map.empty)
-            × IsClosedFromSome (program_of code.now) state.now.maps }
-        ensures { AnswersCuts code.now state.now.maps result }
-    { cuts_with(rt, alloc, code, state, workers) };
     let graph = |code: &Code, seeds: &[u64], state: &State, entry: u64| -> Result<Graph, Memory>
         requires { IsSync R.row × (1 ≤ workers) × (workers ≤ 64)
             × IsClosed (program_of code.now) seeds.now state.now.maps }
@@ -134,7 +128,6 @@ pub fn file_graph_by<R: Threads + Wait + Sync, G: Gate>(
         survey,
         tables,
         state,
-        cuts,
         graph,
     };
     graphed(alloc, &by, bytes)

@@ -2,8 +2,8 @@
 
 ghost use Rattle.std.specs.Prelude.{IfOk};
 ghost use Rattle.chain_index.specs.Found.{AreReachesOf};
-ghost use Rattle.file_graph.specs.FileGraph.{IsGraphOf};
-ghost use Rattle.file_graph.specs.Survey.{AreSeedsOf};
+ghost use Rattle.file_program.specs.FileGraph.{IsGraphOf};
+ghost use Rattle.file_program.specs.FileSeeds.{AreSeedsOf};
 
 use crate::builder::Builder;
 use crate::memory::Memory;

@@ -21,6 +21,12 @@ impl From<code_view::Memory> for Memory {
     }
 }
 
+impl From<reached_cuts::Memory> for Memory {
+    fn from(_: reached_cuts::Memory) -> Self {
+        Memory
+    }
+}
+
 impl From<core_state::Memory> for Memory {
     fn from(_: core_state::Memory) -> Self {
         Memory

@@ -1,7 +1,6 @@
 //! The parts of a graph's making that threads share.
 
 ghost use Rattle.std.specs.Prelude.{◌≡◌, ◌≤◌, IfOk, IfErr};
-ghost use Rattle.std.specs.FinMap as map;
 ghost use Rattle.std.specs.Thread.{IsSync};
 ghost use Rattle.cfg_model.specs.Program.Reach.{AreSeeds};
 ghost use Rattle.cfg_model.specs.Builder.Kept.{IsClosed};
@@ -9,33 +8,34 @@ ghost use Rattle.code_view.specs.FileCode.{program_of};
 ghost use Rattle.cfg_model.specs.Graph.Graph.{IsGraph};
 ghost use Rattle.chain_index.specs.Found.{AreReachesOf};
 ghost use Rattle.finaliser.specs.Closed.{IsClosedFromSome, IsOutlineOf};
-ghost use Rattle.table_trim.specs.Tables.{AreAllTables};
+ghost use Rattle.table_cuts.specs.Tables.{AreAllTables};
 ghost use Rattle.file_graph.specs.Survey.{IsFaultOf, IsSurveyOf};
-ghost use Rattle.file_graph.specs.Inner.{AnswersCuts, AnswersSeeds};
+ghost use Rattle.file_graph.specs.Inner.{AnswersSeeds};
 
 use crate::memory::Memory;
 use crate::survey::Survey;
 use alone::build_alone;
-use cfg_model::Graph;
+use cfg_model::{Graph, Outline};
 use chain_index::ChainReaches;
-use code_view::{Code, Cuts};
+use code_view::Code;
 use core_state::State;
 use crew::{Gate, build};
 use elf_image::{ElfError, Image};
 use elf_symbols::{Seeds, seeds};
-use finaliser::{Outline, blocks_and_edges_by};
+use finaliser::blocks_and_edges_by;
 use func_bodies::{functions_by, mark_tails_by};
 use std::alloc::Global;
 use std::marker::Sync;
 use std::sync::Wait;
 use std::thread::{Threads, join};
-use table_trim::{TableJump, all_tables_by, cuts_by};
+use table_cuts::TableJump;
+use table_trim::all_tables_by;
 
 /// The gaps between the bounds of an outline that there are for each worker. With one each, all
 /// would wait for the one that is slowest or begins last; of four each, fast workers draw more.
 const GAPS_PER_WORKER: u32 = 4;
 
-/// The survey of a file, made by so many workers. One thread more reads the seeds meanwhile.
+/// The survey of a file, made by `workers` workers. One thread more reads the seeds meanwhile.
 ///
 /// [`ElfError::Malformed`] names the fault of its symbols, which is the first fault of the file.
 pub fn survey_with<R: Threads + Sync>(
@@ -66,7 +66,7 @@ pub fn survey_with<R: Threads + Sync>(
     }
 }
 
-/// The jump tables of all code, found by so many workers.
+/// The jump tables of all code, found by `workers` workers.
 pub fn tables_with<R: Threads + Sync>(
     rt: &R,
     alloc: Global,
@@ -79,9 +79,9 @@ pub fn tables_with<R: Threads + Sync>(
     Ok(all_tables_by(rt, alloc, code, workers)?)
 }
 
-/// The closed state of a program from its seeds, built by as many workers as there are seeds, and
-/// by so many at most. From one seed it is built on the caller's thread: there nearly each function
-/// is found by a call of the one before it, so that workers would wait for one another.
+/// A closed state of a program from its seeds, built by `workers` workers. From one seed it is built
+/// on the caller's thread: there nearly each function is found by a call of the one before it, so
+/// that workers would wait for one another.
 pub fn state_with<R: Threads + Wait + Sync, G: Gate>(
     rt: &R,
     alloc: Global,
@@ -90,35 +90,18 @@ pub fn state_with<R: Threads + Wait + Sync, G: Gate>(
     workers: u32,
     gate: &G,
 ) -> Result<State, Memory>
+    requires least { 2 ≤ workers }
     requires most { workers ≤ 64 }
     requires seeds { AreSeeds (program_of code.now) seeds.now }
     ensures { IfOk result (λ state. IsClosed (program_of code.now) seeds.now state.maps) }
 {
-    let busy = seeds.len().min(workers as usize) as u32;
-    if busy < 2 {
+    if seeds.len() < 2 {
         return Ok(build_alone(alloc, code, seeds)?);
     }
-    Ok(build(rt, alloc, code, seeds, busy, gate)?)
+    Ok(build(rt, alloc, code, seeds, workers, gate)?)
 }
 
-/// The cuts of the jump tables of a program without cuts, found by so many workers.
-pub fn cuts_with<R: Threads + Sync>(
-    rt: &R,
-    alloc: Global,
-    code: &Code,
-    state: &State,
-    workers: u32,
-) -> Result<Cuts, Memory>
-    requires some { 1 ≤ workers }
-    requires uncut { code.now.cuts ≡ map.empty }
-    requires closed { IsClosedFromSome (program_of code.now) state.now.maps }
-    ensures { AnswersCuts code.now state.now.maps result }
-{
-    let bounds = code.bounds(alloc, workers)?;
-    Ok(cuts_by(rt, alloc, code, state, &bounds)?)
-}
-
-/// The graph of a program with this entry, from its closed state, made by so many workers.
+/// The graph of a program with this entry, from its closed state, made by `workers` workers.
 pub fn graph_with<R: Threads + Sync>(
     rt: &R,
     alloc: Global,
@@ -145,7 +128,7 @@ pub fn graph_with<R: Threads + Sync>(
     })
 }
 
-/// The blocks and edges of a program, made by so many workers.
+/// The blocks and edges of a program, made by `workers` workers.
 fn outline_with<R: Threads + Sync>(
     rt: &R,
     alloc: Global,

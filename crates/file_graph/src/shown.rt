@@ -6,10 +6,10 @@ ghost use Rattle.cfg_model.specs.Builder.Kept.{IsClosed};
 ghost use Rattle.code_view.specs.FileCode.{program_of};
 
 use crate::memory::Memory;
-use cfg_model::Graph;
+use cfg_model::{Graph, Outline};
 use code_view::Code;
 use core_state::State;
-use finaliser::{Outline, blocks_and_edges};
+use finaliser::blocks_and_edges;
 use func_bodies::{functions, mark_tails};
 use std::alloc::Global;
 

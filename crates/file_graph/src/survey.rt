@@ -1,4 +1,4 @@
-//! What is told of a file before any of its program is followed.
+//! What is known of a file before any of its program is followed.
 
 ghost use Rattle.std.specs.Prelude.{IfOk, IfErr};
 ghost use Rattle.file_graph.specs.Survey.{IsFaultOf, IsSurveyOf};
@@ -8,7 +8,7 @@ use elf_image::{ElfError, Image};
 use elf_symbols::{Seeds, seeds};
 use std::alloc::Global;
 
-/// What is told of a file before any of its program is followed.
+/// What is known of a file before any of its program is followed.
 #[derive(Drop)]
 pub struct Survey {
     /// Where its control flow starts.

@@ -3,26 +3,13 @@
 //!
 //! - [`listing`]: the functions, in the order of their entries.
 //! - [`sharing`]: the same, made by several threads.
-//! - [`tails`]: tail calls among the edges.
-//! - [`tail_sharing`]: the same, found by several threads.
-//! - [`memory`]: the one free answer, want of memory.
+//!
+//! How they are found from blocks and edges, and tail calls among the edges, are in `outline_funcs`.
 #![tactic(auto)]
 
-mod blocks;
-mod bodies;
-mod entries;
-mod exits;
-mod found;
 pub mod listing;
-mod lists;
-pub mod memory;
-mod plan_sharing;
 pub mod sharing;
-pub mod tail_sharing;
-pub mod tails;
 
 pub use listing::functions;
-pub use memory::Memory;
-pub use sharing::{MOST_WORKERS, functions_by};
-pub use tail_sharing::mark_tails_by;
-pub use tails::mark_tails;
+pub use outline_funcs::{MOST_WORKERS, Memory, functions_among, mark_tails, mark_tails_by};
+pub use sharing::functions_by;

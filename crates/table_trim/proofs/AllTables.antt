@@ -21,13 +21,14 @@ use Rattle.stretches.specs.Stretch.{IsUpTo}
 use Rattle.stretches.specs.Gaps.{gap}
 use Rattle.stretches.proofs.Covered.{in_some_gap}
 use Rattle.stretches.proofs.Joined.{item_of, from_part, all_joined}
-use Rattle.table_trim.specs.declared.jumps.TableJump.{TableJump}
-use Rattle.table_trim.specs.Extents.{extent_at}
-use Rattle.table_trim.specs.Tables.{AreTablesOf, AreAllTables, addresses_of}
+use Rattle.table_cuts.specs.declared.jump.TableJump.{TableJump}
+use Rattle.table_cuts.specs.Extents.{extent_at}
+use Rattle.table_cuts.specs.Tables.{AreTablesOf, AreAllTables, addresses_of}
 use Rattle.table_trim.specs.Parts.{Answered, AreMade, jumps_in, AreTablesAmong, AreTablesIn, AreTablesByGap}
 use Rattle.table_trim.proofs.Shared.{addresses_in, addresses_joined}
-use Rattle.table_trim.proofs.Found.{same_length, jump_is}
-use Rattle.table_trim.proofs.Reached.{reached_jump, cuts-other, has-table}
+use Rattle.table_cuts.proofs.Found.{same_length, jump_is}
+use Rattle.table_cuts.proofs.Counted.{cuts-other, has-table}
+use Rattle.table_trim.proofs.Reached.{reached_jump}
 use Rattle.table_trim.proofs.Fewer.{reached-uncut}
 
 -- ---- finding them

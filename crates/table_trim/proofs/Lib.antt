@@ -1,7 +1,3 @@
-pub mod Found
-pub mod Least
-pub mod Kept
-pub mod Flows
 pub mod Walk
 pub mod Reached
 pub mod Shared

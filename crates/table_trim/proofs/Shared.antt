@@ -10,8 +10,8 @@ use Rattle.stretches.specs.declared.stretch.Stretch.{Stretch}
 use Rattle.stretches.specs.Stretch.{IsIn}
 use Rattle.stretches.specs.Gaps.{gap, whole}
 use Rattle.stretches.proofs.Joined.{item_of, joined_has, all_joined, known_joined}
-use Rattle.table_trim.specs.declared.jumps.TableJump.{TableJump}
-use Rattle.table_trim.specs.Tables.{addresses_of}
+use Rattle.table_cuts.specs.declared.jump.TableJump.{TableJump}
+use Rattle.table_cuts.specs.Tables.{addresses_of}
 use Rattle.table_trim.specs.Inner.{IsTableJump}
 use Rattle.table_trim.specs.Parts.{Answered, AreMade, AreJumpsIn, jumps_in}
 

@@ -11,8 +11,8 @@ use Rattle.jump_table.specs.Table.{table_at}
 use Rattle.cfg_model.specs.Program.Instructions.{InstructionMap, IsLawful}
 use Rattle.cfg_model.specs.Builder.State.{BuilderState, IsEntered}
 use Rattle.core_state.specs.Least.{IsAbove, IsLeast}
-use Rattle.table_trim.specs.declared.jumps.TableJump.{TableJump}
-use Rattle.table_trim.specs.Tables.{HasTable, AreTablesOf, addresses_of}
+use Rattle.table_cuts.specs.declared.jump.TableJump.{TableJump}
+use Rattle.table_cuts.specs.Tables.{HasTable, AreTablesOf, addresses_of}
 use Rattle.table_trim.specs.Inner.{IsTableJump}
 use Rattle.table_trim.specs.Parts.{AreJumpsIn}
 use Rattle.stretches.specs.declared.stretch.Stretch.{Stretch}

@@ -1,4 +1,4 @@
--- Words that no public clause cites: the table jumps of a state, or of all code, in one stretch of
+-- Words that no public clause cites: the table jumps of a state, or of all code, in one range of
 -- addresses, and those among some places.
 use Rattle.std.specs.Prelude.{◌≡◌, ◌⊎◌, ◌↔◌, ℕ, ◌+◌, ◌≤◌, List, [], length, slice_index_or}
 use Rattle.std.specs.Prelude.{Vec, Contains, Result, Ok, Err, IsOk, IfOk}
@@ -9,12 +9,12 @@ use Rattle.stretches.specs.declared.stretch.Stretch.{Stretch}
 use Rattle.stretches.specs.Stretch.{IsIn}
 use Rattle.stretches.specs.Gaps.{gap}
 use Rattle.code_view.specs.declared.memory.Memory.{Memory}
-use Rattle.table_trim.specs.declared.jumps.TableJump.{TableJump}
-use Rattle.table_trim.specs.Tables.{HasTable, AreTablesOf, addresses_of}
+use Rattle.table_cuts.specs.declared.jump.TableJump.{TableJump}
+use Rattle.table_cuts.specs.Tables.{HasTable, AreTablesOf, addresses_of}
 use Rattle.table_trim.specs.Inner.{IsTableJump}
 
--- These are the table jumps in a stretch that a state shows, with their tables. The program is
--- lawful where there is a terminator in it.
+-- These are the table jumps in a range that a state shows, with their tables. The program is lawful
+-- if there is a terminator in it.
 pub record AreJumpsIn
     (map : InstructionMap) (bytes : List ℕ) (state : BuilderState) (stretch : Stretch)
     (jumps : List TableJump) : Type 0 where
@@ -28,7 +28,7 @@ pub record AreTablesAmong (bytes places : List ℕ) (jumps : List TableJump) : T
   pub tables : AreTablesOf bytes jumps
   pub complete : (j : ℕ) → Contains places j → HasTable bytes j → Contains (addresses_of jumps) j
 
--- These are jumps with their tables, among them each of a stretch that has a table.
+-- These are jumps with their tables, among them each of a range that has a table.
 pub record AreTablesIn (bytes : List ℕ) (stretch : Stretch) (jumps : List TableJump) : Type 0 where
   pub tables : AreTablesOf bytes jumps
   pub complete : (j : ℕ) → IsIn stretch j → HasTable bytes j → Contains (addresses_of jumps) j
@@ -41,12 +41,12 @@ Answered = Result (Vec TableJump Global) Memory
 abbrev pub AreMade : Answered → Type 0
 AreMade answer = IsOk answer
 
--- These jumps; none where memory ran out.
+-- These jumps; none if memory ran out.
 abbrev pub jumps_in : Answered → List TableJump
 jumps_in (Ok jumps) = jumps.items
 jumps_in (Err e) = []
 
--- Each gap between bounds has an answer: its tables, where they were found.
+-- Each gap between bounds has an answer: its tables, if they were found.
 pub record AreTablesByGap (bytes bounds : List ℕ) (answers : List Answered) : Type 0 where
   pub as_many : length answers ≡ length bounds + 1
   pub each : (i : ℕ) (d : Answered) → i ≤ length bounds

@@ -3,17 +3,17 @@
 ghost use Rattle.std.specs.Prelude.{◌↔◌, IfOk, IsTrue, All};
 ghost use Rattle.elf_image.specs.Code.{is_code};
 ghost use Rattle.cfg_model.specs.Builder.State.{IsEntered};
-ghost use Rattle.table_trim.specs.Tables.{AreAllTables};
+ghost use Rattle.table_cuts.specs.Tables.{AreAllTables};
 ghost use Rattle.table_trim.specs.Parts.{AreTablesAmong, AreTablesIn};
 
-use crate::jumps::TableJump;
 use code_view::{Code, Memory};
 use core_state::State;
 use std::alloc::Global;
 use stretches::Stretch;
+use table_cuts::TableJump;
 
-/// The jumps of `code` that go through a table, reached or not, each with its table. [`Memory`]
-/// where memory ran out.
+/// The jumps of `code` that go through a table, reached or not, each with its table. [`Memory`] if
+/// memory ran out.
 ///
 /// It goes once over the halfwords of the code; the table of each jump through a register is looked
 /// up once.
@@ -24,7 +24,7 @@ pub fn all_tables(alloc: Global, code: &Code<'_>) -> Result<Vec<TableJump>, Memo
     tables_among(alloc, code, &places)
 }
 
-/// Those that lie in a stretch of addresses. It goes once over the halfwords of the code there.
+/// Those that lie in a range of addresses. It goes once over the halfwords of the code there.
 pub(crate) fn tables_in(
     alloc: Global,
     code: &Code<'_>,

@@ -15,17 +15,9 @@ use core_state::State;
 use jump_table::Table;
 use std::alloc::Global;
 use stretches::Stretch;
+use table_cuts::TableJump;
 
-/// A jump through a table, and its table.
-#[derive(Clone, Copy, Debug, PartialEq, Eq)]
-pub struct TableJump {
-    /// The address of the jump.
-    pub jump: u64,
-    /// Where its table lies, and how many entries it has before cuts.
-    pub table: Table,
-}
-
-/// The terminators of the state in a stretch that jump through a table, in order, each with its
+/// The terminators of the state in a range that jump through a table, in order, each with its
 /// table.
 pub(crate) fn table_jumps(
     alloc: Global,
@@ -60,8 +52,8 @@ fn term_up_to(state: &State, at: Option<u64>, last: Option<u64>) -> Option<u64>
     }
 }
 
-/// The table of the instruction at `k`; `None` exactly where it has none. Most are told by their
-/// first halfword.
+/// The table of the instruction at `k`; `None` exactly if it has none. For most of them the first
+/// halfword decides.
 fn table_of(code: &Code<'_>, k: u64) -> Option<Table>
     requires { IsSome (program_of code.now k) }
     ensures table { result ≡ table_at code.now.bytes k }

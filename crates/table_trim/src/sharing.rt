@@ -11,25 +11,26 @@ ghost use Rattle.cfg_model.specs.Builder.Kept.{IsClosed};
 ghost use Rattle.cfg_model.specs.Program.Reach.{Reached};
 ghost use Rattle.code_view.specs.Cuts.{cut_of, CutsFit};
 ghost use Rattle.code_view.specs.FileCode.{program_of};
-ghost use Rattle.table_trim.specs.Extents.{extent_at};
-ghost use Rattle.table_trim.specs.Tables.{AreAllTables};
+ghost use Rattle.table_cuts.specs.Extents.{extent_at};
+ghost use Rattle.table_cuts.specs.Tables.{AreAllTables};
 ghost use Rattle.table_trim.specs.Parts.{AreJumpsIn, AreMade, jumps_in};
 ghost use Rattle.table_trim.specs.Parts.{AreTablesIn, AreTablesByGap};
 
 use crate::everywhere::{all_tables, tables_in};
-use crate::jumps::{TableJump, table_jumps};
-use crate::trim::{cuts, cuts_of};
+use crate::jumps::table_jumps;
+use crate::trim::cuts;
 use code_view::{Code, Cuts, Memory};
 use core_state::State;
 use fan_out::map_indices;
 use std::alloc::Global;
 use std::thread::Threads;
 use stretches::Stretch;
+use table_cuts::{TableJump, cuts_of};
 
-/// The answer of [`cuts`], for which one thread more than there are bounds go over the terminators
-/// of the state: each over those in one gap between the bounds. So the bounds, which may be any
-/// addresses that do not fall, only say how the work is shared. With none no thread is started.
-/// [`Memory`] where memory ran out.
+/// The answer of [`cuts`]. `bounds.len() + 1` threads go over the terminators of the state, each
+/// over those in one gap between the bounds. The bounds may be any addresses that do not fall; they
+/// only say how the work is shared. Without bounds no thread is started. [`Memory`] if memory ran
+/// out.
 pub fn cuts_by<R: Threads + Sync>(
     rt: &R,
     alloc: Global,
@@ -75,9 +76,9 @@ fn jumps_by_gap<R: Threads + Sync>(
     Ok(map_indices(rt, alloc, bounds.len() + 1, &find)?)
 }
 
-/// The answer of [`all_tables`], for which so many threads go over the code, each over a stretch of
-/// about the same size: it finds the jumps through a register there, and looks up their tables.
-/// With one worker no thread is started. [`Memory`] where memory ran out.
+/// The answer of [`all_tables`]. `workers` threads go over the code, each over a range of about the
+/// same size. Each finds the jumps through a register there, and looks up their tables. With one
+/// worker no thread is started. [`Memory`] if memory ran out.
 pub fn all_tables_by<R: Threads + Sync>(
     rt: &R,
     alloc: Global,

@@ -1,7 +1,7 @@
 use Rattle.std.proofs.Common.{◌∙◌, subst, List, ℕ}
 use Rattle.code_view.proofs.Views.{none-fits}
-use Rattle.file_graph.specs.FileGraph.{AreCutsOf}
-use Rattle.file_graph.proofs.UnderCuts.{program-is, graph-under}
+use Rattle.file_program.specs.FileGraph.{AreCutsOf}
+use Rattle.file_program.proofs.UnderCuts.{program-is, graph-under}
 use Rattle.file_graph.proofs.graph.graph_of.Goals as goal
 
 pub new-uncut-requires-clause-cuts : goal.new-uncut-requires-clause-cuts

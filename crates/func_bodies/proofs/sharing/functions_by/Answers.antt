@@ -1,50 +1,22 @@
-use Rattle.std.proofs.Common.{sym, ◌∙◌}
-use Rattle.func_bodies.specs.Inner.Bodies.{IsFunctionBy}
-use Rattle.func_bodies.proofs.Joining.{serves_part, made_of_parts}
+use Rattle.std.proofs.Common.{of_calls, rules}
+use Rattle.cfg_model.specs.Builder.State.{IsStart}
+use Rattle.finaliser.specs.Closed.{IsClosedFromSome}
+use Rattle.func_bodies.proofs.Asked.{seeds_stand, entry_starts}
 use Rattle.func_bodies.proofs.sharing.functions_by.Goals as goal
 
-pub made_by_part-requires-after_bounds : goal.made_by_part-requires-after_bounds
-made_by_part-requires-after_bounds g c κs within =
-    let plan = c.in_ok-entries.field-0 in
-    rw c.deref-2.ensures.value
-    (serves_part (g.C.Chains.map c.args.code.now) c.args.state.now.maps plan.exits plan.entries.items c.in_ok-parts.parts.items
-    (c.in_ok-parts.ensures ∙ c.deref.ensures.value) c.in_ok-entries.ensures.serves)
+pub functions_among_by-requires-clause-outline : goal.functions_among_by-requires-clause-outline
+functions_among_by-requires-clause-outline g c κs within = c.requires.outline c.args.seeds.now c.requires.closed
 
-pub returns-clause-exact : goal.returns-clause-exact
-returns-clause-exact g c =
-    let plan = c.in_ok-entries.field-0 in
-    let R = IsFunctionBy (g.C.Chains.map c.args.code.now) plan.exits in
-    let parts = c.in_ok-parts.parts.items in
-    let lists = c.in_ok-lists.lists in
-    let functions = c.in_ok-functions.functions.items in
-    let each = made_of_parts R plan.entries.items parts lists.items functions (c.in_ok-parts.ensures ∙ c.deref.ensures.value)
-    (sym lists.ok.0 ∙ (rw c.deref-2.ensures.value at c.in_ok-lists.ensures.as_many))
-    (rw c.deref-2.ensures.value at c.in_ok-lists.ensures.each)
-    c.in_ok-functions.ensures.made c.in_ok-functions.ensures.joined in
-    rw c.from_vec.ensures (c.in_ok-entries.ensures.makes functions each).exact
+pub functions_among_by-requires-clause-seeds : goal.functions_among_by-requires-clause-seeds
+functions_among_by-requires-clause-seeds g c κs within = seeds_stand (g.C.Chains.map c.args.code.now) c.args.seeds.now c.args.state.now.maps c.requires.closed
 
-pub returns-clause-complete : goal.returns-clause-complete
-returns-clause-complete g c =
-    let plan = c.in_ok-entries.field-0 in
-    let R = IsFunctionBy (g.C.Chains.map c.args.code.now) plan.exits in
-    let parts = c.in_ok-parts.parts.items in
-    let lists = c.in_ok-lists.lists in
-    let functions = c.in_ok-functions.functions.items in
-    let each = made_of_parts R plan.entries.items parts lists.items functions (c.in_ok-parts.ensures ∙ c.deref.ensures.value)
-    (sym lists.ok.0 ∙ (rw c.deref-2.ensures.value at c.in_ok-lists.ensures.as_many))
-    (rw c.deref-2.ensures.value at c.in_ok-lists.ensures.each)
-    c.in_ok-functions.ensures.made c.in_ok-functions.ensures.joined in
-    rw c.from_vec.ensures (c.in_ok-entries.ensures.makes functions each).complete
-
-pub returns-clause-ordered : goal.returns-clause-ordered
-returns-clause-ordered g c =
-    let plan = c.in_ok-entries.field-0 in
-    let R = IsFunctionBy (g.C.Chains.map c.args.code.now) plan.exits in
-    let parts = c.in_ok-parts.parts.items in
-    let lists = c.in_ok-lists.lists in
-    let functions = c.in_ok-functions.functions.items in
-    let each = made_of_parts R plan.entries.items parts lists.items functions (c.in_ok-parts.ensures ∙ c.deref.ensures.value)
-    (sym lists.ok.0 ∙ (rw c.deref-2.ensures.value at c.in_ok-lists.ensures.as_many))
-    (rw c.deref-2.ensures.value at c.in_ok-lists.ensures.each)
-    c.in_ok-functions.ensures.made c.in_ok-functions.ensures.joined in
-    rw c.from_vec.ensures (c.in_ok-entries.ensures.makes functions each).ordered
+pub functions_among_by-requires-clause-returns : goal.functions_among_by-requires-clause-returns
+functions_among_by-requires-clause-returns g c κs within =
+    let map = g.C.Chains.map c.args.code.now in
+    let seeds = c.args.seeds.now in
+    let state = c.args.state.now.maps in
+    let closed : IsClosedFromSome map state = (seeds, c.requires.closed) in
+    record {
+      asks = λ a entry. let start : IsStart state.starts a = entry_starts map seeds state c.requires.closed c.know_laws.ensures a entry in search (of_calls, rules);
+      tells = λ a answer entry told. search (of_calls, rules);
+    }

@@ -2,9 +2,9 @@ use Rattle.std.proofs.Common.{List, sym, subst}
 use Rattle.std.specs.List.{Contains}
 use Rattle.cfg_model.specs.Program.Cuts.{AreCuts}
 use Rattle.stretches.specs.Gaps.{whole}
-use Rattle.table_trim.specs.declared.jumps.TableJump.{TableJump}
-use Rattle.table_trim.specs.Extents.{extent_at}
-use Rattle.table_trim.specs.Tables.{AreTablesOf, addresses_of}
+use Rattle.table_cuts.specs.declared.jump.TableJump.{TableJump}
+use Rattle.table_cuts.specs.Extents.{extent_at}
+use Rattle.table_cuts.specs.Tables.{AreTablesOf, addresses_of}
 use Rattle.table_trim.specs.Parts.{AreJumpsIn}
 use Rattle.code_view.specs.Cuts.{cut_of}
 use Rattle.code_view.specs.FileCode.{program_of}

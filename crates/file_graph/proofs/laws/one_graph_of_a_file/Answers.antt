@@ -1,5 +1,0 @@
-use Rattle.file_graph.proofs.Unique.{cuts-unique, graph-unique}
-use Rattle.file_graph.proofs.laws.one_graph_of_a_file.Goals as goal
-
-pub returns : goal.returns
-returns c = record { cuts = cuts-unique; graph = graph-unique }

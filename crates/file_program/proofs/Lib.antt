@@ -1,0 +1,2 @@
+pub mod UnderCuts
+pub mod Unique

@@ -1,0 +1,3 @@
+pub mod FileSeeds
+pub mod FileGraph
+pub mod Laws

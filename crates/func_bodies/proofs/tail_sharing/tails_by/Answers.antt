@@ -1,8 +1,0 @@
-use Rattle.func_bodies.proofs.TailPlaces.{all_listed}
-use Rattle.func_bodies.proofs.tail_sharing.tails_by.Goals as goal
-
-pub returns : goal.returns
-returns g c =
-    all_listed c.args.functions.now c.args.edges.now _
-    c.in_ok-lists.lists.items c.new.result.items c.appended.result
-    c.new.ensures.items c.in_ok-lists.ensures c.appended.ensures.made c.appended.ensures.appended

@@ -1,0 +1,15 @@
+-- Which jump tables count where tables overlap.
+use Rattle.std.specs.Prelude.{ℕ, List, Contains}
+use Rattle.cfg_model.specs.Program.Reach.{Reached}
+use Rattle.code_view.specs.FileCode.{FileCode, program_of}
+use Rattle.table_cuts.specs.declared.jump.TableJump.{TableJump}
+use Rattle.table_cuts.specs.Tables.{AreTablesOf, addresses_of}
+
+-- These are those of some jumps through tables that the program reaches from its seeds.
+pub record AreReachedAmong (code : FileCode) (seeds : List ℕ) (tables counted : List TableJump)
+    : Type 0 where
+  pub tables_of : AreTablesOf code.bytes counted
+  pub only : (j : ℕ) → Contains (addresses_of counted) j
+      → Contains (addresses_of tables) j × Reached (program_of code) seeds j
+  pub all : (j : ℕ) → Contains (addresses_of tables) j → Reached (program_of code) seeds j
+      → Contains (addresses_of counted) j

@@ -1,0 +1,129 @@
+-- Why what is given to a change is so.
+use Rattle.std.proofs.Common.{◌≡◌, ℕ, Bool, true, false, List, [], ◌∷◌, ◌++◌, Option, Some, None, IsSome, refl, sym, ap, ◌∙◌, subst, inl, inr, arith, ◌+◌, ◌<◌, ◌≤◌, length, take, get_or}
+use Rattle.std.specs.Prelude.{IfSome, All, Contains, option_to_list}
+use Rattle.std.proofs.lemmas.List.{get_or_append_left, length_push, take_all, take_more}
+use Rattle.std.proofs.lemmas.List.Elements.{All-push, Contains-push}
+use Rattle.cfg_model.specs.declared.flow.Flow.{Flow}
+use Rattle.cfg_model.specs.declared.flow.Flow.TheVariants.{Straight, Branch, Jump, Call, IndirectCall, Table, Return, Unknown, Stop}
+use Rattle.cfg_model.specs.Program.Instructions.{Instruction, InstructionMap, IsLawful, flow_at, targets_at}
+use Rattle.cfg_model.specs.Program.Chain.{IsTerminatorOf}
+use Rattle.cfg_model.specs.Program.Successors.{IsSuccessor, IsCall, ReturnsByItself, LeavesFunction, successors_of_flow, successors_by}
+use Rattle.cfg_model.specs.Program.Reach.{Reached}
+use Rattle.cfg_model.specs.Program.Status.{Returns}
+use Rattle.cfg_model.proofs.Program.Along.{returns_along}
+use Rattle.cfg_model.proofs.Program.Listed.{none_in, in_cases}
+use Rattle.reached_terms.specs.declared.marks.Marks.{Marks}
+use Rattle.reached_terms.specs.Numbering.{IsNumbering}
+use Rattle.reached_terms.specs.Inner.Marks.{IsOn, IsNumberOf, AreKept, AreRight, Leads, LeadsBy, LeadsOn, ReturnsBy, IsLed, IsCalled, IsVisited, IsCutOff, HasWay}
+use Rattle.reached_terms.specs.Inner.Steps.{Grow, Step, IsArrived}
+use Rattle.reached_terms.proofs.Complete.{ends_stand}
+use Rattle.reached_terms.proofs.Growth.{led-grow, step-none, step-on}
+
+module _ (map : InstructionMap) (number : ℕ → ℕ) where
+  -- the number of the terminator at which one arrived
+  pub arrived_number : (m : Marks) (a n : ℕ) → IsArrived map number m a n → IsNumberOf map number n
+  arrived_number m a n at = record { at = at.end; has = ends_stand (map at.end) at.ends.ends; is = at.is }
+
+  -- what waits for the terminator at which one arrived
+  pub leads_by : (count : ℕ) → IsNumbering map number count → (seeds : List ℕ) (m : Marks) (from b to : ℕ) → IsArrived map number m b to → LeadsOn map number seeds from b → LeadsBy map number seeds from to None
+  leads_by count numbering seeds m from b to at leads f t f_has t_has f_is t_is returns =
+      let same : t ≡ at.end = numbering.apart t at.end t_has (ends_stand (map at.end) at.ends.ends) (sym t_is ∙ at.is) in
+      leads.1 f f_has f_is (returns_along at.ends.reaches (subst (Returns map) same returns))
+
+  pub leads_on : (seeds : List ℕ) (from to fall : ℕ) → IsNumberOf map number from → IsNumberOf map number to → ReturnsBy map number to → LeadsBy map number seeds from to (Some fall) → LeadsOn map number seeds from fall
+  leads_on seeds from to fall from_is to_is returns leads =
+      let t = to_is.at in
+      let t_returns : Returns map t = returns t to_is.has to_is.is in (
+        (leads from_is.at t from_is.has to_is.has from_is.is to_is.is t_returns).0,
+        λ a has is. (leads a t has to_is.has is to_is.is t_returns).1,
+      )
+
+  pub returns_by : (seeds : List ℕ) (from to : ℕ) → IsNumberOf map number to → ReturnsBy map number to → LeadsBy map number seeds from to None → ReturnsBy map number from
+  returns_by seeds from to to_is returns leads a has is = leads a to_is.at has to_is.has is to_is.is (returns to_is.at to_is.has to_is.is)
+
+  -- a call that waits for its target
+  pub call_leads : (count : ℕ) → IsNumbering map number count → (seeds : List ℕ) (m : Marks) (from target to fall : ℕ) → IsArrived map number m target to → (Returns map target → LeadsOn map number seeds from fall) → LeadsBy map number seeds from to (Some fall)
+  call_leads count numbering seeds m from target to fall at leads f t f_has t_has f_is t_is returns =
+      let same : t ≡ at.end = numbering.apart t at.end t_has (ends_stand (map at.end) at.ends.ends) (sym t_is ∙ at.is) in
+      let on = leads (returns_along at.ends.reaches (subst (Returns map) same returns)) in
+      (on.0, on.1 f f_has f_is)
+
+  -- where one arrived and linked
+  pub led : (old new : Marks) (n b to : ℕ) → IsArrived map number old b to → Grow old new → HasWay new.ways.items n to None → IsLed map number new n b
+  led old new n b to at grow way = record {
+    end = at.end;
+    ends = at.ends;
+    reached = grow.reached (number at.end) (subst (λ k. IsOn old.reached.items k) at.is at.reached);
+    way = subst (λ k. HasWay new.ways.items n k None) at.is way;
+  }
+
+  -- an address at which one arrived, and one way more
+  pub lead-step : (old mid new : Marks) (n b to : ℕ) → AreKept map number mid → Step map number (λ seeds. Reached map seeds b) old mid → IsArrived map number mid b to
+      → Step map number (λ seeds. LeadsBy map number seeds n to None) mid new → Step map number (λ seeds. LeadsOn map number seeds n b) old new
+  lead-step old mid new n b to kept first at second =
+      step-on map number (λ seeds. Reached map seeds b) (λ seeds. LeadsBy map number seeds n to None) (λ seeds. LeadsOn map number seeds n b) old mid new first second
+      (λ seeds right given. given.0)
+      (λ seeds right given. leads_by _ kept.numbering seeds mid n b to at given)
+
+-- ---- by flow
+
+module _ (map : InstructionMap) (number : ℕ → ℕ) (count : ℕ) (numbering : IsNumbering map number count) (n k : ℕ) (has : IsSome (map k)) (is : n ≡ number k) where
+  same_place : (a : ℕ) → IsSome (map a) → n ≡ number a → k ≡ a
+  same_place a a_has a_is = numbering.apart k a has a_has (sym is ∙ a_is)
+
+  pub number_is : IsNumberOf map number n
+  number_is = record { at = k; has = has; is = is }
+
+  pub on_successor : (seeds : List ℕ) (b : ℕ) → IsSuccessor map k b → Reached map seeds k → LeadsOn map number seeds n b
+  on_successor seeds b next reached = (Reached.onward reached next, λ a a_has a_is returns. subst (Returns map) (same_place a a_has a_is) (Returns.onward next returns))
+
+  pub on_fall : (seeds : List ℕ) (target fall : ℕ) → IsCall map k target (Some fall) → Reached map seeds k → Returns map target → LeadsOn map number seeds n fall
+  on_fall seeds target fall call reached returns = (Reached.past_call reached call returns, λ a a_has a_is goes_on. subst (Returns map) (same_place a a_has a_is) (Returns.past_call call returns goes_on))
+
+  pub on_itself : ReturnsByItself map k → ReturnsBy map number n
+  on_itself leaves a a_has a_is = subst (Returns map) (same_place a a_has a_is) (Returns.by_itself leaves)
+
+-- the kept targets of an instruction are those of instructions
+pub targets_known : (map : InstructionMap) → IsLawful map → (k : ℕ) → IsSome (map k) → All (λ b. IsSome (map b)) (targets_at map k)
+targets_known map lawful k has = at (map k) refl has
+  where
+    at : (o : Option Instruction) → map k ≡ o → IsSome o → All (λ b. IsSome (map b)) (targets_at map k)
+    at None is there = absurd (cc)
+    at (Some i) is there = rw is (lawful k i is).kept
+
+-- all of a list, and one more
+pub all_split : (P : ℕ → Type 0) (xs : List ℕ) (x : ℕ) → All P (xs ++ x ∷ []) → All P xs × P x
+all_split P xs x all =
+    let last = Contains-push xs x in (
+      λ k d below. subst P (get_or_append_left xs (x ∷ []) d k below) (all k d (omega (arith, below, length_push xs x))),
+      subst P last.2 (all last.0 x last.1),
+    )
+
+-- a whole list was gone through
+pub all_taken : (xs : List ℕ) (i : ℕ) (ys : List ℕ) → length xs ≤ i → xs ≡ ys → take i xs ≡ ys
+all_taken xs i ys past same = take_all i xs past ∙ same
+
+-- Some of the targets of a table are followed.
+pub record AreFollowed (map : InstructionMap) (number : ℕ → ℕ) (n : ℕ) (start now : Marks) (bs : List ℕ) : Type 0 where
+  pub step : Step map number (λ seeds. All (LeadsOn map number seeds n) bs) start now
+  pub led : All (IsLed map number now n) bs
+
+module _ (map : InstructionMap) (number : ℕ → ℕ) (n : ℕ) where
+  pub followed-none : (start : Marks) (bs : List ℕ) → AreKept map number start → length bs ≡ 0 → AreFollowed map number n start start bs
+  followed-none start bs kept none = record { step = step-none map number _ start kept; led = λ k d below. absurd (omega (arith, below, none)) }
+
+  pub followed-more : (bs : List ℕ) (i : ℕ) (start now new : Marks) → i < length bs → AreFollowed map number n start now (take i bs) → Step map number (λ seeds. LeadsOn map number seeds n (get_or bs i 0)) now new → IsLed map number new n (get_or bs i 0)
+      → AreFollowed map number n start new (take (i + 1) bs)
+  followed-more bs i start now new within so_far step here =
+      let b : ℕ = get_or bs i 0 in
+      let more : take (i + 1) bs ≡ take i bs ++ b ∷ [] = take_more bs i 0 within in
+      let parts = λ (seeds : List ℕ) (given : All (LeadsOn map number seeds n) (take (i + 1) bs)). all_split (LeadsOn map number seeds n) (take i bs) b (subst (λ xs. All (LeadsOn map number seeds n) xs) more given) in
+      record {
+        step = step-on map number (λ seeds. All (LeadsOn map number seeds n) (take i bs)) (λ seeds. LeadsOn map number seeds n b) (λ seeds. All (LeadsOn map number seeds n) (take (i + 1) bs)) start now new
+            so_far.step step (λ seeds right given. (parts seeds given).0) (λ seeds right given. (parts seeds given).1);
+        led = subst (λ xs. All (IsLed map number new n) xs) (sym more)
+            (All-push (IsLed map number new n) (take i bs) b (λ k d below. led-grow map number now new step.grow n _ (so_far.led k d below)) here);
+      }
+
+  pub followed-all : (bs ts : List ℕ) (i : ℕ) (start now : Marks) → length bs ≤ i → bs ≡ ts → AreFollowed map number n start now (take i bs) → AreFollowed map number n start now ts
+  followed-all bs ts i start now past same so_far = subst (AreFollowed map number n start now) (all_taken bs i ts past same) so_far

@@ -1,0 +1,11 @@
+pub mod Bits
+pub mod Growth
+pub mod Changes
+pub mod Links
+pub mod Arrivals
+pub mod Complete
+pub mod Leading
+pub mod Visits
+pub mod Telling
+pub mod Closing
+pub mod CodeNumbers

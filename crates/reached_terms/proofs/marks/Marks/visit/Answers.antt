@@ -1,0 +1,122 @@
+use Rattle.std.proofs.Common.{◌≡◌, ℕ, List, [], ◌∷◌, ◌++◌, Option, Some, IsSome, get_or, sym, ap, ◌∙◌, subst, inl, inr}
+use Rattle.std.specs.Prelude.{IfSome, All}
+use Rattle.std.proofs.lemmas.Result.{on_ok_weaker}
+use Rattle.std.proofs.lemmas.List.Elements.{Contains-get_or}
+use Rattle.cfg_model.specs.declared.flow.Flow.TheVariants.{Branch, Jump, Call, IndirectCall, Table, Return, Unknown}
+use Rattle.cfg_model.specs.Program.Instructions.{flow_at, targets_at}
+use Rattle.cfg_model.specs.Program.Successors.{LeavesFunction, ReturnsByItself}
+use Rattle.cfg_model.specs.Program.Reach.{Reached}
+use Rattle.cfg_model.specs.Program.Status.{Returns}
+use Rattle.cfg_model.proofs.Program.Known.{successor_from_flow}
+use Rattle.cfg_model.proofs.Program.Listed.{head_in}
+use Rattle.reached_terms.specs.Inner.Marks.{IsNumberOf, ReturnsBy, LeadsOn}
+use Rattle.reached_terms.proofs.Changes.{mark-step}
+use Rattle.reached_terms.proofs.Complete.{ends_stand}
+use Rattle.reached_terms.proofs.Growth.{step-given}
+use Rattle.reached_terms.proofs.Leading.{on_successor, on_fall, on_itself, number_is}
+use Rattle.reached_terms.proofs.Visits.{some_of, in_first, in_second, in_one, leaves_so, table_visited}
+use Rattle.reached_terms.proofs.marks.Marks.visit.Goals as goal
+
+pub returns-in-Branch-clause-step : goal.returns-in-Branch-clause-step
+returns-in-Branch-clause-step g c =
+    let map = g.C.Chains.map c.args.code.now in
+    let number = g.C.Numbered.number c.args.code.now in
+    let k = c.args.k in
+    let n = c.number-n.result in
+    let taken = c.in-Branch.taken in
+    let fall = c.in-Branch.fall in
+    let has = ends_stand (map k) c.requires.ends in
+    let flow = c.in-Branch.ensures.flow in
+    let numbering = c.requires.kept.numbering in
+    on_ok_weaker c.branch-self.result
+    (λ step. step-given map number _ (λ seeds. Reached map seeds k) c.args.self.now c.branch-self.new.self step
+    (λ seeds right reached. (
+      some_of (LeadsOn map number seeds n) taken (λ b is. on_successor map number _ numbering n k has c.number-n.ensures seeds b (successor_from_flow map k (Branch taken fall) flow b (in_first taken fall b is)) reached),
+      some_of (LeadsOn map number seeds n) fall (λ b is. on_successor map number _ numbering n k has c.number-n.ensures seeds b (successor_from_flow map k (Branch taken fall) flow b (in_second taken fall b is)) reached),
+      λ cut. on_itself map number _ numbering n k has c.number-n.ensures (subst LeavesFunction (sym flow) (leaves_so taken fall cut)),
+    )))
+    c.branch-self.ensures.step
+
+pub returns-in-Jump-clause-step : goal.returns-in-Jump-clause-step
+returns-in-Jump-clause-step g c =
+    let map = g.C.Chains.map c.args.code.now in
+    let number = g.C.Numbered.number c.args.code.now in
+    let k = c.args.k in
+    let target = c.in-Jump.target in
+    let has = ends_stand (map k) c.requires.ends in
+    on_ok_weaker c.lead-in-Jump.result
+    (λ step. step-given map number _ (λ seeds. Reached map seeds k) c.args.self.now c.lead-in-Jump.new.self step
+    (λ seeds right reached. on_successor map number _ c.requires.kept.numbering c.number-n.result k has c.number-n.ensures seeds target
+    (successor_from_flow map k (Jump target) c.in-Jump.ensures.flow target (head_in target [])) reached))
+    c.lead-in-Jump.ensures.step
+
+pub returns-in-Call-clause-step : goal.returns-in-Call-clause-step
+returns-in-Call-clause-step g c =
+    let map = g.C.Chains.map c.args.code.now in
+    let number = g.C.Numbered.number c.args.code.now in
+    let k = c.args.k in
+    let n = c.number-n.result in
+    let target = c.in-Call.target in
+    let fall = c.in-Call.fall in
+    let has = ends_stand (map k) c.requires.ends in
+    let call = c.in-Call.ensures.flow in
+    on_ok_weaker c.call_from.result
+    (λ step. step-given map number _ (λ seeds. Reached map seeds k) c.args.self.now c.call_from.new.self step
+    (λ seeds right reached. (
+      Reached.called reached call,
+      some_of (λ f. Returns map target → LeadsOn map number seeds n f) fall
+          (λ f is returns. on_fall map number _ c.requires.kept.numbering n k has c.number-n.ensures seeds target f (call ∙ ap (λ o. Some (Call target o)) is) reached returns),
+    )))
+    c.call_from.ensures.step
+
+pub returns-in-IndirectCall-clause-step : goal.returns-in-IndirectCall-clause-step
+returns-in-IndirectCall-clause-step g c =
+    let map = g.C.Chains.map c.args.code.now in
+    let number = g.C.Numbered.number c.args.code.now in
+    let k = c.args.k in
+    let n = c.number-n.result in
+    let fall = c.in-IndirectCall.fall in
+    let has = ends_stand (map k) c.requires.ends in
+    on_ok_weaker c.lead_any.result
+    (λ step. step-given map number _ (λ seeds. Reached map seeds k) c.args.self.now c.lead_any.new.self step
+    (λ seeds right reached. some_of (LeadsOn map number seeds n) fall
+    (λ b is. on_successor map number _ c.requires.kept.numbering n k has c.number-n.ensures seeds b (successor_from_flow map k (IndirectCall fall) c.in-IndirectCall.ensures.flow b (in_one fall b is)) reached)))
+    c.lead_any.ensures.step
+
+pub returns-in-Table-clause-step : goal.returns-in-Table-clause-step
+returns-in-Table-clause-step g c =
+    let map = g.C.Chains.map c.args.code.now in
+    let number = g.C.Numbered.number c.args.code.now in
+    let k = c.args.k in
+    let n = c.number-n.result in
+    let has = ends_stand (map k) c.requires.ends in
+    on_ok_weaker c.table.result
+    (λ step. step-given map number _ (λ seeds. Reached map seeds k) c.args.self.now c.table.new.self step
+    (λ seeds right reached i d below. on_successor map number _ c.requires.kept.numbering n k has c.number-n.ensures seeds (get_or (targets_at map k) i d)
+    (successor_from_flow map k (Table c.in-Table.entries c.in-Table.full c.in-Table.is_open) c.in-Table.ensures.flow (get_or (targets_at map k) i d) (Contains-get_or (targets_at map k) i d below)) reached))
+    c.table.ensures.step
+
+pub returns-in-Table-clause-visited : goal.returns-in-Table-clause-visited
+returns-in-Table-clause-visited g c =
+    let map = g.C.Chains.map c.args.code.now in
+    let number = g.C.Numbered.number c.args.code.now in
+    on_ok_weaker c.table.result
+    (λ led. table_visited map number c.table.new.self c.number-n.result c.args.k c.number-n.ensures c.in-Table.entries c.in-Table.full c.in-Table.is_open c.in-Table.ensures.flow led)
+    c.table.ensures.led
+
+pub returns-in-Return-clause-step : goal.returns-in-Return-clause-step
+returns-in-Return-clause-step g c =
+    let map = g.C.Chains.map c.args.code.now in
+    let number = g.C.Numbered.number c.args.code.now in
+    let k = c.args.k in
+    let n = c.number-n.result in
+    let has = ends_stand (map k) c.requires.ends in
+    let leaves : ReturnsByItself map k = elim c.in-Return.is [
+      | inl is ↦ subst LeavesFunction (sym (c.flow.ensures.flow ∙ ap (λ f. Some f) is)) tt
+      | inr is ↦ subst LeavesFunction (sym (c.flow.ensures.flow ∙ ap (λ f. Some f) is)) tt
+    ] in
+    on_ok_weaker c.mark.result
+    (λ marked. step-given map number (λ seeds. ReturnsBy map number n) (λ seeds. Reached map seeds k) c.args.self.now c.mark.new.self
+    (mark-step map number n c.args.self.now c.mark.new.self c.requires.kept (number_is map number _ c.requires.kept.numbering n k has c.number-n.ensures) marked)
+    (λ seeds right reached. on_itself map number _ c.requires.kept.numbering n k has c.number-n.ensures leaves))
+    c.mark.ensures

@@ -1,0 +1,5 @@
+pub mod Found
+pub mod Least
+pub mod Kept
+pub mod Flows
+pub mod Counted

@@ -1,0 +1,3 @@
+pub mod Extents
+pub mod Tables
+pub mod Inner
