@@ -1,0 +1,2 @@
+mod HighHalves
+mod Worked

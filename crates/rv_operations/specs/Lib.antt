@@ -1,0 +1,4 @@
+pub mod Arithmetic
+pub mod Operations
+pub mod Atomics
+pub mod Loads

@@ -1,0 +1,109 @@
+//! The operations at the corner cases of the manual (RISC-V Unprivileged ISA 20240411, chapters 2,
+//! 4, 13 and 14).
+
+use rv_decode::{
+    AtomicKind, BranchKind, ImmKind, ImmWKind, LoadKind, RegKind, RegWKind, StoreKind,
+};
+use rv_operations::{
+    atomic_double, atomic_word, imm_result, imm_w_result, is_taken, load_result, load_size,
+    reg_result, reg_w_result, store_size,
+};
+use std::test::Fail;
+
+/// -1, and the least numbers of 64 and of 32 bits.
+const ONES: u64 = u64::MAX;
+
+const LEAST: u64 = 1 << 63;
+
+const LEAST_WORD: u64 = 0xFFFF_FFFF_8000_0000;
+
+const REG: [(RegKind, u64, u64, u64); 14] = [
+    (RegKind::Add, ONES, 1, 0),
+    (RegKind::Sub, 0, 1, ONES),
+    (RegKind::Sll, 1, 65, 2),
+    (RegKind::Slt, ONES, 0, 1),
+    (RegKind::Sltu, ONES, 0, 0),
+    (RegKind::Sra, LEAST, 127, ONES),
+    (RegKind::Mulh, ONES, ONES, 0),
+    (RegKind::Mulhsu, ONES, ONES, ONES),
+    (RegKind::Mulhu, ONES, ONES, ONES - 1),
+    (RegKind::Div, 7, 0, ONES),
+    (RegKind::Div, LEAST, ONES, LEAST),
+    (RegKind::Rem, 7, 0, 7),
+    (RegKind::Rem, LEAST, ONES, 0),
+    (RegKind::Divu, 7, 0, ONES),
+];
+
+const REG_W: [(RegWKind, u64, u64, u64); 7] = [
+    (RegWKind::Addw, 0x7FFF_FFFF, 1, LEAST_WORD),
+    (RegWKind::Sllw, 1, 33, 2),
+    (RegWKind::Srlw, LEAST_WORD, 31, 1),
+    (RegWKind::Sraw, LEAST_WORD, 31, ONES),
+    (RegWKind::Divw, LEAST_WORD, ONES, LEAST_WORD),
+    (RegWKind::Divuw, 7, 1 << 32, ONES),
+    (RegWKind::Remw, 7, 1 << 32, 7),
+];
+
+#[test]
+fn operations_on_registers(rt: HostRuntime) -> Result<(), Fail> {
+    for (kind, x, y, result) in REG {
+        assert!(rt; reg_result(kind, x, y) == result);
+    }
+    for (kind, x, y, result) in REG_W {
+        assert!(rt; reg_w_result(kind, x, y) == result);
+    }
+    Ok(())
+}
+
+const IMM: [(ImmKind, u64, u64, u64); 3] = [
+    (ImmKind::Sltiu, 5, ONES, 1),
+    (ImmKind::Andi, 0xFF, ONES - 15, 0xF0),
+    (ImmKind::Srai, LEAST, 63, ONES),
+];
+
+const IMM_W: [(ImmWKind, u64, u64, u64); 2] = [
+    (ImmWKind::Addiw, 1 << 32, ONES, ONES),
+    (ImmWKind::Sraiw, LEAST_WORD, 4, 0xFFFF_FFFF_F800_0000),
+];
+
+const BRANCHES: [(BranchKind, u64, u64, bool); 4] = [
+    (BranchKind::Blt, ONES, 0, true),
+    (BranchKind::Bltu, ONES, 0, false),
+    (BranchKind::Bge, LEAST, 0, false),
+    (BranchKind::Bgeu, LEAST, 0, true),
+];
+
+#[test]
+fn immediates_and_branches(rt: HostRuntime) -> Result<(), Fail> {
+    for (kind, x, y, result) in IMM {
+        assert!(rt; imm_result(kind, x, y) == result);
+    }
+    for (kind, x, y, result) in IMM_W {
+        assert!(rt; imm_w_result(kind, x, y) == result);
+    }
+    for (kind, x, y, taken) in BRANCHES {
+        assert!(rt; is_taken(kind, x, y) == taken);
+    }
+    Ok(())
+}
+
+const WORDS: [(AtomicKind, u32, u32, u32); 5] = [
+    (AtomicKind::Add, u32::MAX, 1, 0),
+    (AtomicKind::Min, 1 << 31, 1, 1 << 31),
+    (AtomicKind::Minu, 1 << 31, 1, 1),
+    (AtomicKind::Max, 1 << 31, 1, 1),
+    (AtomicKind::Maxu, 1 << 31, 1, 1 << 31),
+];
+
+#[test]
+fn atomics_and_loads(rt: HostRuntime) -> Result<(), Fail> {
+    for (kind, x, y, result) in WORDS {
+        assert!(rt; atomic_word(kind, x, y) == result);
+    }
+    assert!(rt; atomic_double(AtomicKind::Min, LEAST, 1) == LEAST);
+    assert!(rt; load_result(LoadKind::Lb, 0x80) == ONES - 0x7F);
+    assert!(rt; load_result(LoadKind::Lhu, 0x8000) == 0x8000);
+    assert!(rt; load_size(LoadKind::Lwu) == 4);
+    assert!(rt; store_size(StoreKind::Sd) == 8);
+    Ok(())
+}

@@ -1,0 +1,73 @@
+//! Small programs, each run from its first instruction to the trap that ends it.
+
+use crate::small_file::FILE;
+use elf_image::Image;
+use rv_flow::insn_at;
+use rv_machine::{Cpu, Regions, Stepped, Trap, step, step_placed};
+use std::alloc::Global;
+use std::test::Fail;
+
+/// Where a program starts, the trap that ends it, a register, and what it then holds.
+type Case = (u64, Trap, u8, u64);
+
+/// `mulhsu` and `remw` of -7 and 3; words of read-only data, and a store there; LR.D, SC.D twice
+/// and AMOSWAP.W; SC.D after LR.W; a call by `auipc` and `jalr`, and a store past the stack; the
+/// other traps.
+const CASES: [Case; 19] = [
+    (0x10000, Trap::Ecall, 12, u64::MAX),
+    (0x10000, Trap::Ecall, 13, u64::MAX),
+    (0x10010, Trap::StoreFault, 10, 0xFFFF_FFFF_8000_0002),
+    (0x10010, Trap::StoreFault, 11, 0x8000_0001_8000_0002),
+    (0x10010, Trap::StoreFault, 12, 0x80),
+    (0x10030, Trap::Csr, 10, 0xFFFF_FFFF_0000_0005),
+    (0x10030, Trap::Csr, 11, 0),
+    (0x10030, Trap::Csr, 12, 1),
+    (0x10030, Trap::Csr, 13, 0x30000),
+    (0x10050, Trap::Breakpoint, 10, 5),
+    (0x10050, Trap::Breakpoint, 11, 1),
+    (0x10060, Trap::StoreFault, 1, 0x10068),
+    (0x10060, Trap::StoreFault, 10, 0x68),
+    (0x10090, Trap::Misaligned, 5, 0x7FFF_0002),
+    (0x100A0, Trap::LoadFault, 0, 0),
+    (0x100B0, Trap::Illegal, 2, 0x7FFF_0000),
+    (0x100C0, Trap::Float, 2, 0x7FFF_0000),
+    (0x100D0, Trap::Fetch, 2, 0x7FFF_0000),
+    (0x100E0, Trap::StoreFault, 5, 0x100E0),
+];
+
+fn ends_so(alloc: Global, image: &Image, case: Case) -> bool {
+    let (start, trap, register, value) = case;
+    let Ok(mut ram) = Regions::new(alloc, image) else {
+        return false;
+    };
+    let mut cpu = Cpu::start(start, 0x7FFF_0000);
+    for _ in 0..20 {
+        if let Stepped::Trap(found) = step(image, &mut cpu, &mut ram) {
+            return found == trap && cpu.registers.get(register % 32) == value;
+        }
+    }
+    false
+}
+
+#[test]
+fn programs_end_so(rt: HostRuntime) -> Result<(), Fail> {
+    let alloc = rt.alloc();
+    let image = Image::parse(alloc, Vec::from_slice(alloc, &FILE)?)?;
+    for case in CASES {
+        assert!(rt; ends_so(alloc, &image, case));
+    }
+    Ok(())
+}
+
+/// The first step of a program, whose instruction is decoded before.
+#[test]
+fn a_decoded_instruction(rt: HostRuntime) -> Result<(), Fail> {
+    let alloc = rt.alloc();
+    let image = Image::parse(alloc, Vec::from_slice(alloc, &FILE)?)?;
+    let mut ram = Regions::new(alloc, &image).ok().ok_or("no memory")?;
+    let mut cpu = Cpu::start(image.entry(), 0x7FFF_0000);
+    let placed = insn_at(&image, cpu.pc);
+    assert!(rt; step_placed(&image, &mut cpu, &mut ram, placed) == Stepped::Next);
+    assert!(rt; cpu.pc == 0x10002);
+    Ok(())
+}
