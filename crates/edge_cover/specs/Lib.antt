@@ -1,0 +1,5 @@
+pub mod Move
+pub mod Covered
+pub mod Runs
+pub mod TableRun
+pub mod Cover

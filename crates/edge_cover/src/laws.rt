@@ -1,0 +1,17 @@
+//! Steps of the written machine go along the edges of the graph of its program.
+
+ghost use Rattle.edge_cover.specs.Cover.{StepsAreCovered, PairsAreCovered, TableRunsAreCovered};
+
+/// Every step of the machine stays within its block, goes along an edge, or leaves a block whose
+/// kind says that control may leave it. This holds for every accepted file, all cuts that fit, all
+/// seeds, and every state whose program counter is reachable.
+///
+/// Two kinds of steps depend on those before them. A step at the JALR of a pair is covered right
+/// after the step at its LUI or AUIPC. A jump through a full table with a bound test goes along an
+/// edge of kind `table`, if it ends a run that sets the limit of the test and then goes through the
+/// test.
+pub fn every_step_is_covered()
+    ensures steps { StepsAreCovered }
+    ensures pairs { PairsAreCovered }
+    ensures tables { TableRunsAreCovered }
+{}

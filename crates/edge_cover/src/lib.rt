@@ -1,0 +1,13 @@
+//! Steps of the written machine as moves in the graph of its program.
+//!
+//! - [`moves`]: the move that a step makes, and how it is judged.
+//! - [`laws`]: that the graph accounts for every step.
+//! - `search`: the block of an address, and the edge between two blocks.
+#![tactic(auto)]
+
+pub mod laws;
+pub mod moves;
+mod search;
+
+pub use laws::every_step_is_covered;
+pub use moves::{Move, judge, judge_in};

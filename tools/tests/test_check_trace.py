@@ -1,0 +1,108 @@
+"""Moves of a run, judged by a report."""
+
+from __future__ import annotations
+
+import os
+import unittest
+from typing import List, Sequence, Tuple
+
+import small
+from elf_file import Memory
+import cfg_report
+from test_tools import InFolder, script
+
+# A branch, a call, a return of two bytes before it, a table of one kept entry that may have more, and a stop.
+CODE = small.code("00100513 00050463", "008000ef", "00008067", "0001 8082", "00050067", "00100073")
+BLOCKS = ("10000 10008 branch, 10008 1000c call, 1000c 10010 return, 10010 10014 return, 10014 10018 table-open, 10018 1001c stop")
+EDGES = "10000 10008 fall, 10000 1000c taken, 10008 1000c after, 10008 10010 call, 10014 10018 table"
+FUNCTIONS = "10000 may-return f: 10000 10008 1000c, 10010 may-return g: 10010, 10014 no-return h: 10014 10018"
+ALL_GOOD = [0x10000, 0x10004, 0x10008, 0x10010, 0x10012, 0x1000C, 0x30000, 0x30004, 0x10014, 0x10018]
+
+
+def log(*steps: object) -> bytes:
+    """A log of qemu: an address of thread 0, a thread and an address, or a line."""
+    lines = []
+    for step in steps:
+        if isinstance(step, str):
+            lines.append(step)
+            continue
+        thread, at = step if isinstance(step, tuple) else (0, step)
+        lines.append(f"Trace {thread}: 0x7f00{at:x} [0000000000000000/{at:016x}/00207600/00000201] f")
+    return "".join(line + "\n" for line in lines).encode()
+
+
+class CheckTrace(InFolder):
+    def setUp(self) -> None:
+        super().setUp()
+        self.elf = self.file("elf", small.elf([small.Part(".text", small.CODE, 0x10000, CODE)], [("f", 0x10000, 16), ("g", 0x10010, 4)]))
+        self.report = self.file("report", small.report(FUNCTIONS, BLOCKS, EDGES))
+
+    def checked(self, *steps: object, words: Sequence[str] = ()) -> Tuple[int, List[str]]:
+        path = self.file("log", log(*steps))
+        return self.run_main("check_trace", "--report", self.report, "--log", path, *words, self.elf)[:2]
+
+    def test_good_moves(self) -> None:
+        self.assertEqual(self.checked(*ALL_GOOD), (0, [
+            "10 steps in 1 thread, 9 different moves", "             2  inside a block", "             1  along an edge: fall",
+            "             1  along an edge: call", "             1  along an edge: table", "             2  out of a block: return",
+            "             2  from code in no block",
+            "the code in no block has 2 of the executed instructions; 1 moves led there out of blocks", "0 outliers"]))
+
+    def test_each_move(self) -> None:
+        tool = script("check_trace")
+        with open(self.report, "rb") as stream:
+            graph = tool.Graph(cfg_report.load(stream), Memory(self.elf))
+        for last, at, wanted in (
+            (0x10000, 0x10004, tool.INSIDE), (0x10004, 0x10008, "along an edge: fall"), (0x10004, 0x1000C, "along an edge: taken"),
+            (0x10004, 0x10010, tool.OUTLIER), (0x10000, 0x10008, tool.OUTLIER), (0x10000, 0x1000C, tool.OUTLIER),
+            # A call goes to its callee alone. What it returns to is a move of the return.
+            (0x10008, 0x10010, "along an edge: call"), (0x10008, 0x10014, tool.OUTLIER), (0x1000C, 0x10004, "out of a block: return"),
+            # The instruction of two bytes, and the middle of one of four.
+            (0x10010, 0x10012, tool.INSIDE), (0x10010, 0x10014, tool.OUTLIER), (0x10002, 0x10004, tool.OUTSIDE),
+            (0x10014, 0x10018, "along an edge: table"), (0x10014, 0x10000, "out of a block: table-open"),
+            (0x10018, 0x1001C, "out of a block: stop"), (0x20000, 0x10000, tool.OUTSIDE), (0x10000, 0x10000, tool.AGAIN),
+        ):
+            self.assertEqual(graph.judge(last, at), wanted, f"from {last:x} to {at:x}")
+
+    def test_outlier(self) -> None:
+        status, said = self.checked(0x10000, 0x10004, 0x10010, 0x10012, 0x10004, 0x10010)
+        self.assertEqual(status, 1)
+        self.assertEqual(said[-3:], ["OUTLIER: from 10004 (f+0x4) to 10010 (g), 2 times, first at step 3",
+                                     "    the block at 10000 ends at 10008 with branch", "1 outliers"])
+
+    def test_overlapping_streams(self) -> None:
+        # From 10002 on the same bytes are other instructions: the ends of blocks tell the streams apart.
+        elf = self.file("two", small.elf([small.Part(".text", small.CODE, 0x10000, small.code("00010013 8082"))], [("f", 0x10000, 6)]))
+        report = self.file("two_report", small.report(
+            "10000 may-return f: 10000 10004, 10002 may-return -: 10002 10004", "10000 10004 fall, 10002 10004 fall, 10004 10006 return",
+            "10000 10004 fall, 10002 10004 fall"))
+        path = self.file("log", log(0x10000, 0x10004, 0x10002, 0x10004))
+        self.assertEqual(self.run_main("check_trace", "--report", report, "--log", path, elf)[1][1:],
+                         ["             2  along an edge: fall", "             1  out of a block: return", "0 outliers"])
+
+    def test_threads_and_signals(self) -> None:
+        # The moves of two threads are apart. A signal leads to its handler, at any instruction, once.
+        steps = (0x10000, (1, 0x10008), 0x10004, (1, 0x10010), "--- SIGURG {si_signo=SIGURG, si_code=SI_TKILL} ---", 0x10008, (1, 0x10000))
+        status, said = self.checked(*steps)
+        self.assertEqual((status, said[0], said[-2:]), (0, "6 steps in 2 threads, 4 different moves", [
+            "             1  to the handler of a signal, of 1 signals", "0 outliers"]))
+        self.assertEqual(self.checked(*steps, (1, 0x10004), (1, 0x10008), (1, 0x10000))[0], 1)
+
+    def test_words(self) -> None:
+        self.assertEqual(self.checked(*ALL_GOOD, words=["--steps", "3"])[1][0], "3 steps in 1 thread, 2 different moves")
+        done = self.run_process("check_trace", "--report", self.report, "--log", self.file("no_log", b"nothing\n"), self.elf)
+        self.assertEqual(done.returncode, 2)
+        self.assertIn("no step was logged", done.stderr)
+
+    def test_program_that_is_started(self) -> None:
+        path = self.file("log", log(*ALL_GOOD))
+        qemu = self.file("qemu", f'#!/bin/sh\n[ "$1" = -help ] && exit 0\n[ "$1 $2 $3 $5" = "-d exec,nochain,strace -D -singlestep" ] || exit 9\n'
+                         f'cat {path} > "$4"\necho said by "$7" >&2\nexit 3\n'.encode())
+        os.chmod(qemu, 0o755)
+        done = self.run_process("check_trace", "--report", self.report, "--qemu", qemu, self.elf, "a-word", "--steps")
+        self.assertEqual((done.returncode, done.stderr), (0, "said by a-word\n"))
+        self.assertEqual(done.stdout.splitlines()[:2], ["the program ended with status 3", "10 steps in 1 thread, 9 different moves"])
+
+
+if __name__ == "__main__":
+    unittest.main()
