@@ -1,0 +1,73 @@
+-- What a run may leave behind.
+use Rattle.std.specs.Prelude.{◌≡◌, ℕ, ◌⊎◌, List, [], Option, Some, None, Bool, IfSome}
+use Rattle.elf_image.specs.declared.fault.Fault.{Fault}
+use Rattle.cfg_io.specs.Told.{AppendsPrefix}
+use Rattle.cfg_io.specs.Opened.{Opened, Nothing, Something, told_path}
+use Rattle.walk_run.specs.declared.status.WalkStatus.{WalkStatus}
+use Rattle.walk_run.specs.declared.status.WalkStatus.TheVariants as statuses
+use Rattle.walk_run.specs.declared.refusal.Refusal.TheVariants as refusals
+use Rattle.walk_run.specs.Lines.{refusal_line}
+use Rattle.walk_run.specs.Words.{Asked, of_walk}
+use Rattle.walk_run.specs.Answer.{Answer, IsAnswer}
+
+-- The words and the bytes decided the status: nothing failed, and memory sufficed.
+abbrev pub IsDecided : WalkStatus → Type 0
+IsDecided statuses.Done = Unit {0}
+IsDecided statuses.Usage = Unit {0}
+IsDecided statuses.Malformed = Unit {0}
+IsDecided statuses.ReadFault = ⊥
+IsDecided statuses.WriteFault = ⊥
+IsDecided statuses.Memory = ⊥
+IsDecided statuses.TooMuch = Unit {0}
+
+-- The status says that a file was read.
+abbrev pub HasRead : WalkStatus → Type 0
+HasRead statuses.Done = Unit {0}
+HasRead statuses.Usage = ⊥
+HasRead statuses.Malformed = Unit {0}
+HasRead statuses.ReadFault = ⊥
+HasRead statuses.WriteFault = Unit {0}
+HasRead statuses.Memory = ⊥
+HasRead statuses.TooMuch = Unit {0}
+
+-- It holds of the bytes of the file that is asked for, if the input tells them. If none is asked
+-- for there are no bytes.
+abbrev pub OverInput : Option Asked → Option (List ℕ) → (List ℕ → Type 0) → Type 0
+OverInput None told P = P []
+OverInput (Some asked) told P = IfSome told P
+
+-- A run that ended in this way gave the answer: its status is the answer's, and standard output and
+-- standard error took the texts of it.
+pub record Gives
+    (bytes : List ℕ) (asked : Option Asked) (end : WalkStatus)
+    (Output Error : List ℕ → Type 0) : Type 0 where
+  pub answer : Answer
+  pub is_answer : IsAnswer bytes asked answer
+  pub status : end ≡ answer.status
+  pub output : Output answer.output
+  pub error : Error answer.error
+
+-- A run whose writing failed: standard output grew by a part, from its front, of the trace.
+pub record GivesPart (bytes : List ℕ) (asked : Option Asked)
+    (old new : Option (List ℕ)) : Type 0 where
+  pub answer : Answer
+  pub is_answer : IsAnswer bytes asked answer
+  pub status : answer.status ≡ statuses.Done
+  pub output : AppendsPrefix old answer.output new
+
+-- The line that a status puts on standard error. Which fault a malformed file has, the answer says.
+abbrev pub IsLineOf : WalkStatus → List ℕ → Type 0
+IsLineOf statuses.Done text = text ≡ []
+IsLineOf statuses.Usage text = text ≡ refusal_line refusals.Usage
+IsLineOf statuses.Malformed text = (fault : Fault)
+    × (text ≡ refusal_line (refusals.Malformed fault))
+IsLineOf statuses.ReadFault text = text ≡ refusal_line refusals.ReadFault
+IsLineOf statuses.WriteFault text = text ≡ refusal_line refusals.WriteFault
+IsLineOf statuses.Memory text = text ≡ refusal_line refusals.Memory
+IsLineOf statuses.TooMuch text = text ≡ refusal_line refusals.TooMuch
+
+-- Nothing was opened, or the file that is asked for by its path.
+abbrev pub OpenedFor : Option Asked → Bool → Opened → Type 0
+OpenedFor None tells opened = opened ≡ Nothing
+OpenedFor (Some (of_walk steps path)) tells opened = (opened ≡ Nothing)
+    ⊎ (opened ≡ Something (told_path tells path))
