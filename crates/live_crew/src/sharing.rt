@@ -1,0 +1,195 @@
+//! The live registers of all functions, made by several workers.
+
+ghost use Rattle.std.specs.Prelude.{◌≡◌, ℕ, ◌<◌, ◌≤◌, All, Contains, IfOk, List};
+ghost use Rattle.std.specs.Prelude.{length, slice_index_or, vec_len};
+ghost use Rattle.std.specs.List.{AllZip};
+ghost use Rattle.std.specs.List.Sorted.{IsStrictlyIncreasing};
+ghost use Rattle.cfg_model.specs.declared.graph.Function.{Function};
+ghost use Rattle.cfg_model.specs.Graph.Function.{IsFunction};
+ghost use Rattle.cfg_model.specs.Graph.Graph.{IsOutline};
+ghost use Rattle.live_regs.specs.Masks.{AreAllLivesOf};
+ghost use Rattle.live_regs.specs.Noted.{AreInOrder, AreNotesOf, IsNoted, IsNoteOf};
+ghost use Rattle.live_crew.specs.Inner.{HasRisingBody};
+
+use crate::alone::{all_lives, lives_of};
+use crate::lists::joined;
+use crate::pieces::pieces_of;
+use cfg_model::{
+    AllLives, Block, Chains, Edge, Function, Functions, Graph, Lives, Memory, Outline,
+};
+use drawn_calls::map_drawn;
+use elf_image::Image;
+use live_regs::{Note, Program, notes_of};
+use std::alloc::Global;
+use std::thread::Threads;
+
+/// The most workers that live registers are made by.
+pub const MOST_WORKERS: u32 = 64;
+
+/// The answer of [`graph_lives`](crate::graph_lives), made by `workers` workers, from 1 to 64. With
+/// one worker no thread is started. [`Memory`] if memory ran out.
+///
+/// The workers draw pieces of about 1,000 blocks, one after another: first of all blocks, to find
+/// what each reads and writes, and then of the functions.
+pub fn graph_lives_by<R: Threads + Sync>(
+    rt: &R,
+    alloc: Global,
+    image: &Image,
+    graph: &Graph,
+    workers: u32,
+) -> Result<AllLives, Memory>
+    requires some { 1 ≤ workers }
+    requires most { workers ≤ MOST_WORKERS }
+    requires order { AreInOrder graph.now.blocks graph.now.edges }
+    requires bodies { All (λ f. IsStrictlyIncreasing f.body) graph.now.functions }
+    ensures { IfOk result (AreAllLivesOf image.now graph.now.blocks graph.now.edges
+        graph.now.functions) }
+{
+    let all = lives_shared(
+        rt,
+        alloc,
+        image,
+        graph.blocks.as_slice(),
+        graph.edges.as_slice(),
+        graph.functions.as_slice(),
+        workers,
+    )?;
+    Ok(AllLives::from_vec(all))
+}
+
+/// The live registers of each of these functions of the program `code`, from its outline, in the
+/// order of the functions. Workers, time and memory as of [`graph_lives_by`].
+pub fn lives_by<R: Threads + Sync, C: Chains>(
+    rt: &R,
+    alloc: Global,
+    image: &Image,
+    code: &C,
+    outline: &Outline,
+    functions: &Functions,
+    workers: u32,
+) -> Result<AllLives, Memory>
+    requires program { (seeds : List ℕ)
+        × IsOutline (C.map code.now) seeds outline.now.blocks outline.now.edges
+        × ((f : Function) → Contains functions.now f → IsFunction (C.map code.now) seeds f) }
+    requires some { 1 ≤ workers }
+    requires most { workers ≤ MOST_WORKERS }
+    ensures { IfOk result (AreAllLivesOf image.now outline.now.blocks outline.now.edges
+        functions.now) }
+{
+    let _ = code.has(0);
+    let all = lives_shared(
+        rt,
+        alloc,
+        image,
+        outline.blocks.as_slice(),
+        outline.edges.as_slice(),
+        functions.as_slice(),
+        workers,
+    )?;
+    Ok(AllLives::from_vec(all))
+}
+
+/// The answer of [`all_lives`], made by so many workers.
+fn lives_shared<R: Threads + Sync>(
+    rt: &R,
+    alloc: Global,
+    image: &Image,
+    blocks: &[Block],
+    edges: &[Edge],
+    functions: &[Function],
+    workers: u32,
+) -> Result<Vec<Lives>, Memory>
+    requires order { AreInOrder blocks.now edges.now }
+    requires bodies { All HasRisingBody functions.now }
+    ensures { IfOk result
+        (λ v. AreAllLivesOf image.now blocks.now edges.now functions.now v.items) }
+{
+    if workers <= 1 {
+        return all_lives(alloc, image, blocks, edges, functions);
+    }
+    let workers = workers as usize;
+    let notes = notes_shared(rt, alloc, image, blocks, edges, workers)?;
+    let program = Program::new(image, blocks, edges, notes);
+    let pieces = pieces_of(alloc, functions)?;
+    let lists = lives_by_piece(rt, alloc, &program, &pieces, workers)?;
+    joined(alloc, lists, functions.len())
+}
+
+/// The live registers of the functions of each piece, in the order of the pieces.
+fn lives_by_piece<R: Threads + Sync>(
+    rt: &R,
+    alloc: Global,
+    program: &Program,
+    pieces: &[&[Function]],
+    workers: usize,
+) -> Result<Vec<Result<Vec<Lives>, Memory>>, Memory>
+    requires noted { IsNoted program.now }
+    requires bodies { All (λ piece. All HasRisingBody piece.now) pieces.now }
+    ensures as_many { IfOk result (λ v. vec_len v ≡ length pieces.now) }
+    ensures each { IfOk result (λ v. (i : ℕ) (d : _) (e : _) → i < length pieces.now
+        → IfOk (slice_index_or v.items i e) (λ w. AreAllLivesOf program.now.image.now
+        program.now.blocks.now program.now.edges.now (slice_index_or pieces.now i d).now w.items)) }
+{
+    let make = |i: usize| -> Result<Vec<Lives>, Memory>
+        requires { i < length pieces.now × IsNoted program.now
+            × All (λ piece. All HasRisingBody piece.now) pieces.now }
+        ensures { IfOk result (λ v. (d : _) → AreAllLivesOf program.entry.now.image.now
+            program.entry.now.blocks.now program.entry.now.edges.now
+            (slice_index_or pieces.entry.now i d).now v.items) }
+    { lives_of(alloc, program, pieces[i]) };
+    Ok(map_drawn(rt, alloc, workers, pieces.len(), &make)?)
+}
+
+/// The notes of all blocks, made by so many workers.
+fn notes_shared<R: Threads + Sync>(
+    rt: &R,
+    alloc: Global,
+    image: &Image,
+    blocks: &[Block],
+    edges: &[Edge],
+    workers: usize,
+) -> Result<Vec<Note>, Memory>
+    requires { AreInOrder blocks.now edges.now }
+    ensures { IfOk result (λ v. AreNotesOf image.now blocks.now edges.now v.items) }
+{
+    let pieces = pieces_of(alloc, blocks)?;
+    let lists = notes_by_piece(rt, alloc, image, &pieces, edges, workers)?;
+    joined(alloc, lists, blocks.len())
+}
+
+/// The notes of the blocks of each piece, in the order of the pieces.
+fn notes_by_piece<R: Threads + Sync>(
+    rt: &R,
+    alloc: Global,
+    image: &Image,
+    pieces: &[&[Block]],
+    edges: &[Edge],
+    workers: usize,
+) -> Result<Vec<Result<Vec<Note>, Memory>>, Memory>
+    requires { All (λ piece. AreInOrder piece.now edges.now) pieces.now }
+    ensures as_many { IfOk result (λ v. vec_len v ≡ length pieces.now) }
+    ensures each { IfOk result (λ v. (i : ℕ) (d : _) (e : _) → i < length pieces.now
+        → IfOk (slice_index_or v.items i e) (λ w. AllZip (IsNoteOf image.now edges.now)
+        (slice_index_or pieces.now i d).now w.items)) }
+{
+    let make = |i: usize| -> Result<Vec<Note>, Memory>
+        requires { i < length pieces.now
+            × All (λ piece. AreInOrder piece.now edges.now) pieces.now }
+        ensures { IfOk result (λ v. (d : _) → AllZip (IsNoteOf image.entry.now edges.entry.now)
+            (slice_index_or pieces.entry.now i d).now v.items) }
+    { zipped_notes(alloc, image, pieces[i], edges) };
+    Ok(map_drawn(rt, alloc, workers, pieces.len(), &make)?)
+}
+
+/// The notes of these blocks, one for each.
+fn zipped_notes(
+    alloc: Global,
+    image: &Image,
+    blocks: &[Block],
+    edges: &[Edge],
+) -> Result<Vec<Note>, Memory>
+    requires { AreInOrder blocks.now edges.now }
+    ensures { IfOk result (λ v. AllZip (IsNoteOf image.now edges.now) blocks.now v.items) }
+{
+    notes_of(alloc, image, blocks, edges)
+}

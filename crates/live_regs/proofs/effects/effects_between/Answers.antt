@@ -1,0 +1,29 @@
+use Rattle.std.proofs.Common.{◌≡◌, ℕ, ◌+◌, ◌<◌, ◌≤◌, ◌^◌, ◌⊎◌, min, refl, ap, ◌∙◌, inl, inr, arith}
+use Rattle.std.proofs.lemmas.Bool.{cases_lt}
+use Rattle.rv_flow.specs.declared.placed.Placed.{Placed}
+use Rattle.live_regs.specs.Effects.{reads, writes}
+use Rattle.live_regs.proofs.Runs.{told_none, told_more, told_all}
+use Rattle.live_regs.proofs.effects.effects_between.Goals as goal
+
+saturated : (a n m end b : ℕ) → end < 2 ^ 64 → m ≡ n → b ≡ min (a + m) 18446744073709551615 → (b ≡ a + n) ⊎ ((end ≤ b) × (end ≤ a + n))
+saturated a n m end b fits e is =
+    elim (cases_lt (a + n) 18446744073709551615) [
+      | inl lt ↦ inl (omega arith)
+      | inr le ↦ inr (omega arith, omega arith)
+    ]
+
+pub loop-a-init : goal.loop-a-init
+loop-a-init c = told_none _ _ _ _ refl refl
+
+pub loop-a-preserved : goal.loop-a-preserved
+loop-a-preserved c =
+    let same = c.placed_at-placed.ensures.placed in
+    told_more _ _ _ _ _ _ c.effects_of.result _ c.loop-a-test.true
+    (saturated _ _ _ _ _ (omega (arith, c.ranges.end.fits)) (c.from.ensures ∙ ap (λ (p : Placed). p.length) same) c.saturating_add-a.ensures)
+    c.loop-a.invariant
+    (λ r low. c.effects_of.ensures.reads r low ∙ ap (λ (p : Placed). reads p.insn r) same)
+    (λ r low. c.effects_of.ensures.writes r low ∙ ap (λ (p : Placed). writes p.insn r) same)
+    c.then-effects.ensures.reads c.then-effects.ensures.writes
+
+pub returns : goal.returns
+returns c = told_all _ _ _ _ _ c.loop-a-test.false c.loop-a.invariant

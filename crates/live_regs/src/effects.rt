@@ -1,0 +1,179 @@
+//! Which integer registers an instruction and a block read and write.
+
+ghost use Rattle.std.specs.Prelude.{◌≡◌, ℕ, ◌-◌, ◌<◌, ◌==◌, ◌&&◌, ◌||◌, not, Some};
+ghost use Rattle.mask_flow.specs.Reaches.{has_bit};
+ghost use Rattle.rv_flow.specs.Placed as placed;
+ghost use Rattle.live_regs.specs.Effects.{reads, takes_register, writes};
+ghost use Rattle.live_regs.specs.Run.{instructions_of, placed_from};
+ghost use Rattle.live_regs.specs.Noted.{AreEffectsOf};
+
+use cfg_model::Block;
+use elf_image::Image;
+use rv_decode::{CsrKind, Insn};
+use rv_flow::{Placed, insn_at};
+
+/// The mask of the registers x1 to x31.
+pub(crate) const ALL: u32 = !1;
+
+/// Sets of integer registers as masks, in which bit r stands for xr, and bit 0 is not set.
+#[derive(Clone, Copy, Debug, PartialEq, Eq)]
+pub struct Effects {
+    /// What is read before it is written.
+    pub reads: u32,
+    /// What is written.
+    pub writes: u32,
+}
+
+impl Effects {
+    /// Of no instruction.
+    const NONE: Effects = Effects {
+        reads: 0,
+        writes: 0,
+    };
+
+    /// Of these instructions with another one after them.
+    fn then(self, next: Effects) -> Effects
+        ensures reads { (r : ℕ) → r < 32 → has_bit result.reads r
+            ≡ (has_bit self.reads r || (not (has_bit self.writes r) && has_bit next.reads r)) }
+        ensures writes { (r : ℕ) → r < 32 → has_bit result.writes r
+            ≡ (has_bit self.writes r || has_bit next.writes r) }
+    {
+        Effects {
+            reads: self.reads | without(next.reads, self.writes),
+            writes: self.writes | next.writes,
+        }
+    }
+}
+
+/// Of one instruction; what is no instruction neither reads nor writes.
+pub fn effects_of(insn: Option<Insn>) -> Effects
+    ensures reads { (r : ℕ) → r < 32 → has_bit result.reads r ≡ reads insn r }
+    ensures writes { (r : ℕ) → r < 32 → has_bit result.writes r ≡ writes insn r }
+{
+    match insn {
+        None => Effects::NONE,
+        Some(insn) => Effects {
+            reads: reads_of(insn),
+            writes: writes_of(insn),
+        },
+    }
+}
+
+/// Of a block.
+pub(crate) fn effects_of_block(image: &Image, block: Block) -> Effects
+    ensures { AreEffectsOf (instructions_of image.now block) result }
+{
+    effects_between(image, block.start, block.end)
+}
+
+/// Of the instructions from one address on and before another.
+fn effects_between(image: &Image, start: u64, end: u64) -> Effects
+    ensures { AreEffectsOf (placed_from image.now end (end - start) start) result }
+{
+    let mut effects = Effects::NONE;
+    let mut a = start;
+    while a < end {
+        let placed = placed_at(image, a);
+        effects = effects.then(effects_of(placed.insn));
+        a = a.saturating_add(u64::from(placed.length));
+    }
+    effects
+}
+
+/// The instruction at an address, which is none outside the code.
+fn placed_at(image: &Image, a: u64) -> Placed
+    ensures placed { result ≡ placed.placed_at image.now a }
+    ensures some { 0 < result.length }
+{
+    if image.is_code(a) {
+        insn_at(image, a)
+    } else {
+        Placed {
+            length: 2,
+            insn: None,
+        }
+    }
+}
+
+/// The registers that an instruction reads.
+fn reads_of(insn: Insn) -> u32
+    ensures { (r : ℕ) → r < 32 → has_bit result r ≡ reads (Some insn) r }
+{
+    match insn {
+        Insn::Lui { .. }
+        | Insn::Auipc { .. }
+        | Insn::Jal { .. }
+        | Insn::Fence
+        | Insn::FenceI
+        | Insn::Ebreak => 0,
+        Insn::Jalr { rs1, .. }
+        | Insn::Load { rs1, .. }
+        | Insn::Imm { rs1, .. }
+        | Insn::ImmW { rs1, .. } => register(rs1),
+        Insn::Branch { rs1, rs2, .. }
+        | Insn::Store { rs1, rs2, .. }
+        | Insn::Reg { rs1, rs2, .. }
+        | Insn::RegW { rs1, rs2, .. }
+        | Insn::Atomic { rs1, rs2, .. } => register(rs1) | register(rs2),
+        Insn::Ecall => ALL,
+        Insn::Csr { kind, source, .. } => {
+            if takes_register(kind) {
+                register(source)
+            } else {
+                0
+            }
+        }
+        Insn::Float { reads, .. } => register(reads),
+    }
+}
+
+/// The register that an instruction writes.
+fn writes_of(insn: Insn) -> u32
+    ensures { (r : ℕ) → r < 32 → has_bit result r ≡ writes (Some insn) r }
+{
+    match insn {
+        Insn::Branch { .. }
+        | Insn::Store { .. }
+        | Insn::Fence
+        | Insn::FenceI
+        | Insn::Ecall
+        | Insn::Ebreak => 0,
+        Insn::Lui { rd, .. }
+        | Insn::Auipc { rd, .. }
+        | Insn::Jal { rd, .. }
+        | Insn::Jalr { rd, .. }
+        | Insn::Load { rd, .. }
+        | Insn::Imm { rd, .. }
+        | Insn::ImmW { rd, .. }
+        | Insn::Reg { rd, .. }
+        | Insn::RegW { rd, .. }
+        | Insn::Atomic { rd, .. }
+        | Insn::Csr { rd, .. } => register(rd),
+        Insn::Float { writes, .. } => register(writes),
+    }
+}
+
+/// Whether the source of an operation on a control and status register is a register.
+fn takes_register(kind: CsrKind) -> bool
+    ensures { result ≡ takes_register kind }
+{
+    matches!(kind, CsrKind::Csrrw | CsrKind::Csrrs | CsrKind::Csrrc)
+}
+
+/// The bits of a mask that another one does not have.
+pub(crate) fn without(mask: u32, other: u32) -> u32
+    ensures { (r : ℕ) → r < 32 → has_bit result r ≡ (not (has_bit other r) && has_bit mask r) }
+{
+    mask & !other
+}
+
+/// The mask of one register; x0 is in no mask.
+fn register(number: u8) -> u32
+    ensures { (r : ℕ) → r < 32 → has_bit result r ≡ (not (r == 0) && r == number) }
+{
+    if number > 0 && number < 32 {
+        1 << number
+    } else {
+        0
+    }
+}
