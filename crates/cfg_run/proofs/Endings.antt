@@ -13,7 +13,7 @@ use Rattle.cfg_io.specs.Told.{Appends, Takes, TakesCount}
 use Rattle.graph_report.specs.declared.kind.ReportKind.{ReportKind}
 use Rattle.cfg_words.specs.Command.{is_taken, text_of}
 use Rattle.cfg_words.specs.Value.{number_of, kept_within, number_within, workers_of, report_kind_of}
-use Rattle.cfg_words.specs.Request.{Asked, of_file, file_request, make_request, request_with, request_of}
+use Rattle.cfg_words.specs.Request.{Asked, of_file, of_made, file_request, make_request, request_with, request_of}
 use Rattle.cfg_words.specs.declared.error.WordsError.{WordsError}
 use Rattle.cfg_words.specs.declared.error.WordsError.TheVariants as words
 use Rattle.cfg_run.specs.declared.refusal.Refusal.{Refusal}
@@ -27,7 +27,7 @@ use Rattle.cfg_run.specs.Words.{IsForFile, CanBeMade}
 use Rattle.cfg_run.specs.Lines.{refusal_line}
 use Rattle.cfg_run.specs.Inner.{IsRefusalOf, IsTrueOf, IsMalformed}
 use Rattle.run_ends.specs.Told.{Grows}
-use Rattle.cfg_run.specs.Run.{IsDecided, HasRead, Gives, IsLineOf}
+use Rattle.cfg_run.specs.Run.{AreBytesFor, IsDecided, HasRead, Gives, IsLineOf, OverInput}
 
 -- Nothing was appended.
 pub appends-nothing : (old : Option (List ℕ)) → Appends old [] old
@@ -49,9 +49,10 @@ taken-more bytes (Some left) (taken, takes, count) =
 
 -- What reading refuses is true of the file that is asked for.
 module _ (path : List ℕ) (workers : ℕ) (kind : ReportKind) where
-  told-too-large : (told new : Option (List ℕ)) → TakesCount told 67108865 new → IfSome told (λ bytes. IsAnswer bytes (Some (of_file path workers kind)) (malformed_answer TooLarge))
-  told-too-large None new takes = tt
-  told-too-large (Some bytes) new takes = IsAnswer.malformed (too-large bytes (taken-more bytes new takes))
+  told-too-large : (told new : Option (List ℕ)) → TakesCount told 67108865 new
+      → OverInput (Some (of_file path workers kind)) told (λ bytes. IsAnswer bytes (Some (of_file path workers kind)) (malformed_answer TooLarge))
+  told-too-large told new takes = λ bytes are.
+      IsAnswer.malformed (too-large bytes (taken-more bytes new (subst (λ (t : Option (List ℕ)). TakesCount t 67108865 new) are takes)))
 
   pub unread-true : (told new : Option (List ℕ)) (rose : Type 0) (e : Unread) → (e ≡ unread.ReadFault → rose)
       → (e ≡ unread.TooLarge → TakesCount told 67108865 new) → IsTrueOf (Some (of_file path workers kind)) told rose (refusal_of_unread e)
@@ -60,25 +61,18 @@ module _ (path : List ℕ) (workers : ℕ) (kind : ReportKind) where
   unread-true told new rose unread.Memory failed takes = tt
 
   -- So is what the bytes that were read refuse.
-  fault-of : (bytes : List ℕ) (rose : Type 0) (r : Refusal) → IsRefusalOf bytes r → IsTrueOf (Some (of_file path workers kind)) (Some bytes) rose r
-  fault-of bytes rose refusals.Usage is = absurd is
-  fault-of bytes rose (refusals.Malformed fault) is = (tt, IsAnswer.malformed is)
-  fault-of bytes rose refusals.ReadFault is = absurd is
-  fault-of bytes rose refusals.WriteFault is = absurd is
-  fault-of bytes rose refusals.Memory is = tt
-
-  untold : (rose : Type 0) (bytes : List ℕ) (r : Refusal) → IsRefusalOf bytes r → IsTrueOf (Some (of_file path workers kind)) None rose r
-  untold rose bytes refusals.Usage is = absurd is
-  untold rose bytes (refusals.Malformed fault) is = (tt, tt)
-  untold rose bytes refusals.ReadFault is = absurd is
-  untold rose bytes refusals.WriteFault is = absurd is
-  untold rose bytes refusals.Memory is = tt
-
   pub fault-true : (told : Option (List ℕ)) (bytes : List ℕ) (rose : Type 0) (r : Refusal) → IfSome told (λ b. b ≡ bytes) → IsRefusalOf bytes r
       → IsTrueOf (Some (of_file path workers kind)) told rose r
-  fault-true None bytes rose r same is = untold rose bytes r is
-  fault-true (Some b) bytes rose r same is =
-      subst (λ (x : List ℕ). IsTrueOf (Some (of_file path workers kind)) (Some x) rose r) (sym same) (fault-of bytes rose r is)
+  fault-true told bytes rose refusals.Usage same is = absurd is
+  fault-true told bytes rose (refusals.Malformed fault) same is = (
+    tt,
+    λ b are.
+        let e : b ≡ bytes = subst (λ (t : Option (List ℕ)). IfSome t (λ x. x ≡ bytes)) are same in
+        IsAnswer.malformed (subst (λ (x : List ℕ). first_fault x ≡ Some fault) (sym e) is),
+  )
+  fault-true told bytes rose refusals.ReadFault same is = absurd is
+  fault-true told bytes rose refusals.WriteFault same is = absurd is
+  fault-true told bytes rose refusals.Memory same is = tt
 
 -- What making the graph refuses is true of the bytes.
 pub refusal-of : (bytes : List ℕ) (e : ElfError) → IsFaultOf bytes e → IsRefusalOf bytes (refusal_of e)
@@ -94,25 +88,30 @@ not-too-large unread.Memory other = λ same. absurd (cc)
 -- ---- refusing
 
 pub decided-true : (asked : Option Asked) (told : Option (List ℕ)) (rose : Type 0) (r : Refusal) (old : Option (List ℕ)) (Error : List ℕ → Type 0)
-    → IsTrueOf asked told rose r → Error (refusal_line r) → IfSome told (λ bytes. IsDecided (status_of r) → Gives bytes asked (status_of r) (Grows old old) Error)
-decided-true asked None rose r old Error is line = tt
-decided-true asked (Some bytes) rose refusals.Usage old Error is line = λ _. record {
+    → IsTrueOf asked told rose r → Error (refusal_line r) → OverInput asked told (λ bytes. IsDecided (status_of r) → Gives bytes asked (status_of r) (Grows old old) Error)
+decided-true asked told rose refusals.Usage old Error is line = λ bytes are _. record {
   answer = usage_answer;
   is_answer = subst (λ (a : Option Asked). IsAnswer bytes a usage_answer) (sym is) IsAnswer.usage;
   status = refl;
   output = appends-nothing old;
   error = line;
 }
-decided-true asked (Some bytes) rose (refusals.Malformed fault) old Error is line = λ _. record {
+decided-true asked told rose (refusals.Malformed fault) old Error is line = λ bytes are _. record {
   answer = malformed_answer fault;
-  is_answer = is.1;
+  is_answer = is.1 bytes are;
   status = refl;
   output = appends-nothing old;
   error = line;
 }
-decided-true asked (Some bytes) rose refusals.ReadFault old Error is line = λ no. absurd no
-decided-true asked (Some bytes) rose refusals.WriteFault old Error is line = λ no. absurd no
-decided-true asked (Some bytes) rose refusals.Memory old Error is line = λ no. absurd no
+decided-true asked told rose refusals.ReadFault old Error is line = λ bytes are no. absurd no
+decided-true asked told rose refusals.WriteFault old Error is line = λ bytes are no. absurd no
+decided-true asked told rose refusals.Memory old Error is line = λ bytes are no. absurd no
+
+-- The bytes of an input that tells them count, whatever is asked for.
+pub told-count : (asked : Option Asked) (bytes : List ℕ) → AreBytesFor asked (Some bytes) bytes
+told-count None bytes = tt
+told-count (Some (of_file path workers kind)) bytes = refl
+told-count (Some (of_made n workers)) bytes = tt
 
 -- The line of a refusal is that of its status.
 pub line-of : (r : Refusal) → IsLineOf (status_of r) (refusal_line r)

@@ -1,28 +1,52 @@
 -- Words that no public clause cites: what the steps of a run tell one another.
-use Rattle.std.specs.Prelude.{◌≡◌, ℕ, List, Vec, Option, Some, None, IfSome, IfOk, IfErr}
-use Rattle.std.specs.Prelude.{Result, Ok, Err}
+use Rattle.std.specs.Prelude.{◌≡◌, ℕ, List, Vec, Option, Some, None, IfOk, IfErr}
+use Rattle.std.specs.Prelude.{Result, Ok, Err, All}
+use Rattle.std.specs.List.Sorted.{IsStrictlyIncreasing}
 use Rattle.std.specs.declared.alloc.Global.{Global}
+use Rattle.std.proofs.Common.{Bor}
+use Rattle.cfg_model.specs.declared.graph.Graph.{Graph}
+use Rattle.cfg_model.specs.declared.live.Live.{Live}
+use Rattle.cfg_model.specs.declared.memory.Memory.{Memory}
 use Rattle.elf_image.specs.declared.fault.ElfError.{ElfError}
 use Rattle.elf_image.specs.Faults.{first_fault}
 use Rattle.cfg_words.specs.Request.{Asked}
 use Rattle.file_graph.specs.File.{GraphedFile, IsGraphedFile}
 use Rattle.file_graph.specs.Survey.{IsFaultOf}
+use Rattle.live_regs.specs.Masks.{AreAllLivesOf}
+use Rattle.live_regs.specs.Noted.{AreInOrder}
 use Rattle.cfg_run.specs.declared.refusal.Refusal.{Refusal}
 use Rattle.cfg_run.specs.declared.refusal.Refusal.TheVariants as refusals
 use Rattle.cfg_run.specs.Words.{IsForFile}
 use Rattle.cfg_run.specs.Answer.{IsAnswer, malformed_answer}
+use Rattle.cfg_run.specs.Run.{OverInput}
 
 -- An answer with the file with these bytes and its graph, or with the first fault of the file.
 abbrev pub AnswersFile : List ℕ → Result GraphedFile ElfError → Type 0
 AnswersFile bytes r = IfOk r (IsGraphedFile bytes) × IfErr r (IsFaultOf bytes)
 
--- Whoever may be called of the bytes of any file, and gives the file with its graph: by what it
--- asks before a call, and what it says of its answer.
+-- A function that may be called with the bytes of any file, and gives the file with its graph: by
+-- its precondition and by what it says of its answer.
 abbrev pub GraphsFiles :
     (Vec ℕ Global → Type 0) → (Vec ℕ Global → Result GraphedFile ElfError → Type 0) → Type 0
 GraphsFiles asks answers =
     ((bytes : Vec ℕ Global) → asks bytes)
     × ((bytes : Vec ℕ Global) (r : _) → answers bytes r → AnswersFile bytes.items r)
+
+-- An answer with the live registers of all functions of a graph.
+abbrev pub AnswersLives : List ℕ → Graph → Result (List (List Live)) Memory → Type 0
+AnswersLives bytes graph r =
+    IfOk r (AreAllLivesOf bytes graph.blocks graph.edges graph.functions)
+
+-- A function that may be called with any image and a graph whose lists are in order, and gives the
+-- live registers: by its precondition and by what it says of its answer.
+abbrev pub FindsLives :
+    (Bor (List ℕ) → Bor Graph → Type 0)
+    → (Bor (List ℕ) → Bor Graph → Result (List (List Live)) Memory → Type 0) → Type 0
+FindsLives asks answers =
+    ((image : Bor (List ℕ)) (graph : Bor Graph) → AreInOrder graph.now.blocks graph.now.edges
+    → All (λ f. IsStrictlyIncreasing f.body) graph.now.functions → asks image graph)
+    × ((image : Bor (List ℕ)) (graph : Bor Graph) (r : _) → answers image graph r
+    → AnswersLives image.now graph.now r)
 
 -- The refusal is the fault of these bytes, or want of memory.
 abbrev pub IsRefusalOf : List ℕ → Refusal → Type 0
@@ -32,13 +56,13 @@ IsRefusalOf bytes refusals.ReadFault = ⊥
 IsRefusalOf bytes refusals.WriteFault = ⊥
 IsRefusalOf bytes refusals.Memory = Unit {0}
 
--- The refusal is true of what is asked for and of the bytes, where the input tells them: only a
--- file can be malformed or not be read, and a call of the input failed where it was not read. No
--- step before the writing answers that it failed.
+-- The refusal is true of what is asked for and of the bytes, if the input tells them. Only a file
+-- can be malformed or not be read. A call of the input failed if it was not read. No step before
+-- the writing answers that it failed.
 abbrev pub IsTrueOf : Option Asked → Option (List ℕ) → Type 0 → Refusal → Type 0
 IsTrueOf asked told rose refusals.Usage = asked ≡ None
 IsTrueOf asked told rose (refusals.Malformed fault) = IsForFile asked
-    × IfSome told (λ bytes. IsAnswer bytes asked (malformed_answer fault))
+    × OverInput asked told (λ bytes. IsAnswer bytes asked (malformed_answer fault))
 IsTrueOf asked told rose refusals.ReadFault = IsForFile asked × rose
 IsTrueOf asked told rose refusals.WriteFault = ⊥
 IsTrueOf asked told rose refusals.Memory = Unit {0}

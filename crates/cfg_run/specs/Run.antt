@@ -48,6 +48,17 @@ pub record GivesPart (bytes : List ℕ) (asked : Option Asked)
   pub status : answer.status ≡ statuses.Done
   pub output : AppendsPrefix old answer.output new
 
+-- These bytes count for what is asked for: those of the input, if a file is asked for. For all else
+-- the input is not read, so they may be any.
+abbrev pub AreBytesFor : Option Asked → Option (List ℕ) → List ℕ → Type 0
+AreBytesFor None told bytes = Unit {0}
+AreBytesFor (Some (of_file path workers kind)) told bytes = told ≡ Some bytes
+AreBytesFor (Some (of_made n workers)) told bytes = Unit {0}
+
+-- This holds over the bytes that count, if the input tells its bytes or is not read.
+abbrev pub OverInput : Option Asked → Option (List ℕ) → (List ℕ → Type 0) → Type 0
+OverInput asked told Holds = (bytes : List ℕ) → AreBytesFor asked told bytes → Holds bytes
+
 -- The line that a status puts on standard error. Which fault a malformed file has, the answer says.
 abbrev pub IsLineOf : Status → List ℕ → Type 0
 IsLineOf statuses.Done text = text ≡ []

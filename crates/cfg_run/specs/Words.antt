@@ -2,7 +2,7 @@
 use Rattle.std.specs.Prelude.{◌≤◌, List, Option, Some, None, String, map, string_bytes}
 use Rattle.cfg_words.specs.Request.{Asked, of_file, of_made, request_of}
 
--- What the words ask for, of which the first is the program's name; nothing where they are refused.
+-- What the words ask for; nothing if they are refused. The first word is the program's name.
 abbrev pub asked_by : {A : Type 0} → List (String A) → Option Asked
 asked_by words = request_of (map (λ w. string_bytes w) words)
 

@@ -1,6 +1,6 @@
 //! Laws of the answer, as the contract of a function that does nothing.
 
-ghost use Rattle.file_graph.specs.Laws.{CutsAreUnique, FileGraphIsUnique};
+ghost use Rattle.file_program.specs.Laws.{CutsAreUnique, FileGraphIsUnique};
 ghost use Rattle.cfg_run.specs.Laws.{AnswerIsUnique};
 
 /// A file has one graph, under the one way to cut its tables, and a run has one answer: what the

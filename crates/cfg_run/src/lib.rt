@@ -3,6 +3,7 @@
 //!
 //! - `whole_run`: a whole run over any input and any sinks, and what is proved of it.
 //! - `answer`: from the bytes of a file to the text of an answer, and `text`: writing that text.
+//! - `maker`: who makes what a text shows, the caller's thread or workers.
 //! - `safe`: a run in which neither the input nor standard output can fail.
 //! - `status`, `refusal`: how a run ends, and the line that tells why it failed.
 //! - `laws`: that a run has one answer.
@@ -10,6 +11,7 @@
 
 mod answer;
 mod laws;
+mod maker;
 mod refusal;
 mod safe;
 mod status;

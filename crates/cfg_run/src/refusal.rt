@@ -54,6 +54,14 @@ impl From<big_case::Memory> for Refusal {
     }
 }
 
+impl From<cfg_model::Memory> for Refusal {
+    ghost from_gives = { λ _ r. r ≡ refusals.Memory };
+
+    fn from(_: cfg_model::Memory) -> Self {
+        Refusal::Memory
+    }
+}
+
 impl From<graph_report::Memory> for Refusal {
     ghost from_gives = { λ _ r. r ≡ refusals.Memory };
 
@@ -102,7 +110,7 @@ impl Refusal {
         }
     }
 
-    // The name of the fault, where there is one.
+    // The name of the fault, if there is one.
     fn detail(&self) -> &'static str
         ensures { result.now ≡ detail_of self.now }
     {

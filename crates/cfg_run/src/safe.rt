@@ -1,4 +1,4 @@
-//! A run where no call of the input or of standard output can fail.
+//! A run in which no call of the input or of standard output can fail.
 
 ghost use Rattle.std.specs.Prelude.{◌≡◌, ◌⊎◌, false};
 ghost use Rattle.cfg_io.specs.Fault.{Rose};

@@ -1,13 +1,15 @@
 //! The text of an answer, and writing it.
 
-ghost use Rattle.std.specs.Prelude.{◌≡◌, OnOk, IsErrOf};
+ghost use Rattle.std.specs.Prelude.{◌≡◌, ◌≢◌, OnOk, IsErrOf};
 ghost use Rattle.elf_image.specs.Seeds.{seed_name};
 ghost use Rattle.cfg_io.specs.Fault.{Rose};
 ghost use Rattle.cfg_io.specs.Told.{Appends, AppendsPrefix};
+ghost use Rattle.graph_report.specs.Live.{AreForAll, live_text};
 ghost use Rattle.graph_report.specs.Report.{report_text};
 ghost use Rattle.cfg_run.specs.Text.{bytes_of};
 
 use cfg_io::{Sink, write_whole};
+use cfg_model::AllLives;
 use file_graph::FileGraph;
 use graph_report::{ReportKind, ReportPieces};
 use run_ends::{Unwritten, write_pieces};
@@ -23,18 +25,22 @@ pub struct FileReport {
 }
 
 impl Model for FileReport {
-    ghost use Rattle.std.specs.Prelude.{ℕ, List};
+    ghost use Rattle.std.specs.Prelude.{◌≢◌, ℕ, List};
     ghost use Rattle.elf_image.specs.Seeds.{seed_name};
+    ghost use Rattle.graph_report.specs.declared.kind.ReportKind.TheVariants as reports;
     ghost use Rattle.graph_report.specs.Report.{report_text};
 
     ghost Value = { List ℕ };
 
     ghost view = { λ r. report_text r.kind (seed_name r.file.bytes) r.file.graph };
+
+    ghost invariant = { λ r. r.kind ≢ reports.Live };
 }
 
 impl FileReport {
     /// The report of a kind of this file's graph.
     pub fn new(file: FileGraph, kind: ReportKind) -> Self
+        requires { kind ≢ ReportKind.Live }
         ensures { result ≡ report_text kind (seed_name file.bytes) file.graph }
     {
         FileReport { file, kind }
@@ -57,10 +63,58 @@ impl FileReport {
     }
 }
 
+/// What a report of live registers is made of: the file with its graph, and the live registers of
+/// the graph's functions. Contracts see it as the report's text.
+#[derive(Drop)]
+pub struct LiveReport {
+    file: FileGraph,
+    lives: AllLives,
+}
+
+impl Model for LiveReport {
+    ghost use Rattle.std.specs.Prelude.{ℕ, List};
+    ghost use Rattle.elf_image.specs.Seeds.{seed_name};
+    ghost use Rattle.graph_report.specs.Live.{AreForAll, live_text};
+
+    ghost Value = { List ℕ };
+
+    ghost view = { λ r. live_text (seed_name r.file.bytes) r.file.graph r.lives };
+
+    ghost invariant = { λ r. AreForAll r.file.graph.functions r.lives };
+}
+
+impl LiveReport {
+    /// The report of these live registers of this file's graph.
+    pub fn new(file: FileGraph, lives: AllLives) -> Self
+        requires { AreForAll file.graph.functions lives }
+        ensures { result ≡ live_text (seed_name file.bytes) file.graph lives }
+    {
+        LiveReport { file, lives }
+    }
+
+    /// Writes it piece by piece. The memory of the pieces is taken before the first byte is
+    /// written.
+    fn write<O: Sink>(&self, alloc: Global, out: &mut O) -> Result<(), Unwritten>
+        ensures whole { OnOk result (Appends (O.written out.old) self.now (O.written out.new)) }
+        ensures prefix { IsErrOf result Unwritten.Failed
+            → AppendsPrefix (O.written out.old) self.now (O.written out.new) }
+        ensures failed { IsErrOf result Unwritten.Failed
+            → Rose (O.faults out.old) (O.faults out.new) }
+        ensures untouched { IsErrOf result Unwritten.Memory
+            → O.written out.new ≡ O.written out.old }
+    {
+        let file = &self.file;
+        let (image, seeds) = (file.image(), file.seeds());
+        let pieces = ReportPieces::of_lives(alloc, image, seeds, file.graph(), &self.lives)?;
+        Ok(write_pieces(pieces, out)?)
+    }
+}
+
 /// The text of an answer: a report, which is made while it is written, or a summary.
 #[derive(Drop)]
 pub enum Text {
     Report(FileReport),
+    Live(LiveReport),
     Summary(Vec<u8>),
 }
 
@@ -78,6 +132,7 @@ impl Text {
     {
         match self {
             Text::Report(report) => report.write(alloc, out),
+            Text::Live(report) => report.write(alloc, out),
             Text::Summary(bytes) => Ok(write_whole(out, bytes)?),
         }
     }

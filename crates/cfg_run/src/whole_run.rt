@@ -1,33 +1,38 @@
 //! One whole run of the program, over any input and any two sinks.
 
 ghost use Rattle.std.specs.Prelude.{◌≡◌, ◌≢◌, ℕ, ◌+◌, ◌≤◌, ◌<◌, ◌⊎◌, List, [], Some};
-ghost use Rattle.std.specs.Prelude.{None, length, string_bytes, IfSome, IfOk, IfErr};
+ghost use Rattle.std.specs.Prelude.{None, length, string_bytes, IfSome, IfOk, IfErr, All};
+ghost use Rattle.std.specs.List.Sorted.{IsStrictlyIncreasing};
 ghost use Rattle.std.specs.Thread.{IsSync};
 ghost use Rattle.cfg_io.specs.Fault.{Rose};
 ghost use Rattle.cfg_io.specs.Opened.{Nothing};
 ghost use Rattle.cfg_io.specs.Told.{TakesCount, TakesAtMost};
 ghost use Rattle.cfg_words.specs.Request.{asked, of_file};
+ghost use Rattle.live_regs.specs.Noted.{AreInOrder};
 ghost use Rattle.cfg_run.specs.Words.{asked_by, IsForFile, CanBeMade};
 ghost use Rattle.cfg_run.specs.Answer.{IsAnswer, text_answer};
 ghost use Rattle.cfg_run.specs.Refusal.{status_of};
 ghost use Rattle.cfg_run.specs.Lines.{refusal_line};
 ghost use Rattle.cfg_run.specs.Text.{bytes_of};
-ghost use Rattle.cfg_run.specs.Inner.{AnswersFile, GraphsFiles};
+ghost use Rattle.cfg_run.specs.Inner.{AnswersFile, AnswersLives};
 ghost use Rattle.cfg_run.specs.Inner.{IsTrueOf, IsOfFile, IsFaultless};
 ghost use Rattle.run_ends.specs.Told.{Grows, Tells};
-ghost use Rattle.cfg_run.specs.Run.{IsDecided, HasRead};
+ghost use Rattle.cfg_run.specs.Run.{IsDecided, HasRead, OverInput};
 ghost use Rattle.cfg_run.specs.Run.{Gives, GivesPart, IsLineOf, OpenedFor};
 
 use crate::answer::{report_of, summary_of};
+use crate::maker::{Alone, Maker, Workers};
 use crate::refusal::Refusal;
 use crate::status::Status;
 use crate::text::Text;
 use cfg_io::{Input, Sink};
+use cfg_model::{AllLives, Graph, Memory};
 use cfg_words::{Request, request};
 use crew::Gate;
-use elf_image::ElfError;
-use file_graph::{FileGraph, file_graph, file_graph_by};
+use elf_image::{ElfError, Image};
+use file_graph::{FileGraph, file_graph_by};
 use graph_report::ReportKind;
+use live_crew::graph_lives_by;
 use run_ends::{FILE_LIMIT, Unwritten, read_file};
 use std::alloc::Global;
 use std::marker::Sync;
@@ -36,18 +41,17 @@ use std::sync::Wait;
 use std::thread::Threads;
 
 /// Runs the program: reads the file that `words` ask for from `input`, writes the report of its
-/// control-flow graph to `out`, and tells on `err` why it did not. Of a made program, for which
-/// nothing is read, it writes the summary.
+/// control-flow graph or of the graph's live registers to `out`, and tells on `err` why it did not.
+/// Of a made program, for which nothing is read, it writes the summary.
 ///
-/// The clause `answer` is what the program is for: where the words and the bytes decide the end of
-/// a run, its status, standard output and standard error are exactly those of the answer to them.
-/// By
-/// `complete` they do wherever neither the input nor standard output failed in this run and memory
-/// sufficed. The other clauses say what holds where something failed.
+/// The clause `answer` is what the program is for. If the words and the bytes decide the end of a
+/// run, its status, standard output and standard error are exactly those of the answer to them. By
+/// `complete` they do if neither the input nor standard output failed in this run and memory
+/// sufficed. The other clauses say what holds if something failed.
 ///
 /// From two workers on, threads share the work: with two seeds or more they build the closed state
-/// on a board that they share, and pass the gate before each operation. The run may wait then. For
-/// one worker it calls [`run_one`].
+/// on a board that they share, and pass the gate before each operation. The run may wait then. They
+/// share the search for live registers too. For one worker it calls [`run_one`].
 pub fn run<R: Threads + Wait + Sync, I: Input, O: Sink, E: Sink, G: Gate>(
     rt: &R,
     alloc: Global,
@@ -59,7 +63,7 @@ pub fn run<R: Threads + Wait + Sync, I: Input, O: Sink, E: Sink, G: Gate>(
 ) -> Status
     requires { I.opened input.old ≡ Nothing }
 
-    ensures answer { IfSome (I.rest input.old) (λ bytes. IsDecided result
+    ensures answer { OverInput (asked_by words.now) (I.rest input.old) (λ bytes. IsDecided result
         → Gives bytes (asked_by words.now) result (Grows (O.written out.old) (O.written out.new))
         (Tells (E.written err.old) (E.written err.new)
         (Rose (E.faults err.old) (E.faults err.new)))) }
@@ -77,8 +81,9 @@ pub fn run<R: Threads + Wait + Sync, I: Input, O: Sink, E: Sink, G: Gate>(
     ensures write_fault { result ≡ Status.WriteFault → Rose (O.faults out.old) (O.faults out.new) }
 
     // What else standard output holds, and what standard error does.
-    ensures cut_off { IfSome (I.rest input.old) (λ bytes. result ≡ Status.WriteFault
-        → GivesPart bytes (asked_by words.now) (O.written out.old) (O.written out.new)) }
+    ensures cut_off { OverInput (asked_by words.now) (I.rest input.old)
+        (λ bytes. result ≡ Status.WriteFault → GivesPart bytes (asked_by words.now)
+        (O.written out.old) (O.written out.new)) }
     ensures silent { result ≢ Status.Done → result ≢ Status.WriteFault
         → O.written out.new ≡ O.written out.old }
     ensures error_line { (text : List ℕ) × IsLineOf result text
@@ -103,10 +108,17 @@ pub fn run<R: Threads + Wait + Sync, I: Input, O: Sink, E: Sink, G: Gate>(
     };
     let count = workers_of(&request);
     if 2 <= count && count <= 64 {
-        let by = |bytes: Vec<u8>| -> Result<FileGraph, ElfError>
+        let file = |bytes: Vec<u8>| -> Result<FileGraph, ElfError>
             requires { IsSync R.row × IsSync G.row × (2 ≤ count) × (count ≤ 64) }
             ensures { AnswersFile bytes.items result }
         { file_graph_by(rt, alloc, bytes, count, gate) };
+        let lives = |image: &Image, graph: &Graph| -> Result<AllLives, Memory>
+            requires { IsSync R.row × (2 ≤ count) × (count ≤ 64)
+                × AreInOrder graph.now.blocks graph.now.edges
+                × All (λ f. IsStrictlyIncreasing f.body) graph.now.functions }
+            ensures { AnswersLives image.now graph.now result }
+        { graph_lives_by(rt, alloc, image, graph, count) };
+        let by = Workers { file, lives };
         return run_by(alloc, &by, &request, input, out, err);
     }
     run_one(alloc, &request, input, out, err)
@@ -114,7 +126,7 @@ pub fn run<R: Threads + Wait + Sync, I: Input, O: Sink, E: Sink, G: Gate>(
 
 /// Answers a request on the caller's thread: it starts none, waits for nobody and returns.
 ///
-/// Its clauses are those of [`run`], with the request in place of the words.
+/// Its clauses are those of [`run`], with the request instead of the words.
 pub fn run_one<I: Input, O: Sink, E: Sink>(
     alloc: Global,
     request: &Request,
@@ -125,7 +137,7 @@ pub fn run_one<I: Input, O: Sink, E: Sink>(
     requires closed { I.opened input.old ≡ Nothing }
     requires size { CanBeMade (asked request.now) }
 
-    ensures answer { IfSome (I.rest input.old) (λ bytes. IsDecided result
+    ensures answer { OverInput (Some (asked request.now)) (I.rest input.old) (λ bytes. IsDecided result
         → Gives bytes (Some (asked request.now)) result
         (Grows (O.written out.old) (O.written out.new))
         (Tells (E.written err.old) (E.written err.new)
@@ -140,8 +152,9 @@ pub fn run_one<I: Input, O: Sink, E: Sink>(
         × Rose (I.faults input.old) (I.faults input.new) }
     ensures write_fault { result ≡ Status.WriteFault → Rose (O.faults out.old) (O.faults out.new) }
 
-    ensures cut_off { IfSome (I.rest input.old) (λ bytes. result ≡ Status.WriteFault
-        → GivesPart bytes (Some (asked request.now)) (O.written out.old) (O.written out.new)) }
+    ensures cut_off { OverInput (Some (asked request.now)) (I.rest input.old)
+        (λ bytes. result ≡ Status.WriteFault → GivesPart bytes (Some (asked request.now))
+        (O.written out.old) (O.written out.new)) }
     ensures silent { result ≢ Status.Done → result ≢ Status.WriteFault
         → O.written out.new ≡ O.written out.old }
     ensures error_line { (text : List ℕ) × IsLineOf result text
@@ -160,26 +173,23 @@ pub fn run_one<I: Input, O: Sink, E: Sink>(
     ensures within_limit { result ≢ Status.Malformed
         → TakesAtMost (I.rest input.old) FILE_LIMIT (I.rest input.new) }
 {
-    let by = |bytes: Vec<u8>| -> Result<FileGraph, ElfError>
-        ensures { AnswersFile bytes.items result }
-    { file_graph(alloc, bytes) };
-    run_by(alloc, &by, request, input, out, err)
+    run_by(alloc, &Alone { alloc }, request, input, out, err)
 }
 
-// Answers a request with the file and graph that `by` makes of bytes. Its clauses are those of `run_one`.
-fn run_by<F: Fn(Vec<u8>) -> Result<FileGraph, ElfError>, I: Input, O: Sink, E: Sink>(
+// Answers a request with the parts that `by` makes. Its clauses are those of `run_one`.
+fn run_by<M: Maker, I: Input, O: Sink, E: Sink>(
     alloc: Global,
-    by: &F,
+    by: &M,
     request: &Request,
     input: &mut I,
     out: &mut O,
     err: &mut E,
 ) -> Status
-    requires graphs { GraphsFiles (F.pre by.now) (F.post by.now) }
+    requires ready { M.ready by.now }
     requires closed { I.opened input.old ≡ Nothing }
     requires size { CanBeMade (asked request.now) }
 
-    ensures answer { IfSome (I.rest input.old) (λ bytes. IsDecided result
+    ensures answer { OverInput (Some (asked request.now)) (I.rest input.old) (λ bytes. IsDecided result
         → Gives bytes (Some (asked request.now)) result
         (Grows (O.written out.old) (O.written out.new))
         (Tells (E.written err.old) (E.written err.new)
@@ -194,8 +204,9 @@ fn run_by<F: Fn(Vec<u8>) -> Result<FileGraph, ElfError>, I: Input, O: Sink, E: S
         × Rose (I.faults input.old) (I.faults input.new) }
     ensures write_fault { result ≡ Status.WriteFault → Rose (O.faults out.old) (O.faults out.new) }
 
-    ensures cut_off { IfSome (I.rest input.old) (λ bytes. result ≡ Status.WriteFault
-        → GivesPart bytes (Some (asked request.now)) (O.written out.old) (O.written out.new)) }
+    ensures cut_off { OverInput (Some (asked request.now)) (I.rest input.old)
+        (λ bytes. result ≡ Status.WriteFault → GivesPart bytes (Some (asked request.now))
+        (O.written out.old) (O.written out.new)) }
     ensures silent { result ≢ Status.Done → result ≢ Status.WriteFault
         → O.written out.new ≡ O.written out.old }
     ensures error_line { (text : List ℕ) × IsLineOf result text
@@ -247,17 +258,17 @@ fn refuse<E: Sink>(refusal: Refusal, err: &mut E) -> Status
 }
 
 // The text that is asked for: a report, or a summary.
-fn text_for<F: Fn(Vec<u8>) -> Result<FileGraph, ElfError>, I: Input>(
+fn text_for<M: Maker, I: Input>(
     alloc: Global,
-    by: &F,
+    by: &M,
     request: &Request,
     input: &mut I,
 ) -> Result<Text, Refusal>
-    requires graphs { GraphsFiles (F.pre by.now) (F.post by.now) }
+    requires ready { M.ready by.now }
     requires closed { I.opened input.old ≡ Nothing }
     requires size { CanBeMade (asked request.now) }
 
-    ensures done { IfOk result (λ text. IfSome (I.rest input.old)
+    ensures done { IfOk result (λ text. OverInput (Some (asked request.now)) (I.rest input.old)
         (λ bytes. IsAnswer bytes (Some (asked request.now)) (text_answer (bytes_of text)))) }
     ensures refused { IfErr result (IsTrueOf (Some (asked request.now)) (I.rest input.old)
         (Rose (I.faults input.old) (I.faults input.new))) }
@@ -285,14 +296,14 @@ fn text_for<F: Fn(Vec<u8>) -> Result<FileGraph, ElfError>, I: Input>(
 }
 
 // The report of the file at a path.
-fn file_report<F: Fn(Vec<u8>) -> Result<FileGraph, ElfError>, I: Input>(
+fn file_report<M: Maker, I: Input>(
     alloc: Global,
-    by: &F,
+    by: &M,
     path: &str,
     kind: ReportKind,
     input: &mut I,
 ) -> Result<Text, Refusal>
-    requires graphs { GraphsFiles (F.pre by.now) (F.post by.now) }
+    requires ready { M.ready by.now }
     requires closed { I.opened input.old ≡ Nothing }
 
     ensures done { IfOk result (λ text. IfSome (I.rest input.old) (λ bytes. (workers : ℕ)

@@ -23,6 +23,10 @@ attached : request_behind (codes "F" ∷ codes "--report=edges" ∷ []) ≡ Some
 unfolding clap_on_literals cfg_app is_taken text_of
 attached = refl
 
+live : request_behind (codes "--report" ∷ codes "live" ∷ codes "F" ∷ []) ≡ Some (of_file (codes "F") 1 reports.Live)
+unfolding clap_on_literals cfg_app is_taken text_of
+live = refl
+
 dashes : request_behind (codes "--" ∷ codes "--x" ∷ []) ≡ Some (of_file (codes "--x") 1 reports.Graph)
 unfolding clap_on_literals cfg_app is_taken text_of
 dashes = refl

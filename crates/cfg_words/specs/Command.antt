@@ -23,6 +23,6 @@ cfg_app = with_rule (with_rule
 unfoldable pub is_taken : List Text → Bool
 is_taken words = is_empty (fault_of cfg_app words)
 
--- The text that clap finds for an argument; none where the words do not give it.
+-- The text that clap finds for an argument; none if the words do not give it.
 unfoldable pub text_of : List Text → Text → Option Text
 text_of words name = first_of name (matches_of cfg_app words)

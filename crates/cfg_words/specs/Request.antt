@@ -17,13 +17,13 @@ abbrev pub asked : Request → Asked
 asked (requests.File path workers kind) = of_file (string_bytes path) workers kind
 asked (requests.Make n workers) = of_made n workers
 
--- A file's report, where there are a number of workers and a kind.
+-- A file's report, if there are a number of workers and a kind.
 abbrev pub file_request : List ℕ → Option ℕ → Option ReportKind → Option Asked
 file_request path (Some workers) (Some kind) = Some (of_file path workers kind)
 file_request path (Some workers) None = None
 file_request path None kind = None
 
--- A made program's summary, where there are a size and a number of workers.
+-- A made program's summary, if there are a size and a number of workers.
 abbrev pub make_request : Option ℕ → Option ℕ → Option Asked
 make_request (Some n) (Some workers) = Some (of_made n workers)
 make_request (Some n) None = None
@@ -41,8 +41,8 @@ request_with workers report None None = None
 request_with workers (Some word) (Some n) None = None
 request_with workers report (Some n) (Some path) = None
 
--- The request of the words, of which the first is the program's name: none where clap finds a fault
--- in them, and else that of the texts which it finds.
+-- The request of the words; the first of them is the program's name. None if clap finds a fault in
+-- them, and else that of the texts which it finds.
 abbrev pub request_of : List (List ℕ) → Option Asked
 request_of words =
     if is_taken words

@@ -25,7 +25,7 @@ kept_within least most n = if nat_le least n && nat_le n most then Some n else N
 abbrev pub number_within : ℕ → ℕ → List ℕ → Option ℕ
 number_within least most text = option_and_then (kept_within least most) (number_of text)
 
--- How many workers are asked for: 1 to 64, and one where the option is not given.
+-- How many workers are asked for: 1 to 64, and one if the option is not given.
 abbrev pub workers_of : Option (List ℕ) → Option ℕ
 workers_of None = Some 1
 workers_of (Some text) = number_within 1 64 text
@@ -37,9 +37,10 @@ kind_named word =
     else (if bytes_eq word (codes "functions") then Some reports.Functions
     else (if bytes_eq word (codes "blocks") then Some reports.Blocks
     else (if bytes_eq word (codes "edges") then Some reports.Edges
-    else None)))
+    else (if bytes_eq word (codes "live") then Some reports.Live
+    else None))))
 
--- The kind of report that is asked for: the whole graph where the option is not given.
+-- The kind of report that is asked for: the whole graph if the option is not given.
 abbrev pub report_kind_of : Option (List ℕ) → Option ReportKind
 report_kind_of None = Some reports.Graph
 report_kind_of (Some word) = kind_named word

@@ -11,7 +11,7 @@ pub enum Request {
         path: String,
         /// How many workers build the graph, 1 to 64.
         workers: u32,
-        /// Which part of the graph is reported.
+        /// What is reported: the graph, a part of it, or the live registers.
         kind: ReportKind,
     },
     /// The summary of a made program.

@@ -16,4 +16,5 @@ mod words;
 
 pub use asked::Request;
 pub use error::WordsError;
+pub use value::number_within;
 pub use words::request;

@@ -10,7 +10,7 @@ use crate::error::WordsError;
 use clap::{Arg, ArgMatches, Command};
 use std::alloc::{AllocError, Global};
 
-/// What clap finds in the words behind the program's name.
+/// What clap finds in the words after the program's name.
 pub fn parsed<'a>(alloc: Global, words: &'a [String]) -> Result<ArgMatches<'a>, WordsError>
     ensures taken { OnOk result (is_taken (map (λ w. string_bytes w) words.entry.now) ≡ true) }
     ensures texts { IfOk result (λ m. (name : List ℕ)

@@ -12,7 +12,7 @@ use graph_report::ReportKind;
 /// The most digits of a number.
 const MOST_DIGITS: usize = 9;
 
-/// How many workers the text of `--workers` asks for: one where there is none.
+/// How many workers the text of `--workers` asks for: one if there is none.
 pub fn workers(text: Option<&str>) -> Option<u32>
     ensures { result ≡ workers_of (option_map (λ s. s.now) text.entry) }
 {
@@ -22,7 +22,7 @@ pub fn workers(text: Option<&str>) -> Option<u32>
     }
 }
 
-/// The number that a text writes, where it lies between two bounds, both of them included.
+/// The number that a text writes, if it lies between two bounds, both of them included.
 pub fn number_within(text: &str, least: u32, most: u32) -> Option<u32>
     ensures { result ≡ number_within least most text.now }
 {
@@ -59,7 +59,7 @@ fn all_digits(text: &[u8]) -> bool
     text.iter().all(|b| b.is_ascii_digit())
 }
 
-/// The kind of report that the text of `--report` asks for: the whole graph where there is none.
+/// The kind of report that the text of `--report` asks for: the whole graph if there is none.
 pub fn report_kind(text: Option<&str>) -> Option<ReportKind>
     ensures { result ≡ report_kind_of (option_map (λ s. s.now) text.entry) }
 {
@@ -78,6 +78,7 @@ fn kind_named(word: &str) -> Option<ReportKind>
         "functions" => Some(ReportKind::Functions),
         "blocks" => Some(ReportKind::Blocks),
         "edges" => Some(ReportKind::Edges),
+        "live" => Some(ReportKind::Live),
         _ => None,
     }
 }

@@ -13,11 +13,11 @@ use crate::parse::parsed;
 use crate::value::{number_within, report_kind, workers};
 use std::alloc::Global;
 
-/// What the words ask for: `[--workers N] [--report KIND] FILE` or `[--workers N] --make N`, behind
-/// the program's name, in each order and spelling that clap takes.
+/// What the words after the program's name ask for: `[--workers N] [--report KIND] FILE` or
+/// `[--workers N] --make N`, in each order and spelling that clap takes.
 ///
-/// A number is one to nine decimal digits. There is one worker where `--workers` is not given, and
-/// the whole graph is reported where `--report` is not.
+/// A number is one to nine decimal digits. There is one worker if `--workers` is not given, and the
+/// whole graph is reported if `--report` is not.
 ///
 /// - [`WordsError::Usage`]: the words are not of these forms, or a number is out of its range.
 /// - [`WordsError::Memory`]: memory ran out.
@@ -37,7 +37,7 @@ pub fn request(alloc: Global, words: &[String]) -> Result<Request, WordsError>
     request_given(alloc, given)
 }
 
-/// The texts of the options and of FILE, where they are given.
+/// The texts of the options and of FILE, if they are given.
 #[derive(Clone, Copy)]
 struct Given<'a> {
     workers: Option<&'a str>,

@@ -1,17 +1,20 @@
 -- Text that moves from the front of what is left to the end of a page.
 use Rattle.std.proofs.Common.{◌≡◌, ℕ, ◌<◌, ◌≤◌, List, [], ◌∷◌, ◌++◌, length, drop, get_or, Some, None, true, refl, sym, ap, ◌∙◌, append_assoc, drop-cons, arith}
 use Rattle.std.proofs.lemmas.List.{nil_from_length}
-use Rattle.std.specs.Prelude.{if◌then◌else◌}
+use Rattle.std.specs.Prelude.{if◌then◌else◌, zip}
 use Rattle.std.specs.List.{flat_map}
 use Rattle.cfg_model.specs.declared.graph.Function.{Function}
 use Rattle.cfg_model.specs.declared.graph.Graph.{Graph}
+use Rattle.cfg_model.specs.declared.live.Live.{Live}
 use Rattle.graph_report.specs.declared.kind.ReportKind.{ReportKind}
 use Rattle.graph_report.specs.declared.kind.ReportKind.TheVariants as reports
 use Rattle.graph_report.specs.declared.left.FunctionsLeft.{FunctionsLeft}
+use Rattle.graph_report.specs.declared.live_left.LivesLeft.{LivesLeft}
 use Rattle.graph_report.specs.Name.{Names}
-use Rattle.graph_report.specs.Line.{functions_line, function_line, in_line, end_line}
+use Rattle.graph_report.specs.Line.{functions_line, function_line, in_line, lives_line, live_line, end_line}
+use Rattle.graph_report.specs.Live.{function_live_lines}
 use Rattle.graph_report.specs.Report.{function_lines, functions_section, blocks_section, edges_section, sections}
-use Rattle.graph_report.specs.Inner.{has_functions, has_blocks, has_edges, name_left, count_left, functions_left}
+use Rattle.graph_report.specs.Inner.{has_functions, has_blocks, has_edges, name_left, count_left, functions_left, lives_left}
 
 -- what moves at the front moves in front of all that follows
 pub moved_front : (new page a b rest : List ℕ) → new ++ a ≡ page ++ b → new ++ (a ++ rest) ≡ page ++ (b ++ rest)
@@ -44,14 +47,10 @@ five_fields page one two three four five a b c d e nl h1 h2 h3 h4 h5 =
     ∙ ap (λ (xs : List ℕ). page ++ xs) (sym (append_assoc a _ nl ∙ ap (λ (xs : List ℕ). a ++ xs) behind_b)))
 
 -- a function's line is begun, and its body and the functions behind it are still to come
-pub function_begun : (names : Names) (new page : List ℕ) (f : Function) (rest : List Function) (name : List ℕ)
-    → new ++ name_left (Some name) ≡ page ++ function_line names f
-    → new ++ (name_left (Some name) ++ (flat_map in_line f.body ++ flat_map (function_lines names) rest)) ≡ page ++ flat_map (function_lines names) (f ∷ rest)
-function_begun names new page f rest name h =
-    let ins = flat_map in_line f.body in
-    let behind = flat_map (function_lines names) rest in
-    moved_front new page (name_left (Some name)) (function_line names f) (ins ++ behind) h
-    ∙ ap (λ (xs : List ℕ). page ++ xs) (sym (append_assoc (function_line names f) ins behind))
+function_begun : (new page name line body behind : List ℕ) → new ++ name ≡ page ++ line
+    → new ++ (name ++ (body ++ behind)) ≡ page ++ ((line ++ body) ++ behind)
+function_begun new page name line body behind h =
+    moved_front new page name line (body ++ behind) h ∙ ap (λ (xs : List ℕ). page ++ xs) (sym (append_assoc line body behind))
 
 -- the same, of what is left of the section where nothing stands in front of its functions
 pub function_given : (names : Names) (new page : List ℕ) (left : FunctionsLeft) (f : Function) (rest : List Function) (name body : List ℕ)
@@ -64,7 +63,26 @@ function_given names new page left f rest name body begun none empty some first 
     let all = left.functions.now in
     let none_in : left.body.now ≡ [] = nil_from_length left.body.now (omega arith) in
     let is : all ≡ f ∷ drop 1 all = drop-cons all 0 f (omega arith) ∙ ap (λ (g : Function). g ∷ drop 1 all) (sym first) in
-    rw (begun, none, none_in, same, behind) (function_begun names new page f (drop 1 all) name h ∙ ap (λ (fs : List Function). page ++ flat_map (function_lines names) fs) (sym is))
+    let after = flat_map (function_lines names) (drop 1 all) in
+    rw (begun, none, none_in, same, behind)
+    (function_begun new page (name_left (Some name)) (function_line names f) (flat_map in_line f.body) after h
+    ∙ ap (λ (fs : List Function). page ++ flat_map (function_lines names) fs) (sym is))
+
+-- the same of the section of the live registers
+pub lives_given : (names : Names) (new page : List ℕ) (left : LivesLeft) (f : Function) (lives : List Live)
+    (functions : List Function) (others : List (List Live)) (name : List ℕ)
+    → left.begun ≡ true → left.name ≡ None → length left.body.now < 1 → 1 ≤ length left.functions.now → 1 ≤ length left.lives.now
+    → f ≡ get_or left.functions.now 0 f → functions ≡ drop 1 left.functions.now
+    → lives ≡ get_or left.lives.now 0 lives → others ≡ drop 1 left.lives.now
+    → new ++ name_left (Some name) ≡ page ++ function_line names f
+    → new ++ (count_left left.begun (lives_line (length functions))
+    ++ (name_left (Some name) ++ (flat_map live_line lives ++ flat_map (function_live_lines names) (zip functions others)))) ≡ page ++ lives_left names left
+lives_given names new page left f lives functions others name begun none empty some some_lives first behind first_lives lives_behind h =
+    let none_in : left.body.now ≡ [] = nil_from_length left.body.now (omega arith) in
+    let is : left.functions.now ≡ f ∷ functions = drop-cons left.functions.now 0 f (omega arith) ∙ rw (← first, behind) refl in
+    let are : left.lives.now ≡ lives ∷ others = drop-cons left.lives.now 0 lives (omega arith) ∙ rw (← first_lives, lives_behind) refl in
+    rw (begun, none, none_in, is, are)
+    (function_begun new page (name_left (Some name)) (function_line names f) (flat_map live_line lives) (flat_map (function_live_lines names) (zip functions others)) h)
 
 -- the sections that a kind of report has, one after another
 pub all_left : (kind : ReportKind) (names : Names) (graph : Graph)
@@ -77,3 +95,4 @@ all_left reports.Graph names graph =
 all_left reports.Functions names graph = refl
 all_left reports.Blocks names graph = refl
 all_left reports.Edges names graph = refl
+all_left reports.Live names graph = refl

@@ -9,6 +9,7 @@ use Rattle.graph_report.specs.Number.{address_digits, hex_digits}
 use Rattle.graph_report.specs.Name.{Names, name_field}
 use Rattle.graph_report.specs.Line.{functions_line, blocks_line, function_line, edge_line}
 use Rattle.graph_report.specs.Report.{report_text}
+use Rattle.graph_report.specs.Live.{live_text}
 use Rattle.graph_report.specs.Summary.{summary_text}
 
 -- no address has a name
@@ -48,6 +49,11 @@ one_return_edges : report_text reports.Edges nameless one_return ≡ codes "cfg-
 unfolding hex_digits digits
 one_return_edges = refl
 
+-- the live registers of 00000513 00008067 at 10000: all but x10, which the first instruction writes
+one_return_live : live_text nameless one_return ((record { block = 0x10000; mask = 0xfffffbfe } ∷ []) ∷ []) ≡ codes "cfg-report 2\nentry 0000000000010000\nlives 1\nfunction 0000000000010000 may-return 1 -\nlive 0000000000010000 fffffbfe\nend\n"
+unfolding hex_digits digits
+one_return_live = refl
+
 -- two functions with names: a jump to a return, and an instruction that stops
 abbrev two_functions : Graph
 two_functions = record {
@@ -73,6 +79,11 @@ eleven_blocks = refl
 tail_call : edge_line (record { from = 0x1000c; to = 0x10000; kind = kinds.Tail }) ≡ codes "edge 000000000001000c 0000000000010000 tail\n"
 unfolding hex_digits
 tail_call = refl
+
+-- their live registers, of which the last block needs none
+two_functions_live : live_text two_names two_functions ((record { block = 0x10000; mask = 0xfffffffe } ∷ record { block = 0x10004; mask = 2 } ∷ []) ∷ (record { block = 0x10008; mask = 0 } ∷ []) ∷ []) ≡ codes "cfg-report 2\nentry 0000000000010000\nlives 2\nfunction 0000000000010000 may-return 2 _start\nlive 0000000000010000 fffffffe\nlive 0000000000010004 00000002\nfunction 0000000000010008 no-return 1 \\x2d\nlive 0000000000010008 00000000\nend\n"
+unfolding hex_digits digits
+two_functions_live = refl
 
 -- their summary, as if they had been made from the number 5000
 two_functions_summary : summary_text 5000 two_functions ≡ codes "cfg-made 5000\nfunctions 2\nblocks 3\nedges 1\nmay-return 1\nno-return 1\n"

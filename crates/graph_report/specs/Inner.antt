@@ -1,6 +1,6 @@
 -- Words of private functions, which no public contract cites: what is left of a report.
 use Rattle.std.specs.Prelude.{ℕ, ◌+◌, ◌<◌, ◌≤◌, Bool, true, false, if◌then◌else◌}
-use Rattle.std.specs.Prelude.{List, [], ◌++◌, length, Option, Some, None, codes}
+use Rattle.std.specs.Prelude.{List, [], ◌++◌, length, zip, Option, Some, None, codes}
 use Rattle.std.specs.List.{flat_map}
 use Rattle.std.specs.Option.{option_map}
 use Rattle.graph_report.specs.declared.page.TheConstants.{LINE_ROOM}
@@ -10,9 +10,15 @@ use Rattle.graph_report.specs.declared.left.FunctionsLeft.{FunctionsLeft}
 use Rattle.graph_report.specs.declared.left.BlocksLeft.{BlocksLeft}
 use Rattle.graph_report.specs.declared.left.EdgesLeft.{EdgesLeft}
 use Rattle.graph_report.specs.declared.left.ReportLeft.{ReportLeft}
+use Rattle.graph_report.specs.declared.live_left.LivesLeft.{LivesLeft}
+use Rattle.graph_report.specs.declared.live_left.LiveLeft.{LiveLeft}
+use Rattle.graph_report.specs.declared.live_left.TextLeft.{TextLeft}
+use Rattle.graph_report.specs.declared.live_left.TextLeft.TheVariants as texts
 use Rattle.graph_report.specs.Name.{Names, name_byte}
 use Rattle.graph_report.specs.Line.{functions_line, in_line, blocks_line}
 use Rattle.graph_report.specs.Line.{block_line, edges_line, edge_line, end_line}
+use Rattle.graph_report.specs.Line.{lives_line, live_line}
+use Rattle.graph_report.specs.Live.{function_live_lines}
 use Rattle.graph_report.specs.Report.{function_lines}
 
 -- The text grew, by a line at most.
@@ -25,25 +31,28 @@ has_functions reports.Graph = true
 has_functions reports.Functions = true
 has_functions reports.Blocks = false
 has_functions reports.Edges = false
+has_functions reports.Live = false
 
 abbrev pub has_blocks : ReportKind → Bool
 has_blocks reports.Graph = true
 has_blocks reports.Functions = false
 has_blocks reports.Blocks = true
 has_blocks reports.Edges = false
+has_blocks reports.Live = false
 
 abbrev pub has_edges : ReportKind → Bool
 has_edges reports.Graph = true
 has_edges reports.Functions = false
 has_edges reports.Blocks = false
 has_edges reports.Edges = true
+has_edges reports.Live = false
 
--- The rest of a function's line, from within its name; nothing where the line is whole.
+-- The rest of a function's line, from within its name; nothing if the line is whole.
 abbrev pub name_left : Option (List ℕ) → List ℕ
 name_left None = []
 name_left (Some name) = flat_map name_byte name ++ codes "\n"
 
--- A line that stands in front of a section, unless it was given.
+-- A line that stands before a section, unless it was given.
 abbrev pub count_left : Bool → List ℕ → List ℕ
 count_left begun line = if begun then [] else line
 
@@ -68,8 +77,24 @@ edges_left left =
 abbrev pub end_left : Bool → List ℕ
 end_left ended = count_left ended end_line
 
--- The report behind its heading.
+-- The report after its heading.
 abbrev pub report_left : Names → ReportLeft → List ℕ
 report_left names left =
     functions_left names left.functions
     ++ (blocks_left left.blocks ++ (edges_left left.edges ++ end_left left.ended))
+
+-- The same of a report of live registers.
+abbrev pub lives_left : Names → LivesLeft → List ℕ
+lives_left names left =
+    count_left left.begun (lives_line (length left.functions.now))
+    ++ (name_left (option_map (λ s. s.now) left.name)
+    ++ (flat_map live_line left.body.now
+    ++ flat_map (function_live_lines names) (zip left.functions.now left.lives.now)))
+
+abbrev pub live_left : Names → LiveLeft → List ℕ
+live_left names left = lives_left names left.lives ++ end_left left.ended
+
+-- A report of either form behind its heading.
+abbrev pub text_left : Names → TextLeft → List ℕ
+text_left names (texts.Graph left) = report_left names left
+text_left names (texts.Live left) = live_left names left

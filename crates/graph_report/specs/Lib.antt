@@ -3,6 +3,7 @@ pub mod Name
 pub mod Words
 pub mod Line
 pub mod Report
+pub mod Live
 pub mod Summary
 pub mod Pieces
 pub mod Inner

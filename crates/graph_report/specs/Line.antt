@@ -4,7 +4,8 @@ use Rattle.std.specs.List.{join_with_byte}
 use Rattle.cfg_model.specs.declared.graph.Block.{Block}
 use Rattle.cfg_model.specs.declared.graph.Edge.{Edge}
 use Rattle.cfg_model.specs.declared.graph.Function.{Function}
-use Rattle.graph_report.specs.Number.{address_digits}
+use Rattle.cfg_model.specs.declared.live.Live.{Live}
+use Rattle.graph_report.specs.Number.{address_digits, mask_digits}
 use Rattle.graph_report.specs.Name.{Names, name_field}
 use Rattle.graph_report.specs.Words.{status_word, end_word, edge_word}
 
@@ -40,7 +41,7 @@ function_line names f =
 abbrev pub in_line : ℕ → List ℕ
 in_line block = line (codes "in" ∷ address_digits block ∷ [])
 
--- A block: where it starts, the address behind it, and what it ends with.
+-- A block: where it starts, the address after it, and what it ends with.
 abbrev pub block_line : Block → List ℕ
 block_line b =
     line (codes "block" ∷ address_digits b.start ∷ address_digits b.end ∷ end_word b.kind ∷ [])
@@ -49,6 +50,14 @@ block_line b =
 abbrev pub edge_line : Edge → List ℕ
 edge_line e =
     line (codes "edge" ∷ address_digits e.from ∷ address_digits e.to ∷ edge_word e.kind ∷ [])
+
+-- How many functions follow, each with the live registers of its blocks.
+abbrev pub lives_line : ℕ → List ℕ
+lives_line count = line (codes "lives" ∷ decimal count ∷ [])
+
+-- A block of the function above, by where it starts, and the registers that are live there.
+abbrev pub live_line : Live → List ℕ
+live_line l = line (codes "live" ∷ address_digits l.block ∷ mask_digits l.mask ∷ [])
 
 -- The first line of the summary of a made program: how many functions were asked for.
 abbrev pub made_line : ℕ → List ℕ

@@ -5,7 +5,7 @@ use Rattle.std.specs.Prelude.{◌∷◌, ◌++◌, Option, Some, None, if◌then
 use Rattle.std.specs.List.{flat_map}
 use Rattle.graph_report.specs.Number.{hex_digit}
 
--- The names of addresses, as bytes; none where an address has no name.
+-- The names of addresses, as bytes; none if an address has no name.
 abbrev pub Names : Type 0
 Names = ℕ → Option (List ℕ)
 
@@ -33,7 +33,7 @@ is_dash (byte ∷ next ∷ rest) = false
 abbrev pub name_text : List ℕ → List ℕ
 name_text name = if is_dash name then escaped_byte 45 else flat_map name_byte name
 
--- The field for a name that may be missing: a dash where it is.
+-- The field for a name that may be missing: a dash if it is.
 abbrev pub name_field : Option (List ℕ) → List ℕ
 name_field None = codes "-"
 name_field (Some name) = name_text name

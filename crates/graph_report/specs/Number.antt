@@ -6,10 +6,14 @@ use Rattle.std.specs.Fmt.{digit_glyph}
 abbrev pub hex_digit : ℕ → ℕ
 hex_digit n = digit_glyph false n
 
--- The last so many hexadecimal digits of a number, the highest first.
+-- The last hexadecimal digits of a number, this many, the highest first.
 unfoldable pub hex_digits : ℕ → ℕ → List ℕ
 hex_digits zero n = []
 hex_digits (suc count) n = hex_digits count (n / 16) ++ hex_digit (n % 16) ∷ []
+
+-- A mask of registers: eight hexadecimal digits. Bit r stands for register xr.
+abbrev pub mask_digits : ℕ → List ℕ
+mask_digits mask = hex_digits 8 mask
 
 -- An address: sixteen hexadecimal digits.
 abbrev pub address_digits : ℕ → List ℕ

@@ -1,5 +1,5 @@
 -- The whole text of a report.
-use Rattle.std.specs.Prelude.{ℕ, List, ◌++◌, length}
+use Rattle.std.specs.Prelude.{ℕ, List, [], ◌++◌, length}
 use Rattle.std.specs.List.{flat_map}
 use Rattle.cfg_model.specs.declared.graph.Block.{Block}
 use Rattle.cfg_model.specs.declared.graph.Edge.{Edge}
@@ -30,7 +30,8 @@ blocks_section blocks = blocks_line (length blocks) ++ flat_map block_line block
 abbrev pub edges_section : List Edge → List ℕ
 edges_section edges = edges_line (length edges) ++ flat_map edge_line edges
 
--- The sections that a report of each kind has: all of them, or the one of its name.
+-- The sections that a report of each kind has: all of them, or the one of its name. A report of live
+-- registers shows no part of the graph: its text is live_text.
 abbrev pub sections : ReportKind → Names → Graph → List ℕ
 sections reports.Graph names graph =
     functions_section names graph.functions
@@ -39,6 +40,7 @@ sections reports.Graph names graph =
 sections reports.Functions names graph = functions_section names graph.functions
 sections reports.Blocks names graph = blocks_section graph.blocks
 sections reports.Edges names graph = edges_section graph.edges
+sections reports.Live names graph = []
 
 -- The report of a graph: the heading, the sections of its kind, and the last line.
 abbrev pub report_text : ReportKind → Names → Graph → List ℕ

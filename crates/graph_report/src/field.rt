@@ -1,7 +1,7 @@
 //! The fields of a line: words, addresses and counts.
 
 ghost use Rattle.std.specs.Prelude.{◌≡◌, ◌≤◌, ◌<◌, ◌+◌, ◌/◌, ◌%◌, ◌++◌, length, codes, decimal};
-ghost use Rattle.graph_report.specs.Number.{hex_digit, hex_digits, address_digits};
+ghost use Rattle.graph_report.specs.Number.{hex_digit, hex_digits, address_digits, mask_digits};
 ghost use Rattle.graph_report.specs.Words.{status_word, end_word, edge_word};
 
 use crate::page::{PAGE_ROOM, Page};
@@ -16,31 +16,40 @@ pub fn status_word(returns: bool) -> &'static [u8]
     if returns { b"may-return" } else { b"no-return" }
 }
 
-/// Appends the last field of a block's line, the word for what the block ends with, with a space in
-/// front and the newline behind it: 12 bytes at most.
+/// The word for what a block ends with, of 10 bytes at most.
+pub fn end_word(kind: EndKind) -> &'static [u8]
+    ensures word { result.now ≡ end_word kind }
+    ensures short { length result.now ≤ 10 }
+{
+    match kind {
+        EndKind::Fall => b"fall",
+        EndKind::Branch => b"branch",
+        EndKind::BranchOut => b"branch-out",
+        EndKind::Jump => b"jump",
+        EndKind::Call => b"call",
+        EndKind::IndirectCall => b"icall",
+        EndKind::Return => b"return",
+        EndKind::Table => b"table",
+        EndKind::TableCut => b"table-cut",
+        EndKind::TableOpen => b"table-open",
+        EndKind::Unknown => b"unknown",
+        EndKind::Stop => b"stop",
+    }
+}
+
+/// Appends the last field of a block's line, the word for what the block ends with. A space comes
+/// before it and the newline after it: 12 bytes at most.
 pub fn push_end_field(page: &mut Page, kind: EndKind)
     requires room { length page.old + 12 ≤ PAGE_ROOM }
     ensures text { page.new ≡ page.old ++ (codes " " ++ end_word kind ++ codes "\n") }
     ensures most { length page.new ≤ length page.old + 12 }
 {
-    match kind {
-        EndKind::Fall => page.push(b" fall\n"),
-        EndKind::Branch => page.push(b" branch\n"),
-        EndKind::BranchOut => page.push(b" branch-out\n"),
-        EndKind::Jump => page.push(b" jump\n"),
-        EndKind::Call => page.push(b" call\n"),
-        EndKind::IndirectCall => page.push(b" icall\n"),
-        EndKind::Return => page.push(b" return\n"),
-        EndKind::Table => page.push(b" table\n"),
-        EndKind::TableCut => page.push(b" table-cut\n"),
-        EndKind::TableOpen => page.push(b" table-open\n"),
-        EndKind::Unknown => page.push(b" unknown\n"),
-        EndKind::Stop => page.push(b" stop\n"),
-    }
+    push_field(page, end_word(kind));
+    page.push(b"\n");
 }
 
-/// Appends the last field of an edge's line, the word for the kind of the edge, with a space in
-/// front and the newline behind it: 7 bytes at most.
+/// Appends the last field of an edge's line, the word for the kind of the edge. A space comes
+/// before it and the newline after it: 7 bytes at most.
 pub fn push_edge_field(page: &mut Page, kind: EdgeKind)
     requires room { length page.old + 7 ≤ PAGE_ROOM }
     ensures text { page.new ≡ page.old ++ (codes " " ++ edge_word kind ++ codes "\n") }
@@ -101,7 +110,7 @@ fn byte_digits(byte: u8) -> [u8; 2]
     [*high, *low]
 }
 
-/// The eight hexadecimal digits of half an address, the highest first.
+/// The eight hexadecimal digits of half an address or of a mask of registers, the highest first.
 #[inline(always)]
 fn half_digits(half: u32) -> [u8; 8]
     ensures { result ≡ hex_digits 8 half }
@@ -138,6 +147,17 @@ pub fn two_addresses(one: u64, other: u64) -> [u8; 34]
     let mut fields = *b" 0000000000000000 0000000000000000";
     fields[1..17].copy_from_slice(&address_digits(one));
     fields[18..].copy_from_slice(&address_digits(other));
+    fields
+}
+
+/// A space and an address, and a space and a mask of registers: two fields of a line.
+#[inline(always)]
+pub fn address_and_mask(address: u64, mask: u32) -> [u8; 26]
+    ensures { result ≡ codes " " ++ address_digits address ++ codes " " ++ mask_digits mask }
+{
+    let mut fields = *b" 0000000000000000 00000000";
+    fields[1..17].copy_from_slice(&address_digits(address));
+    fields[18..].copy_from_slice(&half_digits(mask));
     fields
 }
 

@@ -1,9 +1,10 @@
-//! Which part of a graph a report shows.
+//! What a report shows.
 
 ghost use Rattle.std.specs.Prelude.{◌≡◌};
 ghost use Rattle.graph_report.specs.Inner.{has_functions, has_blocks, has_edges};
 
-/// Which part of a graph a report shows. Each report has the heading and the last line too.
+/// What a report shows: a graph, a part of it, or the live registers of its blocks. Each report has
+/// the heading and the last line too.
 #[derive(Clone, Copy, Debug, PartialEq, Eq)]
 pub enum ReportKind {
     /// The whole graph: functions, blocks and edges.
@@ -14,6 +15,8 @@ pub enum ReportKind {
     Blocks,
     /// The edges.
     Edges,
+    /// The live registers of each function's blocks.
+    Live,
 }
 
 impl ReportKind {

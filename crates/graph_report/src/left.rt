@@ -28,7 +28,7 @@ use elf_symbols::Seeds;
 pub struct FunctionsLeft<'a> {
     /// Whether the line of their number was given.
     begun: bool,
-    /// The bytes of a name that are still to come, where its line is not whole.
+    /// The bytes of a name that are still to come, if its line is not whole.
     name: Option<&'a [u8]>,
     /// The blocks of the last function that are still to come.
     body: &'a [u64],
@@ -49,7 +49,7 @@ impl<'a> FunctionsLeft<'a> {
         }
     }
 
-    /// Puts the next line on the page, or a part of it; `false` where nothing is left.
+    /// Puts the next line on the page, or a part of it; `false` if nothing is left.
     fn step(&mut self, image: &'a Image, seeds: &Seeds, page: &mut Page) -> bool
         requires names { (a : ℕ) → option_map (span_bytes image.now) (name_in seeds.now a)
             ≡ seed_name image.now a }
@@ -86,8 +86,8 @@ impl<'a> FunctionsLeft<'a> {
     }
 }
 
-/// The name of the function that begins at an address; `None` where it has none.
-fn name_at<'a>(image: &'a Image, seeds: &Seeds, entry: u64) -> Option<&'a [u8]>
+/// The name of the function that begins at an address; `None` if it has none.
+pub fn name_at<'a>(image: &'a Image, seeds: &Seeds, entry: u64) -> Option<&'a [u8]>
     requires names { (a : ℕ) → option_map (span_bytes image.now) (name_in seeds.now a)
         ≡ seed_name image.now a }
     requires in_file { (a : ℕ) → IfSome (name_in seeds.now a) (LiesIn image.now) }
@@ -116,7 +116,7 @@ impl<'a> BlocksLeft<'a> {
         }
     }
 
-    /// Puts the next line on the page; `false` where none is left.
+    /// Puts the next line on the page; `false` if none is left.
     fn step(&mut self, page: &mut Page) -> bool
         requires room { length page.old + LINE_ROOM ≤ PAGE_ROOM }
         ensures moves { page.new ++ blocks_left self.new ≡ page.old ++ blocks_left self.old }
@@ -157,7 +157,7 @@ impl<'a> EdgesLeft<'a> {
         }
     }
 
-    /// Puts the next line on the page; `false` where none is left.
+    /// Puts the next line on the page; `false` if none is left.
     fn step(&mut self, page: &mut Page) -> bool
         requires room { length page.old + LINE_ROOM ≤ PAGE_ROOM }
         ensures moves { page.new ++ edges_left self.new ≡ page.old ++ edges_left self.old }
@@ -179,7 +179,7 @@ impl<'a> EdgesLeft<'a> {
     }
 }
 
-/// What is left of a report behind its heading.
+/// What is left of a report after its heading.
 #[derive(Drop)]
 pub struct ReportLeft<'a> {
     functions: FunctionsLeft<'a>,
@@ -203,7 +203,7 @@ impl<'a> ReportLeft<'a> {
         }
     }
 
-    /// Puts the next line on the page, or a part of it; `false` where nothing is left.
+    /// Puts the next line on the page, or a part of it; `false` if nothing is left.
     pub fn step(&mut self, image: &'a Image, seeds: &Seeds, page: &mut Page) -> bool
         requires names { (a : ℕ) → option_map (span_bytes image.now) (name_in seeds.now a)
             ≡ seed_name image.now a }
@@ -228,8 +228,8 @@ impl<'a> ReportLeft<'a> {
     }
 }
 
-/// Puts the last line on the page; `false` where it was given.
-fn step_end(ended: &mut bool, page: &mut Page) -> bool
+/// Puts the last line on the page; `false` if it was given.
+pub fn step_end(ended: &mut bool, page: &mut Page) -> bool
     requires room { length page.old + LINE_ROOM ≤ PAGE_ROOM }
     ensures moves { page.new ++ end_left ended.new ≡ page.old ++ end_left ended.old }
     ensures line { IsTrue result → IsLine page.old page.new }

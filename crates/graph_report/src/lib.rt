@@ -3,8 +3,9 @@
 //! - [`pieces`]: the report of a graph, piece by piece, with the names that the file gives to its
 //!   functions. [`whole`]: all of it at once.
 //! - [`made`]: the summary of the graph of a program that was made from a number.
-//! - [`kind`]: which part of a graph a report shows.
+//! - [`kind`]: what a report shows.
 //! - [`left`]: the three sections of a report and its last line, each from where it stands on.
+//!   [`live_left`]: the same of a report of live registers.
 //! - [`line`]: each line form. [`field`]: the fields of a line. [`name`]: how a name becomes one.
 //! - [`page`]: the page that lines are put on.
 //! - `specs/`: the format, line by line, as definitions of its bytes.
@@ -14,6 +15,7 @@ mod field;
 mod kind;
 mod left;
 mod line;
+mod live_left;
 mod made;
 mod memory;
 mod name;
@@ -21,8 +23,9 @@ mod page;
 mod pieces;
 mod whole;
 
+pub use field::{address_digits, end_word};
 pub use kind::ReportKind;
 pub use made::summary;
 pub use memory::Memory;
 pub use pieces::ReportPieces;
-pub use whole::report;
+pub use whole::{live_report, report};

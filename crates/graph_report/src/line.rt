@@ -4,16 +4,17 @@ ghost use Rattle.std.specs.Prelude.{◌≡◌, ◌≤◌, ◌+◌, ◌++◌, Som
 ghost use Rattle.std.specs.Option.{option_map};
 ghost use Rattle.graph_report.specs.Line.{first_line, entry_line, functions_line, function_line};
 ghost use Rattle.graph_report.specs.Line.{in_line, blocks_line, block_line, edges_line, edge_line};
+ghost use Rattle.graph_report.specs.Line.{lives_line, live_line};
 ghost use Rattle.graph_report.specs.Line.{made_line, may_return_line, no_return_line, end_line};
 ghost use Rattle.graph_report.specs.Inner.{IsLine, name_left};
 
 use crate::field::{
-    address_digits, push_address, push_count, push_edge_field, push_end_field, push_field,
-    push_number, status_word, two_addresses,
+    address_and_mask, address_digits, push_address, push_count, push_edge_field, push_end_field,
+    push_field, push_number, status_word, two_addresses,
 };
 use crate::name::{begin_name, push_front};
 use crate::page::{LINE_ROOM, PAGE_ROOM, Page};
-use cfg_model::{Block, Edge, Function};
+use cfg_model::{Block, Edge, Function, Live};
 
 /// Appends the line that says what the text is.
 pub fn push_first(page: &mut Page)
@@ -61,7 +62,7 @@ pub fn begin_function<'a>(page: &mut Page, function: &Function, name: Option<&'a
     begin_name(page, name)
 }
 
-/// Appends the next bytes of a function's name, or the end of its line where no byte is left, and
+/// Appends the next bytes of a function's name, or the end of its line if no byte is left, and
 /// answers what its rest is still to show.
 pub fn go_on_with_name<'a>(page: &mut Page, name: &'a [u8]) -> Option<&'a [u8]>
     requires room { length page.old + LINE_ROOM ≤ PAGE_ROOM }
@@ -129,6 +130,27 @@ pub fn push_edge(page: &mut Page, edge: &Edge)
     front[4..].copy_from_slice(&two_addresses(edge.from, edge.to));
     page.push(&front);
     push_edge_field(page, edge.kind);
+}
+
+/// Appends the line that says how many functions follow, each with its live registers.
+pub fn push_live_count(page: &mut Page, count: usize)
+    requires room { length page.old + LINE_ROOM ≤ PAGE_ROOM }
+    ensures text { page.new ≡ page.old ++ lives_line count }
+    ensures line { IsLine page.old page.new }
+{
+    page.push(b"lives");
+    push_count(page, count);
+}
+
+/// Appends the line of a block of the function above, with the registers that are live there.
+pub fn push_live(page: &mut Page, live: &Live)
+    requires room { length page.old + LINE_ROOM ≤ PAGE_ROOM }
+    ensures text { page.new ≡ page.old ++ live_line live.now }
+    ensures line { IsLine page.old page.new }
+{
+    let mut line = *b"live 0000000000000000 00000000\n";
+    line[4..30].copy_from_slice(&address_and_mask(live.block, live.mask));
+    page.push(&line);
 }
 
 /// Appends the first line of the summary of the program that is made from `n`.

@@ -15,7 +15,8 @@ use std::alloc::Global;
 /// The summary of `graph`, the graph of the program that is made from `n`, or want of memory: how
 /// many functions, blocks and edges it has, and how many functions may return and may not.
 ///
-/// It takes time linear in the number of functions. The memory of the text is taken once.
+/// The memory of the text is taken once.
+/// Time: O(number of functions).
 pub fn summary(alloc: Global, n: u32, graph: &Graph) -> Result<Vec<u8>, Memory>
     ensures text { IfOk result (λ v. v.items ≡ summary_text n graph.now) }
 {

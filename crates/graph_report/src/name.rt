@@ -10,9 +10,9 @@ ghost use Rattle.graph_report.specs.Inner.{IsLine};
 use crate::field::hex_digit;
 use crate::page::{LINE_ROOM, PAGE_ROOM, Page};
 
-/// Begins the field of a name, which is a dash where there is none, and answers the bytes of the
-/// name that are still to come. A name's bytes outside of visible ASCII and its backslashes are
-/// escaped, and so is the name that is one dash.
+/// Begins the field of a name, which is a dash if there is none, and answers the bytes of the name
+/// that are still to come. A name's bytes outside of visible ASCII and its backslashes are escaped,
+/// and so is the name that is one dash.
 pub fn begin_name<'a>(page: &mut Page, name: Option<&'a [u8]>) -> &'a [u8]
     requires room { length page.old + 4 ≤ PAGE_ROOM }
     ensures text { page.new ++ flat_map name_byte result.now ≡ page.old ++ name_field
@@ -33,8 +33,8 @@ pub fn begin_name<'a>(page: &mut Page, name: Option<&'a [u8]>) -> &'a [u8]
     }
 }
 
-/// Appends the front of a name, which is not empty, and answers the rest: the longest run of bytes
-/// that stand for themselves, as far as a line has room, or one byte that does not.
+/// Appends the front of a name, which is not empty, and answers the rest. The front is the longest
+/// run of bytes that stand for themselves, as far as a line has room, or one byte that does not.
 pub fn push_front<'a>(page: &mut Page, name: &'a [u8]) -> &'a [u8]
     requires some { 0 < length name.now }
     requires room { length page.old + LINE_ROOM ≤ PAGE_ROOM }

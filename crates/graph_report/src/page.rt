@@ -10,8 +10,8 @@ use std::marker::Model;
 /// How many bytes a piece of a report has, but for the last one.
 pub const PIECE: usize = 4096;
 
-/// How many bytes are put on a page at once at most: a line, or of that of a function what stands
-/// in front of its name, or a part of the name.
+/// How many bytes are put on a page at once at most: a line, the part of a function's line before
+/// its name, or a part of the name.
 pub const LINE_ROOM: usize = 64;
 
 /// How many bytes a page has room for: a piece, and a line more.

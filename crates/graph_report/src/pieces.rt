@@ -1,6 +1,6 @@
 //! The text of a report, given out piece by piece.
 
-ghost use Rattle.std.specs.Prelude.{⊤, ◌≡◌, ℕ, ◌≤◌, ◌<◌, ◌+◌, [], ◌++◌};
+ghost use Rattle.std.specs.Prelude.{⊤, ◌≡◌, ◌≢◌, ℕ, ◌≤◌, ◌<◌, ◌+◌, [], ◌++◌};
 ghost use Rattle.std.specs.Prelude.{drop, length, Option, IfOk, IfSome};
 ghost use Rattle.std.specs.Option.{option_map};
 ghost use Rattle.std.specs.Borrow.{sem};
@@ -8,20 +8,23 @@ ghost use mir.Syntax.{named};
 ghost use Rattle.elf_image.specs.ReadOnly.{span_bytes};
 ghost use Rattle.elf_image.specs.Seeds.{seed_name};
 ghost use Rattle.elf_symbols.specs.Seeds.{name_in, LiesIn};
-ghost use Rattle.graph_report.specs.Inner.{report_left};
+ghost use Rattle.graph_report.specs.Report.{heading};
+ghost use Rattle.graph_report.specs.Inner.{text_left};
 
 use crate::kind::ReportKind;
 use crate::left::ReportLeft;
 use crate::line::{push_entry, push_first};
+use crate::live_left::{LiveLeft, TextLeft};
 use crate::memory::Memory;
 use crate::page::{PAGE_ROOM, PIECE, Page};
-use cfg_model::Graph;
+use cfg_model::{AllLives, Graph};
 use elf_image::Image;
 use elf_symbols::Seeds;
 use std::alloc::Global;
 use std::marker::Model;
 
-/// The text of a report of a graph, in pieces of 4,096 bytes but for a shorter last one.
+/// The text of a report of a graph or of its live registers, in pieces of 4,096 bytes but for a
+/// shorter last one.
 ///
 /// It keeps its place in the lists of the graph and one page of text, whose memory it takes when it
 /// is made, and no more: never the whole text. Contracts see it as the bytes that are still to
@@ -30,7 +33,7 @@ use std::marker::Model;
 pub struct ReportPieces<'a> {
     image: &'a Image,
     seeds: &'a Seeds,
-    left: ReportLeft<'a>,
+    left: TextLeft<'a>,
     page: Page,
     /// How many bytes at the front of the page were given out.
     given: usize,
@@ -46,9 +49,9 @@ impl<'a> Model for ReportPieces<'a> {
     ghost Value = { List ℕ };
 
     ghost use Rattle.graph_report.specs.declared.page.TheConstants.{PAGE_ROOM};
-    ghost use Rattle.graph_report.specs.Inner.{report_left};
+    ghost use Rattle.graph_report.specs.Inner.{text_left};
 
-    ghost view = { λ p. drop p.given p.page ++ report_left (seed_name p.image.now) p.left };
+    ghost view = { λ p. drop p.given p.page ++ text_left (seed_name p.image.now) p.left };
 
     ghost invariant = { λ p. (p.given ≤ length p.page)
         × (length p.page ≤ PAGE_ROOM)
@@ -59,15 +62,17 @@ impl<'a> Model for ReportPieces<'a> {
 
 impl<'a> ReportPieces<'a> {
     ghost use Rattle.graph_report.specs.contracts.pieces.ReportPieces.{the_row};
+    ghost use Rattle.graph_report.specs.Live.{AreForAll, live_text};
     ghost use Rattle.graph_report.specs.Report.{report_text};
     ghost use Rattle.graph_report.specs.Pieces.{GivesPiece};
     ghost use mathlib.Core.Option.{none};
     ghost use denote.Follow.{follows_so};
 
-    /// The text of a report of `graph`, of which nothing is given out yet, or want of memory.
+    /// The text of a report of `graph`, with nothing given out yet, or want of memory.
     ///
     /// It has the parts that `kind` names, with functions, blocks and edges in the order of their
     /// lists. A function has the name that `seeds`, those of the file `image`, have at its entry.
+    /// Live registers are no part of a graph: for those take [`ReportPieces::of_lives`].
     pub fn new(
         alloc: Global,
         image: &'a Image,
@@ -78,23 +83,49 @@ impl<'a> ReportPieces<'a> {
         requires names { (a : ℕ) → option_map (span_bytes image.now) (name_in seeds.now a)
             ≡ seed_name image.now a }
         requires in_file { (a : ℕ) → IfSome (name_in seeds.now a) (LiesIn image.now) }
+        requires kind { kind ≢ ReportKind.Live }
         ensures text { IfOk result
             (λ pieces. pieces ≡ report_text kind (seed_name image.now) graph.now) }
     {
-        let mut page = Page::new(alloc)?;
-        push_first(&mut page);
-        push_entry(&mut page, graph.entry);
         Ok(ReportPieces {
             image,
             seeds,
-            left: ReportLeft::new(graph, kind),
-            page,
+            left: TextLeft::Graph(ReportLeft::new(graph, kind)),
+            page: headed(alloc, graph.entry)?,
             given: 0,
         })
     }
 
-    /// The next piece; `None` exactly where all was given out. It takes no memory. The time is
-    /// linear in the piece, but for a search among the seeds for each function.
+    /// The text of the report of the live registers `lives` of `graph`, of which nothing is given out
+    /// yet, or want of memory.
+    ///
+    /// `lives` has the blocks of each function's body in order. A function has the name that `seeds`,
+    /// those of the file `image`, have at its entry.
+    pub fn of_lives(
+        alloc: Global,
+        image: &'a Image,
+        seeds: &'a Seeds,
+        graph: &'a Graph,
+        lives: &'a AllLives,
+    ) -> Result<ReportPieces<'a>, Memory>
+        requires names { (a : ℕ) → option_map (span_bytes image.now) (name_in seeds.now a)
+            ≡ seed_name image.now a }
+        requires in_file { (a : ℕ) → IfSome (name_in seeds.now a) (LiesIn image.now) }
+        requires lives { AreForAll graph.now.functions lives.now }
+        ensures text { IfOk result
+            (λ pieces. pieces ≡ live_text (seed_name image.now) graph.now lives.now) }
+    {
+        Ok(ReportPieces {
+            image,
+            seeds,
+            left: TextLeft::Live(LiveLeft::new(graph, lives)),
+            page: headed(alloc, graph.entry)?,
+            given: 0,
+        })
+    }
+
+    /// The next piece; `None` exactly if all was given out.
+    /// Time: O(p + f log s) for p bytes, f functions in them and s seeds. Memory: none.
     pub fn next_piece(&mut self) -> Option<&[u8]>
         ensures* piece { sem 𝓛 (follows_so (the_row (record { mir = named 1; lft = [] }))
             (the_row (record { mir = named 1; lft = [] }))
@@ -112,16 +143,27 @@ impl<'a> ReportPieces<'a> {
     }
 }
 
+/// A page with the two lines that every report begins with.
+fn headed(alloc: Global, entry: u64) -> Result<Page, Memory>
+    ensures text { IfOk result (λ page. page ≡ heading entry) }
+    ensures room { IfOk result (λ page. length page ≤ PAGE_ROOM) }
+{
+    let mut page = Page::new(alloc)?;
+    push_first(&mut page);
+    push_entry(&mut page, entry);
+    Ok(page)
+}
+
 /// Puts lines on the page until a piece stands there or nothing is left.
-fn fill<'a>(image: &'a Image, seeds: &'a Seeds, left: &mut ReportLeft<'a>, page: &mut Page)
+fn fill<'a>(image: &'a Image, seeds: &'a Seeds, left: &mut TextLeft<'a>, page: &mut Page)
     requires names { (a : ℕ) → option_map (span_bytes image.now) (name_in seeds.now a)
         ≡ seed_name image.now a }
     requires in_file { (a : ℕ) → IfSome (name_in seeds.now a) (LiesIn image.now) }
     requires room { length page.old ≤ PAGE_ROOM }
-    ensures moves { page.new ++ report_left (seed_name image.now) left.new ≡ page.old ++ report_left
+    ensures moves { page.new ++ text_left (seed_name image.now) left.new ≡ page.old ++ text_left
         (seed_name image.now) left.old }
     ensures room { length page.new ≤ PAGE_ROOM }
-    ensures filled { length page.new < PIECE → report_left (seed_name image.now) left.new ≡ [] }
+    ensures filled { length page.new < PIECE → text_left (seed_name image.now) left.new ≡ [] }
 {
     while page.len() < PIECE {
         if !left.step(image, seeds, page) {

@@ -31,7 +31,7 @@ fn shown(alloc: Global, words: &[&str]) -> Result<String, AllocError> {
 }
 
 /// Words, and the request that they make.
-static LINES: [(&[&str], &str); 24] = [
+static LINES: [(&[&str], &str); 26] = [
     (&["F"], "file F 1 Graph"),
     (&["--workers", "064", "F"], "file F 64 Graph"),
     (
@@ -40,6 +40,7 @@ static LINES: [(&[&str], &str); 24] = [
     ),
     (&["--report", "blocks", "F"], "file F 1 Blocks"),
     (&["--report=edges", "F"], "file F 1 Edges"),
+    (&["--report", "live", "F"], "file F 1 Live"),
     (&["--", "--x"], "file --x 1 Graph"),
     (&["--make", "100000"], "make 100000 1"),
     (&["--workers", "000000064", "--make=4"], "make 4 64"),
@@ -56,6 +57,7 @@ static LINES: [(&[&str], &str); 24] = [
     (&["--make", "3"], "Usage"),
     (&["--make", "100001"], "Usage"),
     (&["--make", "4", "--report", "graph"], "Usage"),
+    (&["--make", "4", "--report", "live"], "Usage"),
     (&["--colour", "F"], "Usage"),
     (&["--work", "4", "F"], "Usage"),
     (&["--help"], "Usage"),

@@ -22,12 +22,15 @@ pub(crate) fn put_word(file: &mut [u8], at: usize, word: u32) {
     }
 }
 
-/// Row 10's file, with three other words at the start of its code. No row of this page reaches the
-/// words after them.
-fn with_code(rt: &(impl Abort + AllocGlobal), words: [u32; 3]) -> Result<Vec<u8>, Fail> {
-    let mut bytes = file_of(rt, 10, 0)?;
+/// The file of a row that has as much code, with these words as its code.
+pub(crate) fn with_code(
+    rt: &(impl Abort + AllocGlobal),
+    row: u32,
+    words: &[u32],
+) -> Result<Vec<u8>, Fail> {
+    let mut bytes = file_of(rt, row, 0)?;
     let mut at = CODE_AT;
-    for word in words {
+    for &word in words.iter() {
         put_word(&mut bytes, at, word);
         at = at.saturating_add(4);
     }
@@ -45,10 +48,12 @@ fn edited(rt: &(impl Abort + AllocGlobal), edits: &[(usize, u8)]) -> Result<Vec<
     Ok(bytes)
 }
 
-/// The words of a row, and the sections of its report.
-static FLOAT: [([u32; 3], &str); 3] = [
+/// The code of row 35, each with a row whose file has a code section of that size, 12 or 4 bytes,
+/// and the sections of the report.
+static FLOAT: [(u32, &[u32], &str); 3] = [
     (
-        [0x0001_3507, 0x02A5_7553, 0x0000_8067],
+        8,
+        &[0x0001_3507, 0x02A5_7553, 0x0000_8067],
         "\
         functions 1\n\
         function 0000000000010000 may-return 1 -\n\
@@ -58,7 +63,8 @@ static FLOAT: [([u32; 3], &str); 3] = [
         edges 0\n",
     ),
     (
-        [0x8082_2502, 0, 0],
+        1,
+        &[0x8082_2502],
         "\
         functions 1\n\
         function 0000000000010000 may-return 1 -\n\
@@ -68,7 +74,8 @@ static FLOAT: [([u32; 3], &str); 3] = [
         edges 0\n",
     ),
     (
-        [0x02A5_5553, 0, 0],
+        1,
+        &[0x02A5_5553],
         "\
         functions 1\n\
         function 0000000000010000 no-return 1 -\n\
@@ -81,8 +88,8 @@ static FLOAT: [([u32; 3], &str); 3] = [
 
 #[test]
 fn float_rows(rt: HostRuntime) -> Result<(), Fail> {
-    for &(words, sections) in FLOAT.iter() {
-        reports(&rt, &with_code(&rt, words)?, sections)?;
+    for &(row, words, sections) in FLOAT.iter() {
+        reports(&rt, &with_code(&rt, row, words)?, sections)?;
     }
     Ok(())
 }
@@ -112,7 +119,7 @@ fn refused_types(rt: HostRuntime) -> Result<(), Fail> {
     Ok(())
 }
 
-/// Row 31: a function of one block at each of 301 halfwords, each of which goes on to the next.
+/// Row 31: a function of one block at each of 301 halfwords. Each goes on to the next.
 fn row_31_text(alloc: Global) -> Result<String, AllocError> {
     let last: u64 = 0x10258;
     let mut text = String::from_str(alloc, "cfg-report 2\nentry 0000000000010000\n")?;

@@ -1,4 +1,4 @@
-//! Calls of the input and of the sinks that fail, and a run where nothing fails.
+//! Calls of the input and of the sinks that fail, and a run in which nothing fails.
 
 use crate::one_run::{Left, PLAIN, Streams, gives, left_by};
 use crate::row_files::file_of;
@@ -56,7 +56,7 @@ fn each_write_failing(rt: HostRuntime) -> Result<(), Fail> {
     Ok(())
 }
 
-/// The status stands where its line cannot be written.
+/// The status stands if its line cannot be written.
 #[test]
 fn error_lines_failing(rt: HostRuntime) -> Result<(), Fail> {
     let streams = Streams {
@@ -80,7 +80,7 @@ fn error_lines_failing(rt: HostRuntime) -> Result<(), Fail> {
     gives(&rt, &["F"], file_of(&rt, 1, 0)?, streams, want)
 }
 
-/// A run that cannot fail writes as many bytes as one that can.
+/// A run that cannot fail writes the same number of bytes as one that can.
 #[test]
 fn nothing_failing(rt: HostRuntime) -> Result<(), Fail> {
     let alloc = rt.alloc();

@@ -48,7 +48,7 @@ fn marked(alloc: Global, code: &Sample) -> Result<(Functions, Edges), Fail> {
     Ok((functions, edges))
 }
 
-/// The same by so many workers.
+/// The same by several workers.
 fn marked_by<R: Threads + Sync + AllocGlobal>(
     rt: &R,
     code: &Sample,
@@ -75,7 +75,7 @@ fn expect(rt: &impl Abort, functions: &[Function], wanted: &[Wanted]) {
     }
 }
 
-/// The program has these functions, whoever makes them.
+/// The program has these functions, for any number of workers.
 fn has_functions<R: Threads + Sync + Abort + AllocGlobal>(
     rt: &R,
     code: &Sample,
@@ -88,7 +88,7 @@ fn has_functions<R: Threads + Sync + Abort + AllocGlobal>(
     Ok(())
 }
 
-/// The program has these edges, whoever marks them.
+/// The program has these edges, for any number of workers.
 fn has_edges<R: Threads + Sync + Abort + AllocGlobal>(
     rt: &R,
     code: &Sample,

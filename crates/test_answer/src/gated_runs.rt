@@ -19,7 +19,7 @@ const MANY: u32 = 31;
 /// Below this address lie instructions of that row that two workers give to the first of them.
 const LOWER: u64 = 0x10080;
 
-/// What a run on the file of this row writes, with so many workers, who pass this gate.
+/// What a run on the file of this row writes, with `workers` workers, which pass this gate.
 fn report_of<R: Threads + Wait + Abort + AllocGlobal + Sync, G: Gate>(
     rt: &R,
     row: u32,
@@ -67,6 +67,39 @@ fn a_run_uses_its_workers(rt: HostRuntime) -> Result<(), Fail> {
         assert_eq!(rt; gate.ended(), workers);
         assert!(rt; gate.fit());
         assert!(rt; gate.made() >= 301, "{words} workers made too little");
+    }
+    Ok(())
+}
+
+/// Also if there are fewer seeds than workers: row 5 has two.
+#[test]
+fn more_workers_than_seeds(rt: HostRuntime) -> Result<(), Fail> {
+    let alone = report_of(&rt, 5, "1", &OpenGate)?;
+    for (words, workers) in [("3", 3), ("64", 64)] {
+        let gate = Counts::new();
+        let report = report_of(&rt, 5, words, &gate)?;
+        assert!(rt; report.bytes() == alone.bytes());
+        assert!(rt; gate.ended() == workers);
+    }
+    Ok(())
+}
+
+/// The rows of hostile code whose files have two seeds or more, but for row 31: starts are displaced,
+/// tables are cut, and streams overlap.
+const HOSTILE: [u32; 3] = [7, 15, 28];
+
+/// As many workers as are asked for end on these too, and they make the operations.
+#[test]
+fn workers_make_hostile_rows(rt: HostRuntime) -> Result<(), Fail> {
+    for row in HOSTILE {
+        let alone = report_of(&rt, row, "1", &OpenGate)?;
+        for (words, workers) in [("2", 2), ("64", 64)] {
+            let gate = Counts::new();
+            let report = report_of(&rt, row, words, &gate)?;
+            assert!(rt; report.bytes() == alone.bytes());
+            assert!(rt; gate.ended() == workers);
+            assert!(rt; gate.made() >= 2);
+        }
     }
     Ok(())
 }

@@ -24,7 +24,7 @@ pub(crate) struct Streams {
     pub(crate) failing_error: u64,
 }
 
-/// Streams of which no call fails.
+/// Streams whose calls never fail.
 pub(crate) const PLAIN: Streams = Streams {
     most_read: 65_536,
     most_written: 1_048_576,

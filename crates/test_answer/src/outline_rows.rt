@@ -193,7 +193,7 @@ pub(crate) static TABLE_EDGES: [Edge; 2] = [
     },
 ];
 
-/// Row 12: a branch of which one way is cut off, and a jump to itself.
+/// Row 12: a branch with one way cut off, and a jump to itself.
 pub(crate) static ROW_12_EDGES: [Edge; 2] = [
     Edge {
         from: 0,

@@ -8,8 +8,8 @@ use crate::outline_rows::{
     ROW_10_EDGES, TABLE_BLOCKS, TABLE_EDGES,
 };
 use alone::build_alone;
-use cfg_model::{Block, Edge};
-use finaliser::{Memory, Outline, blocks_and_edges, blocks_and_edges_by};
+use cfg_model::{Block, Edge, Outline};
+use finaliser::{Memory, blocks_and_edges, blocks_and_edges_by};
 use std::alloc::Global;
 use std::marker::Sync;
 use std::process::Abort;
@@ -23,7 +23,7 @@ fn outline_of(alloc: Global, code: &Sample) -> Result<Outline, Fail> {
     Ok(blocks_and_edges(alloc, code, &state)?)
 }
 
-/// So many bounds, from 0 on, which are equal in threes.
+/// This many bounds, from 0 on, which are equal in threes.
 fn bounds(alloc: Global, count: u64) -> Result<Vec<u64>, Memory>
     ensures { IfOk result (λ bounds. IsNonDecreasing bounds.items) }
 {
@@ -35,7 +35,7 @@ fn bounds(alloc: Global, count: u64) -> Result<Vec<u64>, Memory>
     Ok(bounds)
 }
 
-/// The outline by so many workers, who share so many gaps.
+/// The outline by `workers` workers, which share `gaps` gaps.
 fn outline_by<R: Threads + Sync + AllocGlobal>(
     rt: &R,
     code: &Sample,
@@ -56,8 +56,8 @@ fn expect(rt: &impl Abort, outline: &Outline, blocks: &[Block], edges: &[Edge]) 
     assert_eq!(rt; outline.edges.as_slice(), edges);
 }
 
-/// The program has this outline, whoever makes it: one thread, and one, two, four and 64 workers,
-/// with a gap and with four gaps for each.
+/// The program has this outline, made by one thread, and by one, two, four and 64 workers, with a
+/// gap and with four gaps for each.
 fn shows<R: Threads + Sync + Abort + AllocGlobal>(
     rt: &R,
     code: &Sample,

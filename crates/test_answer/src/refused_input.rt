@@ -29,7 +29,7 @@ fn zero_bytes(rt: HostRuntime) -> Result<(), Fail> {
 #[test]
 fn refused_words(rt: HostRuntime) -> Result<(), Fail> {
     let usage = "cfg: usage: cfg [--workers N] [--report KIND] FILE | cfg [--workers N] --make N\n";
-    let lists: [&[&str]; 13] = [
+    let lists: [&[&str]; 14] = [
         &[],
         &["-F"],
         &["F", "F"],
@@ -40,6 +40,7 @@ fn refused_words(rt: HostRuntime) -> Result<(), Fail> {
         &["F", "--make", "4"],
         &["--make", "3"],
         &["--make", "4", "--report", "graph"],
+        &["--make", "4", "--report", "live"],
         &["--colour", "F"],
         &["--help"],
         &["--version"],

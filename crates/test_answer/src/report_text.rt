@@ -11,10 +11,10 @@ use std::process::Abort;
 use std::test::Fail;
 
 /// A file of six instructions, each of four bytes: a jump to the next one, a return, a jump by 12
-/// bytes, a return, `ebreak` and a return. The four instructions behind the first are functions
-/// with names: a dash, an `a` and a `b` with a space or a backslash between them, and the byte 80
+/// bytes, a return, `ebreak` and a return. The four instructions after the first are functions with
+/// names: a dash, an `a` and a `b` with a space or a backslash between them, and the byte 80
 /// (hexadecimal).
-static NAMED_FILE: [u8; 480] = [
+pub(crate) static NAMED_FILE: [u8; 480] = [
     0x7F, 0x45, 0x4C, 0x46, 2, 1, 1, 0, 0, 0, 0, 0, 0, 0, 0, 0, 2, 0, 0xF3, 0, 1, 0, 0, 0, 0, 0, 1,
     0, 0, 0, 0, 0, 0, 0, 0, 0, 0, 0, 0, 0, 0xE0, 0, 0, 0, 0, 0, 0, 0, 0, 0, 0, 0, 0x40, 0, 0, 0, 0,
     0, 0x40, 0, 4, 0, 0, 0, 0x6F, 0, 0x40, 0, 0x67, 0x80, 0, 0, 0x6F, 0, 0xC0, 0, 0x67, 0x80, 0, 0,
@@ -113,6 +113,7 @@ fn prints(
     let alloc = rt.alloc();
     let image = Image::parse(alloc, Vec::from_slice(alloc, file)?)?;
     let seeds = seeds(alloc, &image)?;
+    assert!(rt; kind != ReportKind::Live);
     let text = report(alloc, &image, &seeds, graph, kind)?;
     assert_eq!(rt; text.as_slice(), want.as_bytes());
     Ok(())
@@ -199,7 +200,7 @@ fn summary_of_counts(rt: HostRuntime) -> Result<(), Fail> {
 /// How often the blocks of that file stand in a long report.
 const TIMES: usize = 40;
 
-/// A graph of so many blocks that its report has three pieces.
+/// A graph with enough blocks for a report of three pieces.
 fn long_graph(alloc: Global) -> Result<Graph, AllocError> {
     let mut rows = Vec::new(alloc);
     for _ in 0..TIMES {
@@ -249,7 +250,7 @@ const NAMES_OFFSET: usize = 0xD0;
 
 const NAMES_SIZE: usize = 13;
 
-/// That file with another name for the function at 10004 (hexadecimal). Its names stand behind all
+/// That file with another name for the function at 10004 (hexadecimal). Its names stand after all
 /// else, with the new one as the last of them.
 fn file_with_name(alloc: Global, name: &[u8]) -> Result<Vec<u8>, AllocError> {
     let mut front = NAMED_FILE;
@@ -325,7 +326,7 @@ fn text_with_parts(alloc: Global, part: &str, count: usize) -> Result<String, Al
     Ok(text)
 }
 
-/// A name of so many parts is printed as so many of this text.
+/// A name of this many parts is printed as this text, once for each part.
 fn prints_name(
     rt: &(impl Abort + AllocGlobal),
     part: &[u8],
@@ -346,7 +347,7 @@ fn names_of_all_lengths(rt: HostRuntime) -> Result<(), Fail> {
     Ok(())
 }
 
-/// Blocks and edges of which an address or its upper half is the least or the greatest.
+/// Blocks and edges with an address that is the least or the greatest, or whose upper half is.
 static FAR_BLOCKS: [(u64, u64, EndKind); 3] = [
     (0, 0xffff_ffff, EndKind::Fall),
     (0x1_0000_0000, u64::MAX, EndKind::TableOpen),

@@ -4,7 +4,7 @@
 use crate::rows::{Row, reports_rows};
 use std::test::Fail;
 
-/// Tables behind a bound test.
+/// Tables after a bound test.
 static BOUNDED: [Row; 4] = [
     (
         13,

@@ -73,7 +73,7 @@ fn workers_agree(rt: HostRuntime) -> Result<(), Fail> {
     Ok(())
 }
 
-/// The same where the entry is the only seed, and only the first of two tables is reached: then what
+/// The same if the entry is the only seed, and only the first of two tables is reached: then what
 /// was built under the cuts of both is not the answer.
 #[test]
 fn one_seed_agrees(rt: HostRuntime) -> Result<(), Fail> {
@@ -114,7 +114,7 @@ fn agree<R: Threads + Wait + Abort + AllocGlobal + Sync>(
     Ok(())
 }
 
-/// What a run with so many workers, who pass this gate, writes.
+/// What a run with `workers` workers, which pass this gate, writes.
 fn report_by<R: Threads + Wait + Abort + AllocGlobal + Sync, G: Gate>(
     rt: &R,
     workers: &str,

@@ -1,4 +1,4 @@
-use Rattle.file_graph.proofs.Unique.{cuts-unique, graph-unique}
+use Rattle.file_program.proofs.Unique.{cuts-unique, graph-unique}
 use Rattle.cfg_run.proofs.Unique.{answer-unique}
 use Rattle.cfg_run.proofs.laws.one_answer.Goals as goal
 

@@ -1,12 +1,12 @@
 use Rattle.std.proofs.Common.{List, ℕ, Option, sym, subst}
-use Rattle.std.specs.Prelude.{IfSome, map, string_bytes}
+use Rattle.std.specs.Prelude.{map, string_bytes}
 use Rattle.cfg_io.specs.Fault.{Rose}
 use Rattle.cfg_words.specs.Request.{Asked, asked}
 use Rattle.cfg_run.specs.declared.status.Status.{Status}
 use Rattle.cfg_run.specs.Words.{asked_by}
 use Rattle.cfg_run.specs.Inner.{IsTrueOf}
 use Rattle.run_ends.specs.Told.{Grows, Tells}
-use Rattle.cfg_run.specs.Run.{IsDecided, HasRead, Gives}
+use Rattle.cfg_run.specs.Run.{IsDecided, HasRead, Gives, OverInput}
 use Rattle.cfg_run.proofs.Endings.{decided-true, words-true, can-be-made, if_some_map}
 use Rattle.cfg_run.proofs.whole_run.run.Goals as goal
 
@@ -19,7 +19,7 @@ returns-in-Err-clause-answer g c =
     let true_of : IsTrueOf (asked_by words) told ⊥ c.from.result =
     subst (IsTrueOf (asked_by words) told ⊥) (sym c.from.ensures)
     (words-true (asked_by words) told ⊥ c.in-Err.e c.in-Err.ensures.usage) in
-    subst (λ (s : Status). IfSome told (λ bytes. IsDecided s → Gives bytes (asked_by words) s (Grows out out) Error)) (sym c.refuse.ensures.status)
+    subst (λ (s : Status). OverInput (asked_by words) told (λ bytes. IsDecided s → Gives bytes (asked_by words) s (Grows out out) Error)) (sym c.refuse.ensures.status)
     (decided-true (asked_by words) told ⊥ c.from.result out Error true_of c.refuse.ensures.line)
 
 pub run_by-requires-clause-size : goal.run_by-requires-clause-size

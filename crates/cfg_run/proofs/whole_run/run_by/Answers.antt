@@ -1,11 +1,10 @@
 use Rattle.std.proofs.Common.{List, ℕ, Option, Some, sym, subst}
-use Rattle.std.specs.Prelude.{IfSome}
 use Rattle.cfg_io.specs.Fault.{Rose}
 use Rattle.cfg_words.specs.Request.{Asked, asked}
 use Rattle.cfg_run.specs.declared.status.Status.{Status}
 use Rattle.cfg_run.specs.Lines.{refusal_line}
 use Rattle.run_ends.specs.Told.{Grows, Tells}
-use Rattle.cfg_run.specs.Run.{IsDecided, HasRead, Gives, IsLineOf}
+use Rattle.cfg_run.specs.Run.{IsDecided, HasRead, Gives, IsLineOf, OverInput}
 use Rattle.cfg_run.proofs.Endings.{decided-true, read-refused, line-of, if_some_map}
 use Rattle.cfg_run.proofs.whole_run.run_by.Goals as goal
 
@@ -16,7 +15,7 @@ returns-in-Err-clause-answer g c =
     let request : Option Asked = Some (asked c.args.request.now) in
     let out = g.O.Sink.written c.args.out.now in
     let Error : List ℕ → Type 0 = Tells (g.E.Sink.written c.args.err.now) (g.E.Sink.written c.refuse.new.err) (Rose (g.E.Sink.faults c.args.err.now) (g.E.Sink.faults c.refuse.new.err)) in
-    subst (λ (s : Status). IfSome told (λ bytes. IsDecided s → Gives bytes request s (Grows out out) Error)) (sym c.refuse.ensures.status)
+    subst (λ (s : Status). OverInput request told (λ bytes. IsDecided s → Gives bytes request s (Grows out out) Error)) (sym c.refuse.ensures.status)
     (decided-true request told rose c.in-Err.refusal out Error c.in-Err.ensures.refused c.refuse.ensures.line)
 
 pub returns-in-Err-clause-error_line : goal.returns-in-Err-clause-error_line

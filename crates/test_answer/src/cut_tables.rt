@@ -18,7 +18,8 @@ use std::marker::Sync;
 use std::process::Abort;
 use std::test::Fail;
 use std::thread::Threads;
-use table_trim::{TableJump, all_entered, all_tables, all_tables_by, cuts, cuts_by, cuts_of};
+use table_cuts::{TableJump, cuts_of};
+use table_trim::{all_entered, all_tables, all_tables_by, cuts, cuts_by};
 
 /// The jumps of row 15: one through a table of four entries, and one through a table of two that
 /// begins at the third of them.
@@ -29,7 +30,7 @@ const SECOND: u64 = 0x10048;
 /// The entry of its file and the other symbol.
 const SEEDS: [u64; 2] = [0x10000, 0x10028];
 
-/// The header of a section of the first 40 bytes of the code of that file, in front of [`SEEDS`]'s
+/// The header of a section of the first 40 bytes of the code of that file, before [`SEEDS`]'s
 /// second address.
 const LOWER: [u8; 64] = [
     0, 0, 0, 0, 1, 0, 0, 0, 6, 0, 0, 0, 0, 0, 0, 0, 0, 0, 1, 0, 0, 0, 0, 0, 0x40, 0, 0, 0, 0, 0, 0,
@@ -41,8 +42,8 @@ const LOWER: [u8; 64] = [
 /// table, the address, the offset and the size.
 const UPPER: [(usize, u8); 4] = [(60, 6), (304, 0x28), (312, 0x68), (320, 0x30)];
 
-/// The file of row 15 with its code in two sections, of which the one at the lower addresses stands
-/// last in the table.
+/// The file of row 15 with its code in two sections. The one at the lower addresses stands last in
+/// the table.
 fn in_two_sections(rt: &(impl Abort + AllocGlobal)) -> Result<Vec<u8>, Fail> {
     let mut file = file_of(rt, 15, 0)?;
     file.extend_from_slice(&LOWER)?;
@@ -105,7 +106,7 @@ fn cuts_of_state(rt: &impl Abort, alloc: Global, code: &Code<'_>) -> Result<Cuts
     Ok(cuts(alloc, code, &state)?)
 }
 
-/// The cuts from the closed state, with the code shared among so many.
+/// The cuts from the closed state, with the code shared among this many threads.
 fn cuts_of_state_by<R: Threads + Abort + AllocGlobal + Sync>(
     rt: &R,
     code: &Code<'_>,

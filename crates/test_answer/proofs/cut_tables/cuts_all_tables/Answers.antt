@@ -1,6 +1,6 @@
 use Rattle.std.proofs.Common.{sym, subst}
-use Rattle.table_trim.specs.Tables.{AreTablesOf}
-use Rattle.test_answer.proofs.table_cuts.cuts_all_tables.Goals as goal
+use Rattle.table_cuts.specs.Tables.{AreTablesOf}
+use Rattle.test_answer.proofs.cut_tables.cuts_all_tables.Goals as goal
 
 pub cuts_of-requires : goal.cuts_of-requires
 cuts_of-requires g c =

@@ -1,0 +1,80 @@
+//! Who makes what a text shows: the caller's thread, or workers.
+
+ghost use Rattle.cfg_run.specs.Inner.{FindsLives, GraphsFiles};
+
+use cfg_model::{AllLives, Graph, Memory};
+use elf_image::{ElfError, Image};
+use file_graph::{FileGraph, file_graph};
+use live_crew::graph_lives;
+use std::alloc::Global;
+
+/// Makes what a text shows: the graph of a file, and the live registers of a graph. The contracts
+/// are the same for each maker, and each may answer want of memory.
+pub trait Maker {
+    ghost use Rattle.std.specs.Prelude.{All, IfOk, IfErr, ⊤};
+    ghost use Rattle.std.specs.List.Sorted.{IsStrictlyIncreasing};
+    ghost use Rattle.file_graph.specs.File.{IsGraphedFile};
+    ghost use Rattle.file_graph.specs.Survey.{IsFaultOf};
+    ghost use Rattle.live_regs.specs.Masks.{AreAllLivesOf};
+    ghost use Rattle.live_regs.specs.Noted.{AreInOrder};
+
+    /// What holds of a maker that may be asked.
+    ghost ready: { Self → Type 0 } = { λ _. ⊤ };
+
+    /// The file with these bytes and its graph, or the first fault of the file.
+    fn file(&self, bytes: Vec<u8>) -> Result<FileGraph, ElfError>
+        requires ready { ready self.now }
+        ensures graph { IfOk result (IsGraphedFile bytes.items) }
+        ensures malformed { IfErr result (IsFaultOf bytes.items) };
+
+    /// The live registers of all functions of a graph of this image.
+    fn lives(&self, image: &Image, graph: &Graph) -> Result<AllLives, Memory>
+        requires ready { ready self.now }
+        requires order { AreInOrder graph.now.blocks graph.now.edges }
+        requires bodies { All (λ f. IsStrictlyIncreasing f.body) graph.now.functions }
+        ensures { IfOk result (AreAllLivesOf image.now graph.now.blocks graph.now.edges
+            graph.now.functions) };
+}
+
+/// The caller's thread, which starts no other.
+#[derive(Drop)]
+pub struct Alone {
+    /// Where memory comes from.
+    pub alloc: Global,
+}
+
+impl Maker for Alone {
+    fn file(&self, bytes: Vec<u8>) -> Result<FileGraph, ElfError> {
+        file_graph(self.alloc, bytes)
+    }
+
+    fn lives(&self, image: &Image, graph: &Graph) -> Result<AllLives, Memory> {
+        graph_lives(self.alloc, image, graph)
+    }
+}
+
+/// Workers, as the closures that set them to work. What starts threads has to stand where the
+/// runtime is: a method of an `impl` hands its block's bounds to no other thread.
+#[derive(Drop)]
+pub struct Workers<F, L> {
+    /// Makes a file with its graph.
+    pub file: F,
+    /// Finds the live registers of a graph.
+    pub lives: L,
+}
+
+impl<
+    F: Fn(Vec<u8>) -> Result<FileGraph, ElfError>,
+    L: Fn(&Image, &Graph) -> Result<AllLives, Memory>,
+> Maker for Workers<F, L> {
+    ghost ready = { λ workers. GraphsFiles (F.pre workers.file) (F.post workers.file)
+        × FindsLives (L.pre workers.lives) (L.post workers.lives) };
+
+    fn file(&self, bytes: Vec<u8>) -> Result<FileGraph, ElfError> {
+        (self.file)(bytes)
+    }
+
+    fn lives(&self, image: &Image, graph: &Graph) -> Result<AllLives, Memory> {
+        (self.lives)(image, graph)
+    }
+}
