@@ -1,0 +1,4 @@
+pub mod Member
+pub mod ShowsGraph
+pub mod ShowsProgram
+pub mod Worked

@@ -1,0 +1,5 @@
+pub mod Lines
+pub mod Ways
+pub mod Valid
+pub mod Shown
+pub mod Certificate

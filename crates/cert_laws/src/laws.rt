@@ -1,0 +1,16 @@
+//! Laws of the definitions, as contracts of functions that do nothing.
+
+ghost use Rattle.cert_laws.specs.Certificate.{ValidShowsProgram};
+ghost use Rattle.cert_laws.specs.Shown.{ValidShowsGraph};
+
+/// A valid part lists exactly the leaders of the program, and exactly the reached terminators that
+/// return. Whoever made the part, and which ranks and reasons it names, does not matter.
+pub fn a_valid_part_shows_the_graph()
+    ensures { ValidShowsGraph }
+{}
+
+/// A valid certificate tells the cuts of the jump tables, where the reached tables count, and its
+/// last part lists the leaders and the returns of the program under these cuts.
+pub fn a_valid_certificate_shows_the_program()
+    ensures { ValidShowsProgram }
+{}

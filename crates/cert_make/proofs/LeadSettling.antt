@@ -1,0 +1,288 @@
+-- The line that a step finds for a leader.
+use Rattle.std.proofs.Common.{◌≡◌, ℕ, ◌+◌, ◌<◌, ◌≤◌, ◌⊎◌, List, [], ◌∷◌, ◌++◌, Option, Some, None, length, take, get_or, refl, sym, subst, ap, ◌∙◌, arith, inl, inr, ⊎_elim}
+use Rattle.std.specs.Prelude.{All, Contains, IfSome, MatchOption}
+use Rattle.std.proofs.lemmas.List.{take_more, take_all}
+use Rattle.std.proofs.lemmas.List.Elements.{All-contains, All-push, Contains-append_left, Contains-push}
+use Rattle.cfg_model.specs.Program.Instructions.{InstructionMap}
+use Rattle.cfg_model.proofs.Graphs.Lists.{Contains-none}
+use Rattle.cert_text.specs.declared.lines.LeadLine.{LeadLine}
+use Rattle.cert_text.specs.declared.lines.LeadWhy.{LeadWhy}
+use Rattle.cert_text.specs.declared.lines.LeadWhy.TheVariants.{Seed, From, Join}
+use Rattle.cert_laws.specs.Lines.{IsLeadBelow}
+use Rattle.cert_places.specs.Places.{IsPlace}
+use Rattle.cert_make.specs.declared.offers.Offer.{Offer}
+use Rattle.cert_make.specs.Reason.{LeadsFor, MeetsBy}
+use Rattle.cert_make.specs.First.{LeadWhyBefore}
+use Rattle.cert_make.specs.Inner.{IsNotAfter}
+use Rattle.cert_make.specs.Offers.{IsOfferFrom, AreOffers, FirstOffer, IsFirstOffer, AreFirstOffers, IsLeastOffer, NoneOffers, LeadsTo, Crosses, IsCrossing}
+use Rattle.cert_make.specs.Settled.{IsSettledLead, IsSettledLeadFor, IsNearestLead, NoneLeads, AreNearestLeads, IsLeastLead, IsFirstJoin, NoneJoin}
+
+-- ---- leaders by their offers
+
+abbrev offer_of : ℕ → ℕ → ℕ → Offer
+offer_of to rank lead = record { to = to; rank = rank; lead = lead }
+
+module _ (lines : List LeadLine) (Way : ℕ → ℕ → Type 0) (offers : List Offer) (are : AreOffers lines Way offers) where
+  -- an offer tells of its leader
+  told : (o : Offer) → Contains offers o → (line : LeadLine) × Contains lines line × IsOfferFrom line (Way line.at) o
+  told o listed = ⊎_elim (λ none. absurd (Contains-none o none)) (λ from. from) (are.nothing_else o listed)
+
+  offer_below : (o : Offer) (rank : ℕ) → o.rank < rank → Contains offers o → IsLeadBelow lines rank o.lead
+  offer_below o rank lt listed =
+      let from = told o listed in
+      let e : o.rank ≡ from.0.rank = from.2.rank in
+      record { line = from.0; listed = from.1; address = sym from.2.lead; lower = omega arith }
+
+  offer_way : (o : Offer) → Contains offers o → Way o.lead o.to
+  offer_way o listed = let from = told o listed in subst (λ (p : ℕ). Way p o.to) (sym from.2.lead) from.2.among
+
+  -- a leader with a way has made an offer
+  made : (rank p a : ℕ) → (below : IsLeadBelow lines rank p) → Way p a → Contains offers (offer_of a below.line.rank below.line.at)
+  made rank p a below way = are.added (offer_of a below.line.rank below.line.at)
+      (below.line, below.listed, record { lead = refl; rank = refl; among = subst (λ (x : ℕ). Way x a) (sym below.address) way })
+
+  none_leads : (a : ℕ) → All (λ (x : Offer). ¬ (x.to ≡ a)) offers → NoneLeads lines (λ p. Way p a)
+  none_leads a none rank p below way = All-contains (λ (x : Offer). ¬ (x.to ≡ a)) offers _ none (made rank p a below way) refl
+
+  nearest_lead : (a : ℕ) (o : Offer) → IsFirstOffer offers a o → IsNearestLead lines (λ p. Way p a) o.rank o.lead
+  nearest_lead a o first = record {
+    listed = offer_below o (o.rank + 1) (omega arith) first.listed;
+    leads = subst (λ (x : ℕ). Way o.lead x) first.there (offer_way o first.listed);
+    first = λ rank p below way.
+        let x = offer_of a below.line.rank below.line.at in
+        let lt : below.line.rank < rank = below.lower in
+        let at : below.line.at ≡ p = below.address in
+        ⊎_elim
+        (λ less. (omega arith, λ e. absurd (omega arith)))
+        (λ both. let e' : o.rank ≡ below.line.rank = both.0 in let le : o.lead ≤ below.line.at = both.1 in (omega arith, λ e. omega arith))
+        (All-contains (λ (y : Offer). y.to ≡ a → IsNotAfter o.rank o.lead y.rank y.lead) offers x first.first (made rank p a below way) refl);
+  }
+
+  nearest_or_none : (a : ℕ) (o : Option Offer) → FirstOffer offers a o → MatchOption o (NoneLeads lines (λ p. Way p a)) (λ w. IsNearestLead lines (λ p. Way p a) w.rank w.lead)
+  nearest_or_none a None first = none_leads a first
+  nearest_or_none a (Some o) first = nearest_lead a o first
+
+  pub are_nearest : (firsts : List (Option Offer)) → AreFirstOffers lines offers firsts → AreNearestLeads lines Way firsts
+  are_nearest firsts first = record { long = first.long; each = λ i a d place. nearest_or_none a (get_or firsts i d) (first.each i a d place) }
+
+-- ---- joins
+
+module _ (code : InstructionMap) (lines : List LeadLine) (bytes : ℕ) (offers : List Offer) (are : AreOffers lines (Crosses code bytes) offers) (a : ℕ) where
+  -- up to this rank, of those that meet a crossing
+  least_of : (rank lead : ℕ) → IsCrossing code a → IsLeastOffer offers a rank lead → IsLeastLead lines (λ p. MeetsBy code bytes p a) rank lead
+  least_of rank lead crossing least =
+      let o = least.offer in
+      let low : o.rank ≤ rank = least.low in
+      record {
+        listed = subst (IsLeadBelow lines (rank + 1)) least.is (offer_below lines (Crosses code bytes) offers are o (rank + 1) (omega arith) least.listed);
+        leads = subst (λ (p : ℕ). MeetsBy code bytes p a) least.is (subst (λ (x : ℕ). MeetsBy code bytes o.lead x) least.there (offer_way lines (Crosses code bytes) offers are o least.listed).0);
+        least = λ p below meets.
+            let x = offer_of a below.line.rank below.line.at in
+            let lt : below.line.rank < rank + 1 = below.lower in
+            let at : below.line.at ≡ p = below.address in
+            let le : lead ≤ below.line.at = All-contains (λ (y : Offer). y.to ≡ a → y.rank ≤ rank → lead ≤ y.lead) offers x least.least (made lines (Crosses code bytes) offers are (rank + 1) p a below (meets, crossing)) refl (omega arith) in
+            omega arith;
+      }
+
+  crossing_at : (o : Offer) → IsFirstOffer offers a o → IsCrossing code a
+  crossing_at o first = subst (IsCrossing code) first.there (offer_way lines (Crosses code bytes) offers are o first.listed).1
+
+  above_first : (o : Offer) → IsFirstOffer offers a o → (rank p : ℕ) → IsLeadBelow lines rank p → MeetsBy code bytes p a → o.rank < rank
+  above_first o first rank p below meets = ((nearest_lead lines (Crosses code bytes) offers are a o first).first rank p below (meets, crossing_at o first)).0
+
+  none_meets : IsCrossing code a → FirstOffer offers a None → (rank p : ℕ) → IsLeadBelow lines rank p → MeetsBy code bytes p a → ⊥
+  none_meets crossing none rank p below meets = none_leads lines (Crosses code bytes) offers are a none rank p below (meets, crossing)
+
+  -- the first is one of those up to a rank above
+  pub not_none : (o : Offer) (rank : ℕ) → IsFirstOffer offers a o → o.rank ≤ rank → NoneOffers offers a rank → ⊥
+  not_none o rank first le none = All-contains (λ (x : Offer). x.to ≡ a → ¬ (x.rank ≤ rank)) offers o none first.listed first.there le
+
+-- both meet a, so it is a crossing
+crossing_of : (code : InstructionMap) (p q a : ℕ) → MeetsBy code 2 p a → MeetsBy code 4 q a → IsCrossing code a
+crossing_of code p q a one other = ((one.0, one.2, one.3), (other.0, other.2, other.3))
+
+pub no_short : (code : InstructionMap) (lines : List LeadLine) (a : ℕ) (shorts : List Offer) → AreOffers lines (Crosses code 2) shorts → FirstOffer shorts a None → NoneJoin code lines a
+no_short code lines a shorts are none rank p q below other one two = none_meets code lines 2 shorts are a (crossing_of code p q a one two) none rank p below one
+
+pub no_long : (code : InstructionMap) (lines : List LeadLine) (a : ℕ) (longs : List Offer) → AreOffers lines (Crosses code 4) longs → FirstOffer longs a None → NoneJoin code lines a
+no_long code lines a longs are none rank p q below other one two = none_meets code lines 4 longs are a (crossing_of code p q a one two) none rank q other two
+
+pub first_join : (code : InstructionMap) (lines : List LeadLine) (a rank first second : ℕ) (shorts longs : List Offer) (one other : Offer) → AreOffers lines (Crosses code 2) shorts → AreOffers lines (Crosses code 4) longs
+    → IsFirstOffer shorts a one → IsFirstOffer longs a other → ((more : ℕ) → one.rank < more → other.rank < more → rank < more) → IsLeastOffer shorts a rank first → IsLeastOffer longs a rank second → IsFirstJoin code lines a rank first second
+first_join code lines a rank first second shorts longs one other are also is_one is_other least short long =
+    let crossing = crossing_at code lines 2 shorts are a one is_one in
+    record {
+      first_least = least_of code lines 2 shorts are a rank first crossing short;
+      second_least = least_of code lines 4 longs also a rank second crossing long;
+      below = λ more p q below_p below_q meets_p meets_q.
+          least more (above_first code lines 2 shorts are a one is_one more p below_p meets_p) (above_first code lines 4 longs also a other is_other more q below_q meets_q);
+    }
+
+-- ---- lines
+
+abbrev lead_of : ℕ → ℕ → LeadWhy → LeadLine
+lead_of at rank why = record { at = at; rank = rank; why = why }
+
+none_before_seed : (why : LeadWhy) → LeadWhyBefore why Seed → ⊥
+none_before_seed Seed before = before
+none_before_seed (From lead) before = before
+none_before_seed (Join first second) before = before
+
+pub by_seed : (code : InstructionMap) (seeds : List ℕ) (lines : List LeadLine) (a : ℕ) → Contains seeds a → IsSettledLeadFor code seeds lines a (lead_of a 0 Seed)
+by_seed code seeds lines a among = (
+  refl,
+  record {
+    why = record { fits = among; first = λ why fits. none_before_seed why };
+    least = λ rank why lt. absurd (omega arith);
+  },
+)
+
+module _ (code : InstructionMap) (seeds : List ℕ) (lines : List LeadLine) (a : ℕ) (no_seed : Contains seeds a → ⊥) where
+  module _ (rank lead : ℕ) (near : IsNearestLead lines (λ p. LeadsTo code p a) rank lead)
+      (joins : (more p q : ℕ) → IsLeadBelow lines more p → IsLeadBelow lines more q → MeetsBy code 2 p a → MeetsBy code 4 q a → rank < more) where
+    way_above : (more : ℕ) (why : LeadWhy) → LeadsFor code seeds (IsLeadBelow lines more) a why → rank < more
+    way_above more Seed reason = absurd (no_seed reason)
+    way_above more (From p) reason = (near.first more p reason.0 reason.1).0
+    way_above more (Join p q) reason = joins more p q reason.0 reason.1 reason.2 reason.3
+
+    none_before_way : (why : LeadWhy) → LeadsFor code seeds (IsLeadBelow lines (rank + 1)) a why → LeadWhyBefore why (From lead) → ⊥
+    none_before_way Seed reason before = no_seed reason
+    none_before_way (From p) reason before = let le : lead ≤ p = (near.first (rank + 1) p reason.0 reason.1).1 refl in omega arith
+    none_before_way (Join p q) reason before = before
+
+    pub settled_way : IsSettledLead code seeds lines (lead_of a (rank + 1) (From lead))
+    settled_way = record {
+      why = record { fits = (near.listed, near.leads); first = none_before_way };
+      least = λ more why lt reason. let above : rank < more = way_above more why reason in omega arith;
+    }
+
+  module _ (rank first second : ℕ) (join : IsFirstJoin code lines a rank first second)
+      (ways : (more p : ℕ) → IsLeadBelow lines more p → LeadsTo code p a → rank + 1 < more) where
+    join_above : (more : ℕ) (why : LeadWhy) → LeadsFor code seeds (IsLeadBelow lines more) a why → rank < more
+    join_above more Seed reason = absurd (no_seed reason)
+    join_above more (From p) reason = let lt : rank + 1 < more = ways more p reason.0 reason.1 in omega arith
+    join_above more (Join p q) reason = join.below more p q reason.0 reason.1 reason.2 reason.3
+
+    none_before_join : (why : LeadWhy) → LeadsFor code seeds (IsLeadBelow lines (rank + 1)) a why → LeadWhyBefore why (Join first second) → ⊥
+    none_before_join Seed reason before = no_seed reason
+    none_before_join (From p) reason before = let lt : rank + 1 < rank + 1 = ways (rank + 1) p reason.0 reason.1 in absurd (omega arith)
+    none_before_join (Join p q) reason before =
+        let le : first ≤ p = join.first_least.least p reason.0 reason.2 in
+        let also : second ≤ q = join.second_least.least q reason.1 reason.3 in
+        ⊎_elim (λ lt. absurd (omega arith)) (λ both. let lt : q < second = both.1 in absurd (omega arith)) before
+
+    pub settled_join : IsSettledLead code seeds lines (lead_of a (rank + 1) (Join first second))
+    settled_join = record {
+      why = record { fits = (join.first_least.listed, join.second_least.listed, join.first_least.leads, join.second_least.leads); first = none_before_join };
+      least = λ more why lt reason. let above : rank < more = join_above more why reason in omega arith;
+    }
+
+-- ---- the least of some offers
+
+abbrev pub Least : List Offer → ℕ → ℕ → Option ℕ → Type 0
+Least xs a rank o = MatchOption o (NoneOffers xs a rank) (IsLeastOffer xs a rank)
+
+pub least_skip : (xs : List Offer) (a rank : ℕ) (o : Option ℕ) (x : Offer) → Least xs a rank o → (x.to ≡ a → x.rank ≤ rank → ⊥) → Least (xs ++ x ∷ []) a rank o
+least_skip xs a rank None x least other = All-push (λ (y : Offer). y.to ≡ a → ¬ (y.rank ≤ rank)) xs x least other
+least_skip xs a rank (Some l) x least other = record {
+  offer = least.offer;
+  listed = Contains-append_left xs (x ∷ []) least.offer least.listed;
+  there = least.there;
+  low = least.low;
+  is = least.is;
+  least = All-push (λ (y : Offer). y.to ≡ a → y.rank ≤ rank → l ≤ y.lead) xs x least.least (λ e le. absurd (other e le));
+}
+
+pub least_take : (xs : List Offer) (a rank : ℕ) (o : Option ℕ) (x : Offer) (l : ℕ) → Least xs a rank o → x.to ≡ a → x.rank ≤ rank → (l ≡ x.lead) ⊎ (o ≡ Some l) → l ≤ x.lead → IfSome o (λ p. l ≤ p) → IsLeastOffer (xs ++ x ∷ []) a rank l
+least_take xs a rank None x l none at low (inl same) le all = record {
+  offer = x;
+  listed = Contains-push xs x;
+  there = at;
+  low = low;
+  is = sym same;
+  least = All-push (λ (y : Offer). y.to ≡ a → y.rank ≤ rank → l ≤ y.lead) xs x (λ i d lt e below. absurd (none i d lt e below)) (λ e below. le);
+}
+least_take xs a rank None x l none at low (inr same) le all = absurd cc
+least_take xs a rank (Some p) x l least at low (inl same) le all = record {
+  offer = x;
+  listed = Contains-push xs x;
+  there = at;
+  low = low;
+  is = sym same;
+  least = All-push (λ (y : Offer). y.to ≡ a → y.rank ≤ rank → l ≤ y.lead) xs x (λ i d lt e below. let m : p ≤ (get_or xs i d).lead = least.least i d lt e below in omega arith) (λ e below. le);
+}
+least_take xs a rank (Some p) x l least at low (inr same) le all =
+    let is : p ≡ l = cc in
+    let known : IsLeastOffer xs a rank l = subst (IsLeastOffer xs a rank) is least in
+    record {
+      offer = known.offer;
+      listed = Contains-append_left xs (x ∷ []) known.offer known.listed;
+      there = known.there;
+      low = known.low;
+      is = known.is;
+      least = All-push (λ (y : Offer). y.to ≡ a → y.rank ≤ rank → l ≤ y.lead) xs x known.least (λ e below. le);
+    }
+
+pub least_on : (xs : List Offer) (i a rank : ℕ) (o : Option ℕ) → i < length xs → Least (take i xs ++ get_or xs i (offer_of 0 0 0) ∷ []) a rank o → Least (take (i + 1) xs) a rank o
+least_on xs i a rank o lt least = subst (λ (ys : List Offer). Least ys a rank o) (sym (take_more xs i (offer_of 0 0 0) lt)) least
+
+pub least_end : (xs : List Offer) (i a rank : ℕ) (o : Option ℕ) → length xs ≤ i → Least (take i xs) a rank o → Least xs a rank o
+least_end xs i a rank o long least = subst (λ (ys : List Offer). Least ys a rank o) (take_all i xs long) least
+
+-- ---- the line that is chosen
+
+abbrev pub NearOr : InstructionMap → List LeadLine → ℕ → Option Offer → Type 0
+NearOr code lines a o = MatchOption o (NoneLeads lines (λ p. LeadsTo code p a)) (λ w. IsNearestLead lines (λ p. LeadsTo code p a) w.rank w.lead)
+
+abbrev IsLine : LeadLine → ℕ → ℕ → LeadWhy → Type 0
+IsLine l a rank why = (l.at ≡ a) × (l.rank ≡ rank) × (l.why ≡ why)
+
+line_is : (l : LeadLine) (a rank : ℕ) (why : LeadWhy) → IsLine l a rank why → l ≡ lead_of a rank why
+line_is l a rank why is = ap (λ (x : ℕ). lead_of x l.rank l.why) is.0 ∙ ap (λ (r : ℕ). lead_of a r l.why) is.1 ∙ ap (λ (w : LeadWhy). lead_of a rank w) is.2
+
+settled_is : (code : InstructionMap) (seeds : List ℕ) (lines : List LeadLine) (a rank : ℕ) (why : LeadWhy) (o : Option LeadLine) → IfSome o (λ l. IsLine l a rank why) → IsSettledLead code seeds lines (lead_of a rank why) → IfSome o (IsSettledLeadFor code seeds lines a)
+settled_is code seeds lines a rank why None is settled = tt
+settled_is code seeds lines a rank why (Some l) is settled =
+    subst (IsSettledLeadFor code seeds lines a) (sym (line_is l a rank why is)) (refl, settled)
+
+ways_later : (code : InstructionMap) (lines : List LeadLine) (a rank : ℕ) (o : Option Offer) → NearOr code lines a o → IfSome o (λ w. rank < w.rank) → (more p : ℕ) → IsLeadBelow lines more p → LeadsTo code p a → rank + 1 < more
+ways_later code lines a rank None none lower more p below way = absurd (none more p below way)
+ways_later code lines a rank (Some w) near lower more p below way = let lt : w.rank < more = (near.first more p below way).0 in omega arith
+
+pub chosen_join : (code : InstructionMap) (seeds : List ℕ) (lines : List LeadLine) (a rank first second : ℕ) (near : Option Offer) (o : Option LeadLine) → (Contains seeds a → ⊥) → NearOr code lines a near → IsFirstJoin code lines a rank first second → IfSome near (λ w. rank < w.rank)
+    → IfSome o (λ l. IsLine l a (rank + 1) (Join first second)) → IfSome o (IsSettledLeadFor code seeds lines a)
+chosen_join code seeds lines a rank first second near o no_seed is_near join lower is =
+    settled_is code seeds lines a (rank + 1) (Join first second) o is (settled_join code seeds lines a no_seed rank first second join (ways_later code lines a rank near is_near lower))
+
+pub chosen_way : (code : InstructionMap) (seeds : List ℕ) (lines : List LeadLine) (a : ℕ) (w : Offer) (o : Option LeadLine) → (Contains seeds a → ⊥) → NearOr code lines a (Some w)
+    → ((more p q : ℕ) → IsLeadBelow lines more p → IsLeadBelow lines more q → MeetsBy code 2 p a → MeetsBy code 4 q a → w.rank < more)
+    → IfSome o (λ l. IsLine l a (w.rank + 1) (From w.lead)) → IfSome o (IsSettledLeadFor code seeds lines a)
+chosen_way code seeds lines a w o no_seed near joins is =
+    settled_is code seeds lines a (w.rank + 1) (From w.lead) o is (settled_way code seeds lines a no_seed w.rank w.lead near joins)
+
+pub joins_later : (code : InstructionMap) (lines : List LeadLine) (a rank first second other : ℕ) → IsFirstJoin code lines a rank first second → other ≤ rank → (more p q : ℕ) → IsLeadBelow lines more p → IsLeadBelow lines more q → MeetsBy code 2 p a → MeetsBy code 4 q a → other < more
+joins_later code lines a rank first second other join le more p q one two three four =
+    let lt : rank < more = join.below more p q one two three four in
+    omega arith
+
+pub no_joins : (code : InstructionMap) (lines : List LeadLine) (a other : ℕ) → NoneJoin code lines a → (more p q : ℕ) → IsLeadBelow lines more p → IsLeadBelow lines more q → MeetsBy code 2 p a → MeetsBy code 4 q a → other < more
+no_joins code lines a other none more p q one two three four = absurd (none more p q one two three four)
+
+pub matched : {X : Type 0} (o : Option X) (N : Type 0) (P : X → Type 0) (x : X) → o ≡ Some x → MatchOption o N P → P x
+matched o N P x is m = subst (λ p. MatchOption p N P) is m
+
+pub unmatched : {X : Type 0} (o : Option X) (N : Type 0) (P : X → Type 0) → o ≡ None → MatchOption o N P → N
+unmatched o N P is m = subst (λ p. MatchOption p N P) is m
+
+-- ---- what is read for a leader
+
+pub near_read : (code : InstructionMap) (lines : List LeadLine) (firsts : List (Option Offer)) (i a : ℕ) (o : Option Offer) → AreNearestLeads lines (LeadsTo code) firsts → IsPlace lines i a → o ≡ get_or firsts i o → NearOr code lines a o
+near_read code lines firsts i a o are place is = subst (NearOr code lines a) (sym is) (are.each i a o place)
+
+pub offers_read : (lines : List LeadLine) (Way : ℕ → ℕ → Type 0) (offers slice : List Offer) → AreOffers lines Way offers → slice ≡ offers → AreOffers lines Way slice
+offers_read lines Way offers slice are is = subst (AreOffers lines Way) (sym is) are
+
+pub first_read : (lines : List LeadLine) (offers slice other : List Offer) (firsts : List (Option Offer)) (i a : ℕ) (o : Option Offer) → AreFirstOffers lines slice firsts → slice ≡ offers → other ≡ offers → IsPlace lines i a → o ≡ get_or firsts i o → FirstOffer other a o
+first_read lines offers slice other firsts i a o are is also place at =
+    let first : FirstOffer slice a o = subst (FirstOffer slice a) (sym at) (are.each i a o place) in
+    subst (λ (xs : List Offer). FirstOffer xs a o) (is ∙ sym also) first

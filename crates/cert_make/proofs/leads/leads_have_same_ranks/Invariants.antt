@@ -1,0 +1,6 @@
+use Rattle.std.proofs.Common.{◌≡◌, ◌<◌, ℕ, get_or}
+use Rattle.cert_text.specs.declared.lines.LeadLine.{LeadLine}
+use Rattle.cert_make.proofs.leads.leads_have_same_ranks.Given as goal
+
+abbrev pub invariant-loop-i : goal.invariant-loop-i
+invariant-loop-i l = (k : ℕ) (d : LeadLine) → k < l.i → (get_or l.one k d).rank ≡ (get_or l.other k d).rank

@@ -1,0 +1,9 @@
+pub mod Reason
+pub mod Rank
+pub mod First
+pub mod Canonical
+pub mod Ranked
+pub mod Inner
+pub mod Offers
+pub mod Settled
+pub mod Validity

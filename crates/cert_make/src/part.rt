@@ -1,0 +1,51 @@
+//! The canonical part.
+
+ghost use Rattle.std.specs.Prelude.{◌↔◌, ℕ, Contains, IfOk};
+ghost use Rattle.std.specs.List.Sorted.{IsStrictlyIncreasing};
+ghost use Rattle.cfg_model.specs.Program.Instructions.{IsLawful};
+ghost use Rattle.cfg_model.specs.Program.Reach.{AreSeeds};
+ghost use Rattle.cfg_model.specs.Graph.Leader.{IsLeader};
+ghost use Rattle.cert_make.specs.Canonical.{IsCanonical, ReturnsReached};
+
+use crate::leads::lead_lines;
+use crate::returns::return_lines;
+use cert_text::{LeadLines, Part, ReturnLines};
+use cfg_model::{Chains, Memory};
+use std::alloc::Global;
+
+/// The canonical part of a certificate of this program, of all its leaders and all its reached
+/// terminators that return. [`Memory`] if memory ran out.
+///
+/// Time: for each rank, the chains of all leaders and the targets of their ends, and for each two
+/// streams that join the leaders that meet joins. Memory: 40 bytes for each line, twice, and 24 bytes
+/// for each target.
+pub fn canonical_part<C: Chains>(
+    alloc: Global,
+    code: &C,
+    seeds: &[u64],
+    leaders: &[u64],
+    returns: &[u64],
+) -> Result<Part, Memory>
+    requires seeds { AreSeeds (C.map code.now) seeds.now }
+    requires leaders_rise { IsStrictlyIncreasing leaders.now }
+    requires leaders { (a : ℕ) → Contains leaders.now a ↔ IsLeader (C.map code.now) seeds.now a }
+    requires returns_rise { IsStrictlyIncreasing returns.now }
+    requires returns { (k : ℕ)
+        → Contains returns.now k ↔ ReturnsReached (C.map code.now) seeds.now k }
+    ensures { IfOk result (λ part. IsCanonical (C.map code.now) seeds.now part) }
+{
+    know_laws(code);
+    let returns = return_lines(alloc, code, returns)?;
+    let leads = lead_lines(alloc, code, seeds, returns.as_slice(), leaders)?;
+    Ok(Part {
+        returns: ReturnLines::from_vec(returns),
+        leads: LeadLines::from_vec(leads),
+    })
+}
+
+/// A program is lawful: asking it about any address says so.
+fn know_laws<C: Chains>(code: &C)
+    ensures { IsLawful (C.map code.now) }
+{
+    code.has(0);
+}

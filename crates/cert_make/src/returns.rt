@@ -1,0 +1,242 @@
+//! The lines of the terminators that return.
+//!
+//! A table of lines is settled if each has the least rank and the first reason that its own lines
+//! allow. A table of all terminators that return is settled only if its ranks and reasons are the
+//! canonical ones, whatever it was before: so any table serves to begin with, and one step shows
+//! whether it is right.
+
+ghost use Rattle.std.specs.Prelude.{◌≡◌, ◌≢◌, ◌⊎◌, ◌≤◌, ◌↔◌, ℕ, List, All, Contains, IfOk};
+ghost use Rattle.std.specs.Prelude.{IfSome, IsSome, IsTrue, MatchOption, Some, length, map};
+ghost use Rattle.std.specs.List.Sorted.{IsStrictlyIncreasing};
+ghost use Rattle.cfg_model.specs.Program.Instructions.{IsLawful, flow_at};
+ghost use Rattle.cfg_model.specs.Program.Chain.{IsTerminator};
+ghost use Rattle.cfg_model.specs.Program.Successors.{IsCall, LeavesFunction, successors_of};
+ghost use Rattle.cert_places.specs.Places.{ReturnsRise};
+ghost use Rattle.cert_text.specs.declared.lines.ReturnLine.{ReturnLine};
+ghost use Rattle.cert_make.specs.Canonical.{IsReturnLine, ListsLines, ReturnsReached};
+ghost use Rattle.cert_make.specs.Inner.{EndHasRank, EndHasNone, IsNearest, IsNotAfter};
+ghost use Rattle.cert_make.specs.Inner.{IsSettledReturn, IsSettledFor, AreSettledBy};
+ghost use Rattle.cert_make.specs.Inner.{HaveSameRanks};
+
+use crate::ways::{find_successors, returns_by_itself};
+use cert_places::return_at;
+use cert_text::{ReturnLine, ReturnWhy};
+use cfg_model::{Chains, Flow, Memory};
+use std::alloc::Global;
+
+/// A successor, and the rank of the end of its chain.
+#[derive(Clone, Copy)]
+struct Way {
+    /// The rank of the terminator.
+    rank: u64,
+    /// The address of the successor.
+    to: u64,
+}
+
+/// The lines of these terminators. If they are all that return, these are the lines of the canonical
+/// part. [`Memory`] if memory ran out.
+///
+/// Time: for each rank, the successors of all these terminators. Memory: 40 bytes for each terminator, twice.
+pub fn return_lines<C: Chains>(
+    alloc: Global,
+    code: &C,
+    returns: &[u64],
+) -> Result<Vec<ReturnLine>, Memory>
+    requires rising { IsStrictlyIncreasing returns.now }
+    requires terminators { All (IsTerminator (C.map code.now)) returns.now }
+    ensures { IfOk result (λ v. (seeds : List ℕ)
+        → ((k : ℕ) → Contains returns.now k ↔ ReturnsReached (C.map code.now) seeds k)
+        → ListsLines (λ l. l.at) (ReturnsReached (C.map code.now) seeds) (IsReturnLine (C.map code.now)) v.items) }
+{
+    let start = first_lines(alloc, returns)?;
+    let lines = settled_returns(alloc, code, start)?;
+    Ok(lines)
+}
+
+/// A line for each of these terminators, to begin with.
+fn first_lines(alloc: Global, returns: &[u64]) -> Result<Vec<ReturnLine>, Memory>
+    ensures { IfOk result (λ v. map (λ (l : ReturnLine). l.at) v.items ≡ returns.now) }
+{
+    let mut lines = Vec::new(alloc);
+    for k in returns {
+        lines.push(ReturnLine {
+            at: *k,
+            rank: 0,
+            why: ReturnWhy::Itself,
+        })?;
+    }
+    Ok(lines)
+}
+
+/// The settled table of these terminators, which have to be all that return. [`Memory`] if memory
+/// ran out.
+///
+/// `start` is the table that it begins with: the settled one at best, which takes two steps.
+/// Time: the targets of all these terminators, for each step.
+/// Memory: 40 bytes for each terminator, twice.
+fn settled_returns<C: Chains>(
+    alloc: Global,
+    code: &C,
+    start: Vec<ReturnLine>,
+) -> Result<Vec<ReturnLine>, Memory>
+    requires rising { ReturnsRise start.items }
+    requires stand { All (λ l. IsSome (C.map code.now l.at)) start.items }
+    ensures { IfOk result (λ v. AreSettledBy (C.map code.now) v.items start.items v.items) }
+{
+    let mut lines = start;
+    // Each step settles one rank more, and there are no more ranks than lines.
+    for _step in 0..=lines.len() {
+        let next = step(alloc, code, lines.as_slice())?;
+        if have_same_ranks(next.as_slice(), lines.as_slice()) {
+            return Ok(next);
+        }
+        lines = next;
+    }
+    Err(Memory)
+}
+
+/// The lines of the same terminators by these lines.
+fn step<C: Chains>(alloc: Global, code: &C, lines: &[ReturnLine]) -> Result<Vec<ReturnLine>, Memory>
+    requires rising { ReturnsRise lines.now }
+    requires stand { All (λ l. IsSome (C.map code.now l.at)) lines.now }
+    ensures { IfOk result (λ v. AreSettledBy (C.map code.now) lines.now lines.now v.items) }
+{
+    let mut next = Vec::new(alloc);
+    let mut successors = Vec::new(alloc);
+    for line in lines {
+        match settle(code, lines, line.at, &mut successors)? {
+            Some(line) => next.push(line)?,
+            // Not met: each of them returns, so that it has a reason by the others.
+            None => return Err(Memory),
+        }
+    }
+    Ok(next)
+}
+
+/// Whether the lines of two tables have the same ranks, one by one.
+fn have_same_ranks(one: &[ReturnLine], other: &[ReturnLine]) -> bool
+    requires { length one.now ≤ length other.now }
+    ensures { IsTrue result → HaveSameRanks one.now other.now }
+{
+    for (i, line) in one.iter().enumerate() {
+        if line.rank != other[i].rank {
+            return false;
+        }
+    }
+    true
+}
+
+/// The line of the terminator at `k` by these lines, if there is a reason by them.
+fn settle<C: Chains>(
+    code: &C,
+    lines: &[ReturnLine],
+    k: u64,
+    successors: &mut Vec<u64>,
+) -> Result<Option<ReturnLine>, Memory>
+    requires stands { IsSome (C.map code.now k) }
+    requires rising { ReturnsRise lines.now }
+    ensures { IfOk result (λ o. IfSome o (IsSettledFor (C.map code.now) lines.now k)) }
+{
+    let flow = code.flow(k);
+    if returns_by_itself(flow) {
+        return Ok(Some(ReturnLine {
+            at: k,
+            rank: 0,
+            why: ReturnWhy::Itself,
+        }));
+    }
+    if let Flow::Call { target, fall } = flow {
+        return Ok(by_call(code, lines, k, target, fall));
+    }
+    find_successors(code, k, flow, successors)?;
+    Ok(by_successors(code, lines, k, successors.as_slice()))
+}
+
+/// The line of a call, if both its target and its fall return by these lines.
+fn by_call<C: Chains>(
+    code: &C,
+    lines: &[ReturnLine],
+    k: u64,
+    target: u64,
+    fall: Option<u64>,
+) -> Option<ReturnLine>
+    requires call { IsCall (C.map code.now) k target fall }
+    requires lawful { IsLawful (C.map code.now) }
+    requires rising { ReturnsRise lines.now }
+    ensures { IfSome result (IsSettledFor (C.map code.now) lines.now k) }
+{
+    let fall = fall?;
+    let one = rank_at(code, lines, target)?;
+    let other = rank_at(code, lines, fall)?;
+    let rank = one.max(other).checked_add(1)?;
+    Some(ReturnLine {
+        at: k,
+        rank,
+        why: ReturnWhy::CallBoth,
+    })
+}
+
+/// The line of a terminator by its successors, if one of them returns by these lines.
+fn by_successors<C: Chains>(
+    code: &C,
+    lines: &[ReturnLine],
+    k: u64,
+    successors: &[u64],
+) -> Option<ReturnLine>
+    requires successors { successors.now ≡ successors_of (C.map code.now) k }
+    requires stays { ¬ LeavesFunction (flow_at (C.map code.now) k) }
+    requires no_call { (target : ℕ) (fall : _) → ¬ IsCall (C.map code.now) k target fall }
+    requires stand { All (λ a. IsSome (C.map code.now a)) successors.now }
+    requires rising { ReturnsRise lines.now }
+    ensures { IfSome result (IsSettledFor (C.map code.now) lines.now k) }
+{
+    let way = nearest(code, lines, successors)?;
+    let rank = way.rank.checked_add(1)?;
+    Some(ReturnLine {
+        at: k,
+        rank,
+        why: ReturnWhy::To { target: way.to },
+    })
+}
+
+/// The first of the successors whose chains end in a line of least rank.
+fn nearest<C: Chains>(code: &C, lines: &[ReturnLine], successors: &[u64]) -> Option<Way>
+    requires stand { All (λ a. IsSome (C.map code.now a)) successors.now }
+    requires rising { ReturnsRise lines.now }
+    ensures { MatchOption result (All (EndHasNone (C.map code.now) lines.now) successors.now)
+        (λ w. IsNearest (C.map code.now) lines.now successors.now w.rank w.to) }
+{
+    let mut nearest: Option<Way> = None;
+    for to in successors {
+        if let Some(rank) = rank_at(code, lines, *to) {
+            nearest = Some(nearer(nearest, Way { rank, to: *to }));
+        }
+    }
+    nearest
+}
+
+/// The one of the two ways with the lower rank, or with the lower address if those are equal.
+fn nearer(one: Option<Way>, other: Way) -> Way
+    ensures one_of_both { (result ≡ other) ⊎ (one ≡ Some result) }
+    ensures other { IsNotAfter result.rank result.to other.rank other.to }
+    ensures one { IfSome one (λ w. IsNotAfter result.rank result.to w.rank w.to) }
+{
+    match one {
+        Some(one) if one.rank < other.rank => one,
+        Some(one) if one.rank == other.rank && one.to <= other.to => one,
+        _ => other,
+    }
+}
+
+/// The rank of the line at which the chain of `a` ends, if there is one.
+fn rank_at<C: Chains>(code: &C, lines: &[ReturnLine], a: u64) -> Option<u64>
+    requires stands { IsSome (C.map code.now a) }
+    requires rising { ReturnsRise lines.now }
+    ensures { MatchOption result (EndHasNone (C.map code.now) lines.now a)
+        (λ rank. EndHasRank (C.map code.now) lines.now rank a) }
+{
+    match return_at(lines, code.term(a)) {
+        Some(line) => Some(line.rank),
+        None => None,
+    }
+}
