@@ -1,0 +1,9 @@
+pub mod Walked
+pub mod Jumping
+pub mod Along
+pub mod Ways
+pub mod Each
+pub mod Reasoned
+pub mod Searched
+pub mod Decided
+pub mod Outlined

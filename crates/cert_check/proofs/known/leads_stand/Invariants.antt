@@ -1,0 +1,7 @@
+use Rattle.std.specs.Prelude.{IsSome}
+use Rattle.cert_text.specs.declared.lines.LeadLine.{LeadLine}
+use Rattle.cert_check.proofs.Each.{AllBelow}
+use Rattle.cert_check.proofs.known.leads_stand.Given as goal
+
+abbrev pub invariant-loop-line : goal.invariant-loop-line
+invariant-loop-line g l = AllBelow (λ (line : LeadLine). IsSome (g.C.Chains.map l.code line.at)) l.leads l.line-index

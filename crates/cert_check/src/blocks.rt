@@ -1,0 +1,126 @@
+//! The blocks of the leaders of a part, and whether they share an address.
+
+ghost use Rattle.std.specs.Prelude.{◌≡◌, ◌↔◌, ◌+◌, ◌<◌, ◌^◌, IfOk, IsSome, IsTrue, MatchOption, length};
+ghost use Rattle.cfg_model.specs.Program.Instructions.{IsLawful};
+ghost use Rattle.cfg_model.specs.Program.Chain.{GoesOnTo, IsTerminator};
+ghost use Rattle.reached_terms.specs.Numbering.{IsNumbering};
+ghost use Rattle.cert_laws.specs.Valid.{BlocksAreApart};
+ghost use Rattle.cert_places.specs.Places.{AreLeads, IsPlace};
+ghost use Rattle.cert_check.specs.Inner.Blocks.{AreBlocks, AreOwned, IsRun, owner_by};
+
+use crate::owners::Owners;
+use cert_places::place_from;
+use cert_text::LeadLine;
+use cfg_model::{Chains, Flow, Memory};
+use reached_terms::Numbered;
+use std::alloc::Global;
+
+/// The block of a leader, which is cut before the next leader on its chain.
+#[derive(Clone, Copy)]
+pub(crate) struct Run {
+    /// The address of its last instruction.
+    pub(crate) last: u64,
+    /// The place of the leader that stands right after it, if control goes on to that. Otherwise
+    /// the last instruction is a terminator.
+    pub(crate) into: Option<u32>,
+}
+
+/// The blocks of all leaders of a part, by their places, and whose block each address lies in.
+#[derive(Drop)]
+pub(crate) struct Blocks {
+    pub(crate) owners: Owners,
+    pub(crate) runs: Vec<Run>,
+}
+
+/// The blocks of these leaders; `None` exactly if two of them share an address. Each address is
+/// walked once, whatever the leaders are. [`Memory`] too if there are 2^32 leaders or more, which
+/// alone take 160 GiB.
+/// Time: O(leaders + bytes of code). Memory: eight bytes for each halfword of code, and 16 for each
+/// leader.
+pub(crate) fn blocks_of<C: Numbered>(
+    alloc: Global,
+    code: &C,
+    leads: &[LeadLine],
+) -> Result<Option<Blocks>, Memory>
+    requires { AreLeads (C.map code.now) leads.now }
+    ensures { IfOk result (λ found. MatchOption found
+        (¬ BlocksAreApart (C.map code.now) leads.now)
+        (AreBlocks (C.map code.now) (C.number code.now) leads.now)) }
+{
+    if leads.len() > u32::MAX as usize {
+        return Err(Memory);
+    }
+    let mut owners = Owners::new(alloc, code)?;
+    let mut runs = Vec::with_capacity(alloc, leads.len())?;
+    for i in 0..leads.len() {
+        match walk(code, leads, i, &mut owners) {
+            Some(run) => runs.push(run)?,
+            None => return Ok(None),
+        }
+    }
+    Ok(Some(Blocks { owners, runs }))
+}
+
+/// Walks the block of the leader at place `i`, and marks its addresses; `None` if one of them lies
+/// in the block of an earlier leader.
+/// Time: O(instructions of the block, and leaders in between).
+fn walk<C: Numbered>(code: &C, leads: &[LeadLine], i: usize, owners: &mut Owners) -> Option<Run>
+    requires leads { AreLeads (C.map code.now) leads.now }
+    requires within { i < length leads.now }
+    requires few { length leads.now < 2 ^ 32 }
+    requires numbering { IsNumbering (C.map code.now) (C.number code.now)
+        (length owners.old.places.items) }
+    requires owned { AreOwned (C.map code.now) leads.now
+        (owner_by (C.number code.now) owners.old.places.items) i }
+    ensures kept { length owners.new.places.items ≡ length owners.old.places.items }
+    ensures run { MatchOption result (¬ BlocksAreApart (C.map code.now) leads.now)
+        (λ run. IsRun (C.map code.now) leads.now i run
+        × AreOwned (C.map code.now) leads.now
+        (owner_by (C.number code.now) owners.new.places.items) (i + 1)) }
+{
+    let mut at = leads[i].at;
+    let mut ahead = i + 1;
+    loop {
+        let behind = next_of(code, at);
+        if !owners.claim(code, at, i as u32) {
+            return None;
+        }
+        let next = match behind {
+            Some(next) => next,
+            None => {
+                return Some(Run {
+                    last: at,
+                    into: None,
+                });
+            }
+        };
+        ahead = place_from(leads, ahead, next);
+        if stands_at(leads, ahead, next) {
+            return Some(Run {
+                last: at,
+                into: Some(ahead as u32),
+            });
+        }
+        at = next;
+    }
+}
+
+/// The address after the instruction at `a`, if control goes straight on to it.
+fn next_of<C: Chains>(code: &C, a: u64) -> Option<u64>
+    requires { IsSome (C.map code.now a) }
+    ensures lawful { IsLawful (C.map code.now) }
+    ensures next { MatchOption result (IsTerminator (C.map code.now) a)
+        (GoesOnTo (C.map code.now) a) }
+{
+    match code.flow(a) {
+        Flow::Straight { next } => Some(next),
+        _ => None,
+    }
+}
+
+/// Whether the line at place `i` is that of the leader `a`.
+fn stands_at(leads: &[LeadLine], i: usize, a: u64) -> bool
+    ensures { IsTrue result ↔ IsPlace leads.now i a }
+{
+    i < leads.len() && leads[i].at == a
+}

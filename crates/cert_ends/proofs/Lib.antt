@@ -1,0 +1,4 @@
+pub mod LeadsOnward
+pub mod ListedEnds
+pub mod OneByOne
+pub mod ReasonsFound

@@ -1,0 +1,2 @@
+pub mod FileShown
+pub mod OutlineShown

@@ -1,0 +1,3 @@
+pub mod FileCertificate
+pub mod Told
+pub mod Shown

@@ -1,0 +1,2 @@
+pub mod TablesFound
+pub mod Checked

@@ -1,0 +1,69 @@
+-- A run has one answer.
+use Rattle.std.proofs.Common.{◌≡◌, ℕ, List, Option, Some, refl, sym, ap, subst, ◌∙◌}
+use Rattle.std.specs.Prelude.{◌↔◌}
+use Rattle.std.proofs.lemmas.Option.{same_Some, none-some}
+use Rattle.elf_image.specs.declared.fault.Fault.{Fault}
+use Rattle.cfg_model.specs.declared.graph.Graph.{Graph}
+use Rattle.file_program.proofs.Unique.{graph-unique}
+use Rattle.cert_text.specs.declared.certificate.Certificate.{Certificate}
+use Rattle.cert_text.proofs.Parts.{certificates_same}
+use Rattle.cert_files.specs.FileCertificate.{IsCertificateOf}
+use Rattle.check_run.specs.declared.refusal.Refusal.TheVariants as refusals
+use Rattle.check_run.specs.declared.status.CheckStatus.TheVariants as statuses
+use Rattle.check_run.specs.Words.{Asked}
+use Rattle.check_run.specs.Evidence.{HasNoText, HasFalse, HasValid}
+use Rattle.check_run.specs.Answer.{Answer, IsAnswer, refused_with, report_answer, report_of}
+use Rattle.check_run.specs.Laws.{CheckAnswerIsUnique}
+
+-- A text holds one certificate, which is valid or not.
+none-held : {bytes text : List ℕ} → HasNoText bytes text → HasFalse bytes text → ⊥
+none-held n f = n.none f.certificate f.held
+
+none-valid : {bytes text : List ℕ} → HasNoText bytes text → HasValid bytes text → ⊥
+none-valid n v = n.none v.certificate v.held
+
+false-valid : {bytes text : List ℕ} → HasFalse bytes text → HasValid bytes text → ⊥
+false-valid {bytes} {text} f v =
+    f.not_valid (subst (λ (c : Certificate). IsCertificateOf bytes c) (certificates_same text v.certificate f.certificate v.held.is_text f.held.is_text) v.valid)
+
+two-answers : {bytes text : List ℕ} {asked : Option Asked} {one other : Answer} → IsAnswer bytes text asked one → IsAnswer bytes text asked other → one ≡ other
+two-answers IsAnswer.usage IsAnswer.usage = refl
+two-answers (IsAnswer.malformed {fault = f} x) (IsAnswer.malformed {fault = g} y) = ap (λ (fault : Fault). refused_with (refusals.Malformed fault)) (same_Some f g (sym x ∙ y))
+two-answers (IsAnswer.malformed {fault = f} x) (IsAnswer.no_text y) = absurd (none-some f (sym y.accepted ∙ x))
+two-answers (IsAnswer.malformed {fault = f} x) (IsAnswer.refused y) = absurd (none-some f (sym y.accepted ∙ x))
+two-answers (IsAnswer.malformed {fault = f} x) (IsAnswer.done y _) = absurd (none-some f (sym y.accepted ∙ x))
+two-answers (IsAnswer.no_text x) (IsAnswer.malformed {fault = g} y) = absurd (none-some g (sym x.accepted ∙ y))
+two-answers (IsAnswer.no_text x) (IsAnswer.no_text y) = refl
+two-answers (IsAnswer.no_text x) (IsAnswer.refused y) = absurd (none-held x y)
+two-answers (IsAnswer.no_text x) (IsAnswer.done y _) = absurd (none-valid x y)
+two-answers (IsAnswer.refused x) (IsAnswer.malformed {fault = g} y) = absurd (none-some g (sym x.accepted ∙ y))
+two-answers (IsAnswer.refused x) (IsAnswer.no_text y) = absurd (none-held y x)
+two-answers (IsAnswer.refused x) (IsAnswer.refused y) = refl
+two-answers (IsAnswer.refused x) (IsAnswer.done y _) = absurd (false-valid x y)
+two-answers (IsAnswer.done x _) (IsAnswer.malformed {fault = g} y) = absurd (none-some g (sym x.accepted ∙ y))
+two-answers (IsAnswer.done x _) (IsAnswer.no_text y) = absurd (none-valid y x)
+two-answers (IsAnswer.done x _) (IsAnswer.refused y) = absurd (false-valid y x)
+two-answers {bytes} (IsAnswer.done {graph = g} _ z) (IsAnswer.done {graph = h} _ w) =
+    ap (λ (graph : Graph). report_answer (report_of bytes graph)) (graph-unique bytes g h z w)
+
+pub answer-unique : CheckAnswerIsUnique
+answer-unique bytes text asked one other is are = two-answers is are
+
+-- Which status an answer has tells what the certificate is.
+pub tells-no-text : {bytes text : List ℕ} {a : Asked} {answer : Answer} → IsAnswer bytes text (Some a) answer → (answer.status ≡ statuses.NoText) ↔ HasNoText bytes text
+tells-no-text (IsAnswer.malformed {fault = f} x) = (λ no. absurd (cc), λ n. absurd (none-some f (sym n.accepted ∙ x)))
+tells-no-text (IsAnswer.no_text x) = (λ _. x, λ _. refl)
+tells-no-text (IsAnswer.refused x) = (λ no. absurd (cc), λ n. absurd (none-held n x))
+tells-no-text (IsAnswer.done x _) = (λ no. absurd (cc), λ n. absurd (none-valid n x))
+
+pub tells-refused : {bytes text : List ℕ} {a : Asked} {answer : Answer} → IsAnswer bytes text (Some a) answer → (answer.status ≡ statuses.Refused) ↔ HasFalse bytes text
+tells-refused (IsAnswer.malformed {fault = f} x) = (λ no. absurd (cc), λ n. absurd (none-some f (sym n.accepted ∙ x)))
+tells-refused (IsAnswer.no_text x) = (λ no. absurd (cc), λ n. absurd (none-held x n))
+tells-refused (IsAnswer.refused x) = (λ _. x, λ _. refl)
+tells-refused (IsAnswer.done x _) = (λ no. absurd (cc), λ n. absurd (false-valid n x))
+
+pub tells-done : {bytes text : List ℕ} {a : Asked} {answer : Answer} → IsAnswer bytes text (Some a) answer → (answer.status ≡ statuses.Done) ↔ HasValid bytes text
+tells-done (IsAnswer.malformed {fault = f} x) = (λ no. absurd (cc), λ n. absurd (none-some f (sym n.accepted ∙ x)))
+tells-done (IsAnswer.no_text x) = (λ no. absurd (cc), λ n. absurd (none-valid x n))
+tells-done (IsAnswer.refused x) = (λ no. absurd (cc), λ n. absurd (false-valid x n))
+tells-done (IsAnswer.done x _) = (λ _. x, λ _. refl)
