@@ -14,7 +14,7 @@ import tempfile
 from typing import Iterable, Iterator, List, NamedTuple, Tuple
 
 from cfg_report import ReportError
-from elf_memory import ALLOC, SECTION_SIZE, STRTAB, SYMBOL_SIZE, SYMTAB, Memory, Section
+from elf_file import ALLOC, SECTION_SIZE, STRTAB, SYMBOL_SIZE, SYMTAB, Header, Memory
 
 LARGEST = 64 << 20
 MOST_SECTIONS = 0xFF00
@@ -69,7 +69,7 @@ class _Copy:
         self._tail = bytearray()
         self._new: List[Tuple[int, bytes]] = []
 
-    def strings_of(self, table: "Section | None") -> "Section | None":
+    def strings_of(self, table: "Header | None") -> "Header | None":
         """The table of names of a symbol table, where it can grow: one that is loaded cannot."""
         if table is None or table.link >= len(self._elf.sections):
             return None

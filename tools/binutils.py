@@ -44,16 +44,24 @@ def entry(path):
     return int(re.search(r"Entry point address:\s+0x([0-9a-f]+)", output(READELF, "-h", path))[1], 16)
 
 
+def _sections(path):
+    """The sections with bytes of the program, PROGBITS with the flag ALLOC: their indices, flags, addresses and places."""
+    for line in output(READELF, "-SW", path).splitlines():
+        match = re.match(r"\s*\[\s*(\d+)\]\s(.*?)\s+PROGBITS\s+([0-9a-f]{16}) ([0-9a-f]+) ([0-9a-f]+) [0-9a-f]+\s+([A-Za-z]*)\s", line)
+        if match and "A" in match[6]:
+            start, offset, size = (int(text, 16) for text in match.group(3, 4, 5))
+            yield match[1], match[6], Section(range(start, start + size), offset)
+
+
 def code_sections(path):
     """The code sections by index, PROGBITS with the flags ALLOC and EXECINSTR: the addresses, and where the bytes
     stand in the file."""
-    found = {}
-    for line in output(READELF, "-SW", path).splitlines():
-        match = re.match(r"\s*\[\s*(\d+)\]\s(.*?)\s+PROGBITS\s+([0-9a-f]{16}) ([0-9a-f]+) ([0-9a-f]+) [0-9a-f]+\s+([A-Za-z]*)\s", line)
-        if match and "A" in match[6] and "X" in match[6]:
-            start, offset, size = (int(text, 16) for text in match.group(3, 4, 5))
-            found[match[1]] = Section(range(start, start + size), offset)
-    return found
+    return {index: section for index, flags, section in _sections(path) if "X" in flags}
+
+
+def read_only_sections(path):
+    """The sections that are read-only data, PROGBITS with ALLOC and without WRITE, in the order of the table."""
+    return [section for _, flags, section in _sections(path) if "W" not in flags]
 
 
 def seeds(path):

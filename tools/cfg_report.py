@@ -7,11 +7,11 @@ says what kind of report it is, how much is in it, and what is wrong with it, if
 the jump tables: the address of each, the size of its entries, and by number which of them lead to which address; where
 that is outside the function symbol that holds the jump, it says so.
 
-For other scripts there are two ways to read. `read(stream)` gives the heading, each function, block and edge, and the
-end of a report one by one, and keeps none of them, so that a report of any size can be read. `load(stream)` keeps all
+For other scripts there are two ways to read. `read(stream)` gives the heading, each function, block and edge, the live
+registers of each function, and the end of a report one by one, and keeps none of them, so that a report of any size can be read. `load(stream)` keeps all
 of them in one `Report`. Both raise `ReportError`, with the number of the line, where the text is no report by
 docs/REPORT.md. `opened(path)` gives the stream: of a report, of standard input for `-`, or of what `cfg` says of an ELF
-file.
+file. Where another kind than `graph` is wanted of an ELF file, it is named.
 """
 
 from __future__ import annotations
@@ -36,7 +36,7 @@ BLOCK_KINDS = (
 TABLE_KINDS = ("table", "table-cut", "table-open")
 # In the order in which a report has the edges of one block to one other.
 EDGE_KINDS = ("fall", "taken", "jump", "tail", "call", "after", "table")
-REPORT_KINDS = ("graph", "functions", "blocks", "edges")
+REPORT_KINDS = ("graph", "functions", "blocks", "edges", "live")
 
 # Whether a block that ends in this way may have edges of just these kinds.
 EDGES_OF: Dict[str, Callable[[List[str]], bool]] = {
@@ -89,13 +89,27 @@ class Edge(NamedTuple):
     kind: str
 
 
+class Live(NamedTuple):
+    """The registers that are live at a block: xr is, where bit r of the mask is set."""
+
+    block: int
+    mask: int
+
+
+class Lives(NamedTuple):
+    """The live registers of a function: for each block of its body, rising. It comes right behind its function."""
+
+    entry: int
+    blocks: Tuple[Live, ...]
+
+
 class End(NamedTuple):
     """The last line, behind which it is known of what kind the report is."""
 
     kind: str
 
 
-Item = Union[Heading, Function, Block, Edge, End]
+Item = Union[Heading, Function, Block, Edge, Lives, End]
 
 
 # ---- names and addresses
@@ -148,7 +162,10 @@ _HEX = rb"([0-9a-f]{16})"
 _COUNT = rb"(0|[1-9][0-9]*)"
 
 
-def _line(*fields: bytes) -> Callable[[bytes], Optional["re.Match[bytes]"]]:
+_Form = Callable[[bytes], Optional["re.Match[bytes]"]]
+
+
+def _line(*fields: bytes) -> _Form:
     return re.compile(b" ".join(fields) + b"\n").fullmatch
 
 
@@ -157,21 +174,24 @@ def _one_of(words: Tuple[str, ...]) -> bytes:
 
 
 _ENTRY = _line(rb"entry", _HEX)
-_SECTION = {name: _line(name.encode(), _COUNT) for name in ("functions", "blocks", "edges")}
+_SECTION = {name: _line(name.encode(), _COUNT) for name in ("functions", "blocks", "edges", "lives")}
 _FUNCTION = _line(rb"function", _HEX, rb"(may-return|no-return)", _COUNT, rb"([^ \n]+)")
 _IN = _line(rb"in", _HEX)
 _BLOCK = _line(rb"block", _HEX, _HEX, _one_of(BLOCK_KINDS))
 _EDGE = _line(rb"edge", _HEX, _HEX, _one_of(EDGE_KINDS))
+_LIVE = _line(rb"live", _HEX, rb"([0-9a-f]{8})")
 
 _FORMS = {
     "entry": "entry ADDRESS",
     "functions": "functions COUNT",
     "blocks": "blocks COUNT",
     "edges": "edges COUNT",
+    "lives": "lives COUNT",
     "function": "function ENTRY STATUS COUNT NAME",
     "in": "in BLOCK",
     "block": "block START END KIND",
     "edge": "edge FROM TO KIND",
+    "live": "live BLOCK MASK",
     "end": "end",
 }
 _WORDS = {"STATUS": ("may-return", "no-return"), "block KIND": BLOCK_KINDS, "edge KIND": EDGE_KINDS}
@@ -188,6 +208,9 @@ def _wrong_field(form: str, place: str, field: bytes) -> Optional[str]:
         return None if re.fullmatch(_COUNT, field) else f"`{_shown(field)}` is no count"
     if place == "NAME":
         return None
+    if place == "MASK":
+        is_mask = re.fullmatch(rb"[0-9a-f]{8}", field)
+        return None if is_mask else f"`{_shown(field)}` is no mask of eight hexadecimal digits, in lower case"
     if re.fullmatch(_HEX, field):
         return None
     return f"`{_shown(field)}` is no address of sixteen hexadecimal digits, in lower case"
@@ -222,8 +245,12 @@ class Reader:
         yield heading
         line = self._next()
         kind = "graph"
-        if line.startswith(b"functions"):
-            yield from self._functions(self._count("functions", line), heading.entry)
+        if line.startswith(b"lives"):
+            kind = "live"
+            yield from self._functions(self._count("lives", line), heading.entry, self._with_masks)
+            line = self._next()
+        elif line.startswith(b"functions"):
+            yield from self._functions(self._count("functions", line), heading.entry, self._with_body)
             line = self._next()
             if line == b"end\n":
                 kind = "functions"
@@ -273,7 +300,8 @@ class Reader:
             self.fail(f"{count} lines `{_FORMS[form]}` were announced, and here, behind {place}, is `{_shown(line)}`")
         self.fail(_wrong_line(form, line))
 
-    def _functions(self, count: int, entry: int) -> Iterator[Function]:
+    def _functions(self, count: int, entry: int, completed: Callable[[Function, int], Iterator[Item]]) -> Iterator[Item]:
+        """The functions, each of them completed by the lines behind it, of which there are so many."""
         before, entry_seen = -1, False
         for place in range(count):
             line = self._next()
@@ -286,22 +314,33 @@ class Reader:
             except ValueError as error:
                 self.fail(str(error))
             before, entry_seen = at, entry_seen or at == entry
-            yield Function(at, found[2] == b"may-return", name, self._body(at, int(found[3])))
+            yield from completed(Function(at, found[2] == b"may-return", name, ()), int(found[3]))
         if not entry_seen:
             self.fail(f"no function starts at the program's entry, {entry:x}")
 
-    def _body(self, entry: int, count: int) -> Tuple[int, ...]:
-        body: List[int] = []
+    def _with_body(self, function: Function, count: int) -> Iterator[Item]:
+        yield function._replace(blocks=tuple(int(found[1], 16) for found in self._body("in", _IN, function.entry, count)))
+
+    def _with_masks(self, function: Function, count: int) -> Iterator[Item]:
+        masks = [Live(int(found[1], 16), int(found[2], 16)) for found in self._body("live", _LIVE, function.entry, count)]
+        yield function._replace(blocks=tuple(one.block for one in masks))
+        yield Lives(function.entry, tuple(masks))
+
+    def _body(self, form: str, is_line: _Form, entry: int, count: int) -> Iterator["re.Match[bytes]"]:
+        """The lines of the blocks of a function's body."""
+        before, entry_seen = -1, False
         for place in range(count):
             line = self._next()
-            found = _IN(line) or self._wrong_item("in", line, place, count)
+            found = is_line(line) or self._wrong_item(form, line, place, count)
             start = int(found[1], 16)
-            if body and start <= body[-1]:
-                self.fail(f"the block at {start:x} stands behind the one at {body[-1]:x}: blocks rise, each there once")
-            body.append(start)
-        if entry not in body:
+            if start <= before:
+                self.fail(f"the block at {start:x} stands behind the one at {before:x}: blocks rise, each there once")
+            if form == "live" and int(found[2], 16) & 1:
+                self.fail(f"the mask {found[2].decode()} has bit 0, and x0 is never live")
+            before, entry_seen = start, entry_seen or start == entry
+            yield found
+        if not entry_seen:
             self.fail(f"the function at {entry:x} does not have the block at its own entry")
-        return tuple(body)
 
     def _blocks(self, count: int, entry: int) -> Iterator[Block]:
         before, entry_seen = -1, False
@@ -353,13 +392,18 @@ class Report:
         self.blocks: Dict[int, Block] = {}
         self.edges: List[Edge] = []
         self.edges_from: Dict[int, List[Edge]] = {}
+        # The masks of a report of kind live, by the entry of a function and a block of its body.
+        self.lives: Dict[int, Dict[int, int]] = {}
         for item in items:
             self._keep(item)
 
     def items(self) -> Iterator[Item]:
         """All that the report has, in its order."""
         yield Heading(self.entry)
-        yield from self.functions
+        for function in self.functions:
+            yield function
+            if function.entry in self.lives:
+                yield Lives(function.entry, tuple(Live(*one) for one in self.lives[function.entry].items()))
         yield from self.blocks.values()
         yield from self.edges
         yield End(self.kind)
@@ -372,6 +416,8 @@ class Report:
             self.blocks[item.start] = item
         elif isinstance(item, Function):
             self.functions.append(item)
+        elif isinstance(item, Lives):
+            self.lives[item.entry] = {one.block: one.mask for one in item.blocks}
         elif isinstance(item, Heading):
             self.entry = item.entry
         else:
@@ -491,12 +537,12 @@ def _wrong_statuses(report: Report) -> Iterator[str]:
 
 
 @contextlib.contextmanager
-def opened(path: str, program: Optional[str] = None) -> Iterator[BinaryIO]:
-    """The stream of a report: of a file, of standard input for `-`, or of what `cfg` says of an ELF file."""
+def opened(path: str, program: Optional[str] = None, kind: str = "graph") -> Iterator[BinaryIO]:
+    """The stream of a report: of a file, of standard input for `-`, or of what `cfg` says of an ELF file, of this kind."""
     if path == "-":
         yield sys.stdin.buffer
     elif is_elf(path):
-        with _answer(path, program or os.environ.get("CFG") or os.path.join(TOP, "bin", "cfg")) as stream:
+        with _answer(path, program or os.environ.get("CFG") or os.path.join(TOP, "bin", "cfg"), kind) as stream:
             yield stream
     else:
         with open(path, "rb") as stream:
@@ -513,9 +559,10 @@ def is_elf(path: str) -> bool:
 
 
 @contextlib.contextmanager
-def _answer(path: str, program: str) -> Iterator[BinaryIO]:
+def _answer(path: str, program: str, kind: str) -> Iterator[BinaryIO]:
     """What `cfg` prints of an ELF file. Where it answers another status than 0, that is told."""
-    with subprocess.Popen([program, "--", path], stdout=subprocess.PIPE) as run:
+    words = [] if kind == "graph" else ["--report", kind]
+    with subprocess.Popen([program, *words, "--", path], stdout=subprocess.PIPE) as run:
         assert run.stdout is not None
         try:
             yield run.stdout  # type: ignore[misc]
@@ -585,6 +632,8 @@ def main() -> int:
         return 0
     wrong = [] if words.edges or words.sure else list(report.problems())
     counts = f"{len(report.functions)} functions, {len(report.blocks)} blocks, {len(report.edges)} edges"
+    if report.kind == "live":
+        counts = f"{len(report.functions)} functions, {sum(map(len, report.lives.values()))} masks"
     print(f"a report of kind {report.kind}, entry {report.entry:x}: {counts}")
     for problem in wrong[:50]:
         print(problem)

@@ -16,7 +16,7 @@ from typing import Callable, Dict, List, Sequence
 sys.dont_write_bytecode = True
 
 from hostile import (
-    BREAK, CODE_AT, DATA_AT, NOP, RETURN, Halves, Symbol, branch, far, file_of, file_with, jump, sections_of,
+    BREAK, CODE_AT, DATA_AT, NOP, RETURN, Halves, Symbol, add, branch, far, file_of, file_with, jump, sections_of,
     short_jump, table_jump,
 )
 
@@ -109,6 +109,54 @@ def one_table(n: int) -> bytes:
     return file_with(halves + RETURN * entries, data=data)
 
 
+def zigzag(n: int) -> bytes:
+    """A body of N blocks that jump forward and back in turn, from the outermost ones inwards: whoever goes over them by
+    rising or by falling addresses learns of two blocks at a time."""
+    order = [place // 2 if place % 2 == 0 else n - 1 - place // 2 for place in range(n)]
+    onward = dict(zip(order, order[1:]))
+    halves: Halves = []
+    for place in range(n):
+        halves += jump(0, 4 * (onward[place] - place)) if place in onward else RETURN + NOP
+    return file_with(halves)
+
+
+def shared_tail(n: int) -> bytes:
+    """N / 16 functions, each of which jumps to each of the same 16 blocks, which are no entries: each of these has as many
+    blocks before it as there are functions, and one of these in each body. Each of the 16 sets another register."""
+    count, tail = max(1, n // 16), 16
+    length = STEP * tail // 2 + 1
+    halves: Halves = []
+    for place in range(count):
+        front = (count - place) * length
+        halves += branches_to([front + 2 * block for block in range(tail)])
+    for block in range(tail):
+        halves += add(16 + block, 0, 0)
+    return file_with(halves + RETURN, symbols_at(range(0, count * length, length)))
+
+
+def one_long_body(n: int) -> bytes:
+    """A function of N blocks, one after another, the last of which reads a register that none of them sets."""
+    return file_with(branch(0, 0, 0, 4) * n + add(0, 10, 0) + BREAK)
+
+
+def waves(n: int) -> bytes:
+    """A loop over N blocks and 31 detours: each leads from behind the N blocks to a place before them, where another
+    register is read, and back. Each register is live everywhere, and the one read in detour k is learnt of at the N blocks
+    after k ways back."""
+    registers = range(1, 32)
+    reads, length = [add(0, register, 0) for register in registers], 8
+    front = 4 + length * len(registers)
+    behind = front + 4 * n
+    halves = jump(0, front)
+    for place, read in enumerate(reads):
+        after = behind + 4 * (place + 1) if place + 1 < len(reads) else front
+        halves += read + jump(0, after - (4 + length * place + 4))
+    halves += branch(0, 0, 0, 4) * n
+    for place in range(len(reads)):
+        halves += jump(0, 4 + length * place - (behind + 4 * place))
+    return file_with(halves)
+
+
 def streams(n: int) -> bytes:
     """N halfwords each of which begins an instruction of four bytes, so that two streams overlap up to the end, with a
     symbol at each."""
@@ -124,7 +172,7 @@ def streams_that_meet(n: int) -> bytes:
 SHAPES: Dict[str, Callable[[int], bytes]] = {
     shape.__name__: shape for shape in (
         symbols, symbols_on_lines, rising, falling, last_then_rising, one_callee, one_callee_that_stays, call_chain,
-        branches_to_one, one_table, streams, streams_that_meet,
+        branches_to_one, one_table, zigzag, shared_tail, one_long_body, waves, streams, streams_that_meet,
     )
 }
 

@@ -1,28 +1,235 @@
-"""The parts of an ELF file that the scripts of this folder look at: its sections, code and function symbols."""
+"""ELF files, as the scripts of this folder look at them: `Elf` for places, names and bytes of a file that a report is of, and
+`Memory` for what memory holds of a file that entries are added to."""
 
 from __future__ import annotations
 
 import bisect
 import struct
+import zlib
 from typing import Dict, Iterator, List, NamedTuple, Optional, Tuple
 
 import names
 from cfg_report import ReportError, name_field
 
-PROGBITS, SYMTAB, NOBITS, FUNC = 1, 2, 8, 2
-WRITE, ALLOC, ALLOC_AND_EXECINSTR, THREADS = 0x1, 0x2, 0x6, 0x400
+PROGBITS, SYMTAB, STRTAB, RELA, NOBITS = 1, 2, 3, 4, 8
+INIT_ARRAY, FINI_ARRAY, PREINIT_ARRAY = 14, 15, 16
+WRITE, ALLOC, EXECINSTR, THREADS, COMPRESSED = 0x1, 0x2, 0x4, 0x400, 0x800
+FUNC = 2
+RELRO_SEGMENT = 0x6474E552
+# Relocations of a file that is loaded at its own addresses: what is put at the place is the addend, or the address of a
+# function that answers it.
+RELATIVE, IRELATIVE = 3, 58
+HEADER_SIZE, SECTION_SIZE, SYMBOL_SIZE = 64, 64, 24
+
+
+# ---- files
 
 
 class Header(NamedTuple):
-    """A section header, as far as it is wanted. `name` is a place in the table of names."""
+    """A section header, with its place in the table and its name."""
 
-    name: int
+    index: int
+    name: bytes
     kind: int
     flags: int
     address: int
     offset: int
     size: int
     link: int
+
+    @property
+    def end(self) -> int:
+        return self.address + self.size
+
+    @property
+    def is_code(self) -> bool:
+        return self.kind == PROGBITS and self.flags & (ALLOC | EXECINSTR) == ALLOC | EXECINSTR
+
+
+class Function(NamedTuple):
+    """A function symbol of a code section, by its bytes."""
+
+    address: int
+    size: int
+    name: bytes
+    section: int
+
+
+class File:
+    """An ELF-64 file for RISC-V: its bytes, its section headers and its function symbols."""
+
+    def __init__(self, path: str) -> None:
+        self.path = path
+        with open(path, "rb") as file:
+            self.data = file.read()
+        if self.data[:6] != b"\x7fELF\x02\x01" or len(self.data) < HEADER_SIZE:
+            raise ReportError(f"{path}: no ELF file of 64 bits, little-endian")
+        try:
+            self._read_headers()
+            self._read()
+        except (struct.error, IndexError):
+            raise ReportError(f"{path}: a broken ELF file, whose tables do not lie in it") from None
+
+    def _read_headers(self) -> None:
+        self.entry, self.section_table = struct.unpack_from("<Q8xQ", self.data, 24)
+        size, count, self.names_index = struct.unpack_from("<HHH", self.data, 58)
+        places = range(self.section_table, self.section_table + size * count, size) if size >= SECTION_SIZE else ()
+        raw = [struct.unpack_from("<IIQQQQI", self.data, place) for place in places]
+        strings = b""
+        if self.names_index < len(raw):
+            strings = self.data[raw[self.names_index][4]:raw[self.names_index][4] + raw[self.names_index][5]]
+        self.headers = [Header(index, _text(strings, one[0]), *one[1:]) for index, one in enumerate(raw)]
+
+    def _read(self) -> None:
+        """Reads what else is wanted of the file."""
+
+    def contents(self, section: Header) -> bytes:
+        """The bytes of a section, unpacked where they are packed."""
+        data = b"" if section.kind == NOBITS else self.data[section.offset:section.offset + section.size]
+        if not section.flags & COMPRESSED:
+            return data
+        try:
+            kind, size = struct.unpack_from("<I4xQ", data)
+            if kind != 1 or size > 1 << 30:
+                raise ReportError(f"{self.path}: {section.name.decode('latin-1')} is packed in a way that is not read here")
+            return zlib.decompress(data[24:])
+        except (struct.error, zlib.error):
+            raise ReportError(f"{self.path}: {section.name.decode('latin-1')} is packed, and broken") from None
+
+    def functions(self) -> Iterator[Function]:
+        """The function symbols that name code sections, in the order of the tables."""
+        for table in self.headers:
+            if table.kind != SYMTAB:
+                continue
+            strings = self.contents(self.headers[table.link]) if table.link < len(self.headers) else b""
+            data = self.contents(table)
+            for at in range(0, len(data) - SYMBOL_SIZE + 1, SYMBOL_SIZE):
+                name, info, _, section, value, size = struct.unpack_from("<IBBHQQ", data, at)
+                if info % 16 == FUNC and 0 < section < len(self.headers) and self.headers[section].is_code:
+                    yield Function(value, size, _text(strings, name), section)
+
+
+def _text(strings: bytes, at: int) -> bytes:
+    end = strings.find(b"\0", at)
+    return strings[at:end] if at < end else b""
+
+
+# ---- what memory holds
+
+
+class Memory(File):
+    """A file, and what memory holds of it when it is loaded at its own addresses."""
+
+    def section(self, *names: str) -> Optional[Header]:
+        """The first section of one of these names."""
+        wanted = [name.encode() for name in names]
+        return next((section for section in self.sections if section.name in wanted), None)
+
+    def symbols(self) -> Iterator[Function]:
+        """The function symbols that stand at an address of the code section which they name, in the order of the table."""
+        for one in self.functions():
+            section = self.sections[one.section]
+            if section.address <= one.address and one.address + 2 <= section.end:
+                yield one
+
+    def code_at(self, address: int) -> Optional[Header]:
+        """The code section in which an instruction can stand at an address."""
+        place = bisect.bisect_right(self._code_starts, address) - 1
+        if place < 0 or address % 2:
+            return None
+        found = self.code[place]
+        return found if address + 2 <= found.end else None
+
+    def is_code(self, address: int) -> bool:
+        """Whether an instruction can stand at an address."""
+        return self.code_at(address) is not None
+
+    def half(self, address: int) -> Optional[int]:
+        """The two bytes of code at an address."""
+        found = self.code_at(address)
+        if found is None:
+            return None
+        at = found.offset + address - found.address
+        return self.data[at] | self.data[at + 1] << 8
+
+    def instruction(self, address: int) -> Optional[int]:
+        """The instruction word at an address, of two bytes or of four."""
+        found = self.code_at(address)
+        if found is None:
+            return None
+        at = found.offset + address - found.address
+        half = self.data[at] | self.data[at + 1] << 8
+        if half & 3 != 3:
+            return half
+        return half | self.data[at + 2] << 16 | self.data[at + 3] << 24 if address + 4 <= found.end else None
+
+    def section_at(self, address: int, size: int = 1) -> Optional[Header]:
+        """The section of memory that has all bytes from an address on."""
+        place = bisect.bisect_right(self._starts, address) - 1
+        # Sections lie apart in memory but for empty ones and those of threads, which are left out.
+        if place < 0 or address + size > self.allocated[place].end:
+            return None
+        return self.allocated[place]
+
+    def word(self, address: int, size: int, signed: bool = False) -> Optional[int]:
+        """The number of so many bytes that memory holds at an address, where the file says it."""
+        if size == 8 and address in self.relocated:
+            return self.relocated[address]
+        section = self.section_at(address, size)
+        if section is None or section.kind == NOBITS:
+            return None
+        at = section.offset + address - section.address
+        return int.from_bytes(self.data[at:at + size], "little", signed=signed)
+
+    def is_read_only(self, address: int, size: int) -> bool:
+        """Whether the running program cannot write to bytes, at least once it has been relocated."""
+        section = self.section_at(address, size)
+        if section is None:
+            return False
+        return not section.flags & WRITE or any(start <= address and address + size <= end for start, end in self._relro)
+
+    def _read(self) -> None:
+        self.sections = self.headers
+        if not self.sections:
+            raise ReportError(f"{self.path}: no section headers, so that nothing says where its code is")
+        for one in self.sections:
+            if one.kind not in (0, NOBITS) and one.offset + one.size > len(self.data):
+                raise ReportError(f"{self.path}: section {one.index} does not lie in the file")
+        self.code = sorted((one for one in self.sections if one.is_code and one.size), key=lambda one: one.address)
+        self._code_starts = [one.address for one in self.code]
+        self.allocated = sorted((one for one in self.sections if one.flags & ALLOC and one.size
+                                 and not (one.flags & THREADS and one.kind == NOBITS)), key=lambda one: one.address)
+        self._starts = [one.address for one in self.allocated]
+        self._relro = [(one.address, one.end) for one in self.sections if one.name.startswith(b".data.rel.ro")]
+        self._relro += self._relro_segments()
+        self.relocated, self.resolvers = self._relocations()
+
+    def _relro_segments(self) -> Iterator[Tuple[int, int]]:
+        """The ranges that are read-only once the file is relocated."""
+        table, = struct.unpack_from("<Q", self.data, 32)
+        size, count = struct.unpack_from("<HH", self.data, 54)
+        for i in range(count if size >= 56 else 0):
+            kind, start, length = struct.unpack_from("<I12xQ16xQ", self.data, table + size * i)
+            if kind == RELRO_SEGMENT:
+                yield start, start + length
+
+    def _relocations(self) -> Tuple[Dict[int, int], List[int]]:
+        """What relocations put into words of eight bytes, and the functions that answer an address when it is loaded."""
+        found: Dict[int, int] = {}
+        resolvers: List[int] = []
+        for section in self.sections:
+            if section.kind == RELA and section.flags & ALLOC:
+                data = self.data[section.offset:section.offset + section.size]
+                for at in range(0, len(data) - 23, 24):
+                    place, info, addend = struct.unpack_from("<QQQ", data, at)
+                    if info == RELATIVE:
+                        found[place] = addend
+                    elif info == IRELATIVE:
+                        resolvers.append(addend)
+        return found, resolvers
+
+
+# ---- places and names
 
 
 class Code(NamedTuple):
@@ -34,7 +241,7 @@ class Code(NamedTuple):
 
 
 class Symbol(NamedTuple):
-    """A function symbol of a code section."""
+    """A function symbol of a code section, by its name as a report has it."""
 
     address: int
     size: int
@@ -55,26 +262,16 @@ class Section(NamedTuple):
     data: bytes
 
 
-class Elf:
-    """An ELF-64 file for RISC-V."""
+class Elf(File):
+    """A file, by the places and names in it."""
 
-    def __init__(self, path: str) -> None:
-        self.path = path
-        with open(path, "rb") as file:
-            self._bytes = file.read()
-        if self._bytes[:6] != b"\x7fELF\x02\x01":
-            raise ReportError(f"{path}: no ELF file of 64 bits, little-endian")
-        try:
-            self.entry, = struct.unpack_from("<Q", self._bytes, 24)
-            self._headers = self._read_headers()
-            self.code = sorted(self._read_code())
-            self.sections = sorted(self._read_sections())
-            self._names = self._read_names()
-            self._places = sorted(self._names)
-            self.owners = owners(self.symbols(), self.code)
-            self._owners = [start for start, _, _ in self.owners]
-        except (struct.error, IndexError):
-            raise ReportError(f"{path}: a broken ELF file, whose tables do not lie in it") from None
+    def _read(self) -> None:
+        self.code = sorted(self._read_code())
+        self.sections = sorted(self._read_sections())
+        self._names = self._read_names()
+        self._places = sorted(self._names)
+        self.owners = owners(self.symbols(), self.code)
+        self._owners = [start for start, _, _ in self.owners]
 
     def bytes_at(self, start: int, end: int) -> Optional[bytes]:
         """The bytes of code from `start` up to `end`, where they lie in one section."""
@@ -125,49 +322,31 @@ class Elf:
         data = section.data[address - section.start:address - section.start + size] if section else b""
         return int.from_bytes(data, "little") if len(data) == size else None
 
-    def _read_headers(self) -> List[Header]:
-        table, = struct.unpack_from("<Q", self._bytes, 40)
-        size, count = struct.unpack_from("<HH", self._bytes, 58)
-        places = range(table, table + size * count, size)
-        return [Header(*struct.unpack_from("<IIQQQQI", self._bytes, place)) for place in places] if size else []
-
-    def _is_code(self, header: Header) -> bool:
-        return header.kind == PROGBITS and header.flags & ALLOC_AND_EXECINSTR == ALLOC_AND_EXECINSTR
-
     def _read_code(self) -> Iterator[Code]:
-        for header in filter(self._is_code, self._headers):
-            data = self._bytes[header.offset:header.offset + header.size]
+        for one in self.headers:
+            data = self.data[one.offset:one.offset + one.size] if one.is_code else b""
             if data:
-                yield Code(header.address, header.address + len(data), data)
+                yield Code(one.address, one.address + len(data), data)
 
     def _read_sections(self) -> Iterator[Section]:
-        names_at, = struct.unpack_from("<H", self._bytes, 62)
-        for header in self._headers:
-            if header.flags & ALLOC and not header.flags & THREADS:
-                name = self._name(self._headers[names_at].offset + header.name)
-                data = self._bytes[header.offset:header.offset + header.size] if header.kind != NOBITS else b""
-                yield Section(header.address, header.address + header.size, name, bool(header.flags & WRITE), data)
+        for one in self.headers:
+            if one.flags & ALLOC and not one.flags & THREADS:
+                data = self.data[one.offset:one.offset + one.size] if one.kind != NOBITS else b""
+                yield Section(one.address, one.end, _shown(one.name), bool(one.flags & WRITE), data)
 
     def _read_names(self) -> Dict[int, Symbol]:
         """The function symbol of each address that has one, by its least name, and of the greatest size."""
         found: Dict[int, Symbol] = {}
-        for symbol in self._read_symbols():
-            other = found.get(symbol.address, symbol)
-            found[symbol.address] = Symbol(symbol.address, max(symbol.size, other.size), min(symbol.name, other.name))
+        for one in self.functions():
+            other = found.get(one.address)
+            name, size = _shown(one.name), one.size
+            found[one.address] = Symbol(one.address, max(size, other.size), min(name, other.name)) if other else Symbol(one.address, size, name)
         return found
 
-    def _read_symbols(self) -> Iterator[Symbol]:
-        for table in self._headers:
-            if table.kind == SYMTAB:
-                strings = self._headers[table.link].offset
-                for at in range(table.offset, table.offset + table.size, 24):
-                    name, info, _, section, value, size = struct.unpack_from("<IBBHQQ", self._bytes, at)
-                    if info % 16 == FUNC and 0 < section < len(self._headers) and self._is_code(self._headers[section]):
-                        yield Symbol(value, size, self._name(strings + name))
 
-    def _name(self, at: int) -> str:
-        end = self._bytes.find(b"\0", at)
-        return name_field(self._bytes[at:end]) if at < end else "-"
+def _shown(name: bytes) -> str:
+    """A name as a report has it."""
+    return name_field(name or None)
 
 
 def owners(symbols: List[Symbol], code: List[Code]) -> List[Tuple[int, int, Symbol]]:

@@ -7,7 +7,7 @@ from __future__ import annotations
 from typing import Dict, Iterator, List, NamedTuple, Optional, Tuple
 
 from cfg_report import ReportError
-from elf_memory import NOBITS, Memory, Section
+from elf_file import NOBITS, Header, Memory
 
 OMITTED = 0xFF
 ABSOLUTE, RELATIVE_TO_PLACE, RELATIVE_TO_TEXT, RELATIVE_TO_DATA, RELATIVE_TO_FUNCTION, ALIGNED = 0, 0x10, 0x20, 0x30, 0x40, 0x50
@@ -114,7 +114,7 @@ class Reader:
 class Frames:
     """Reads one section of frame descriptions."""
 
-    def __init__(self, elf: Memory, section: Section, is_debugging: bool) -> None:
+    def __init__(self, elf: Memory, section: Header, is_debugging: bool) -> None:
         self._elf, self._is_debugging = elf, is_debugging
         self._data, self._address = elf.contents(section), section.address
         self._shared: Dict[int, Shared] = {}

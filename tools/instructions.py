@@ -12,6 +12,8 @@ NAMES = ("zero ra sp gp tp t0 t1 t2 s0 s1 a0 a1 a2 a3 a4 a5 a6 a7 s2 s3 s4 s5 s6
 FLOATS = ("ft0 ft1 ft2 ft3 ft4 ft5 ft6 ft7 fs0 fs1 fa0 fa1 fa2 fa3 fa4 fa5 fa6 fa7 fs2 fs3 fs4 fs5 fs6 fs7 fs8 fs9 fs10"
           " fs11 ft8 ft9 ft10 ft11").split()
 ARGUMENTS = range(10, 18)
+# The word of `unimp`, csrrw x0, cycle, x0.
+UNIMP = 0xC0001073
 # What a call leaves as it was: sp, gp, tp and the registers s0 to s11.
 KEPT_BY_CALLS = frozenset((2, 3, 4, 8, 9, *range(18, 28)))
 
@@ -101,6 +103,20 @@ def signed(value: int, bits: int) -> int:
     return value - (1 << bits) if value >> bits - 1 else value
 
 
+def immediate(word: int, row: Row) -> int:
+    """The immediate of the form that the opcode of a word has."""
+    opcode = word & 0x7F
+    if opcode in (0x37, 0x17):
+        return signed(word & 0xFFFFF000, 32)
+    if opcode == 0x6F:
+        return signed(_bits(word, (21, 10, 1), (20, 1, 11), (12, 8, 12), (31, 1, 20)), 21)
+    if opcode == 0x63:
+        return signed(_bits(word, (8, 4, 1), (25, 6, 5), (7, 1, 11), (31, 1, 12)), 13)
+    if opcode in (0x23, 0x27):
+        return signed((word >> 25) << 5 | word >> 7 & 31, 12)
+    return word >> 20 & 63 if "h" in row.operands else signed(word >> 20, 12)
+
+
 class Instruction(NamedTuple):
     """An instruction. `word` is that of the instruction itself, which a compressed one stands for."""
 
@@ -132,16 +148,7 @@ class Instruction(NamedTuple):
     @property
     def immediate(self) -> int:
         """The immediate of the form that the opcode has; of a branch or JAL it is relative to the address."""
-        word, opcode = self.word, self.word & 0x7F
-        if opcode in (0x37, 0x17):
-            return signed(word & 0xFFFFF000, 32)
-        if opcode == 0x6F:
-            return signed(_bits(word, (21, 10, 1), (20, 1, 11), (12, 8, 12), (31, 1, 20)), 21)
-        if opcode == 0x63:
-            return signed(_bits(word, (8, 4, 1), (25, 6, 5), (7, 1, 11), (31, 1, 12)), 13)
-        if opcode in (0x23, 0x27):
-            return signed((word >> 25) << 5 | word >> 7 & 31, 12)
-        return word >> 20 & 63 if "h" in self.row.operands else signed(word >> 20, 12)
+        return immediate(self.word, self.row)
 
     @property
     def target(self) -> int:
@@ -171,6 +178,11 @@ class Instruction(NamedTuple):
     def is_turn(self) -> bool:
         """Whether it is a branch, JAL or JALR."""
         return self.word & 0x7F in (0x63, 0x67, 0x6F)
+
+    @property
+    def is_straight(self) -> bool:
+        """Whether control goes straight on behind it: it is no branch or jump, and neither EBREAK nor `unimp`."""
+        return not self.is_turn and self.name != "ebreak" and self.word != UNIMP
 
     @property
     def text(self) -> str:
@@ -318,15 +330,24 @@ def _moves(half: int, rd: int, rs2: int) -> Optional[int]:
 # ---- decoding
 
 _known: Dict[int, Optional[Tuple[int, int, Row]]] = {}
+# The numbers of no rounding mode, in the field funct3 of an operation on floats that rounds.
+_NO_ROUNDING = (5, 6)
 
 
-def _decoded(raw: int) -> Optional[Tuple[int, int, Row]]:
-    """The length, the word and the row of what begins with these four bytes."""
+def _is_float(word: int) -> bool:
+    """Whether a word has an opcode of an operation on floats."""
+    return word & 0x7F in (0x43, 0x47, 0x4B, 0x4F, 0x53)
+
+
+def decoded(raw: int) -> Optional[Tuple[int, int, Row]]:
+    """The length, the word and the row of an instruction word of four bytes, or of one of two bytes."""
     length, word = (4, raw) if raw & 3 == 3 else (2, expanded(raw & 0xFFFF))
     if word is None:
         return None
     row = next((row for row in _TABLE.get(word & 0x7F, ()) if word & row.mask == row.match), None)
-    return (length, word, row) if row else None
+    if row is None or _is_float(word) and not row.mask >> 12 & 7 and word >> 12 & 7 in _NO_ROUNDING:
+        return None
+    return length, word, row
 
 
 def decode(data: bytes, address: int) -> Optional[Instruction]:
@@ -337,6 +358,6 @@ def decode(data: bytes, address: int) -> Optional[Instruction]:
     if data[0] & 3 == 3 and len(data) < 4:
         return None
     if raw not in _known:
-        _known[raw] = _decoded(raw)
+        _known[raw] = decoded(raw)
     found = _known[raw]
     return Instruction(address, *found) if found else None

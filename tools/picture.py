@@ -3,6 +3,7 @@
 from __future__ import annotations
 
 import argparse
+import html
 import os
 import shutil
 import subprocess
@@ -27,6 +28,18 @@ def quoted(text: str) -> str:
 def left_lines(lines: Iterable[str]) -> str:
     """Lines of a label, each of them at the left."""
     return '"' + "".join(quoted(line)[1:-1] + "\\l" for line in lines) + '"'
+
+
+def beside(lines: Iterable[str], notes: Iterable[str]) -> str:
+    """A label of lines, and of notes in a column of its own at their right."""
+    cells = [f'<td align="left" balign="left" valign="top">{_html(column)}</td>' for column in (lines, notes)]
+    noted = cells[1].replace("<td", '<td border="1" sides="L" cellpadding="4"', 1).replace(">", '><font color="darkgreen">', 1)
+    noted = noted[:-len("</td>")] + "</font></td>"
+    return f'<<table border="0" cellborder="0" cellspacing="0"><tr>{cells[0]}{noted}</tr></table>>'
+
+
+def _html(lines: Iterable[str]) -> str:
+    return "<br/>".join(html.escape(line) for line in lines)
 
 
 def wrapped(text: str, width: int) -> str:

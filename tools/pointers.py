@@ -7,7 +7,7 @@ import sys
 from typing import Dict, Iterable, Iterator, List, Set, Tuple
 
 from decoding import CALLER_SAVED, LOAD_SIZES, STORES, Insn
-from elf_memory import FINI_ARRAY, INIT_ARRAY, PREINIT_ARRAY, PROGBITS, Memory, Section
+from elf_file import FINI_ARRAY, INIT_ARRAY, PREINIT_ARRAY, PROGBITS, Header, Memory
 from reached import APART, Reached
 
 ARRAYS = (PREINIT_ARRAY, INIT_ARRAY, FINI_ARRAY)
@@ -25,7 +25,7 @@ def array_entries(elf: Memory) -> List[int]:
     return found
 
 
-def words(elf: Memory, section: Section) -> Iterator[Tuple[int, int]]:
+def words(elf: Memory, section: Header) -> Iterator[Tuple[int, int]]:
     """The aligned words of eight bytes of a section that are not zero, each with its address."""
     start = section.address + -section.address % 8
     at = section.offset + start - section.address

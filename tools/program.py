@@ -1,4 +1,4 @@
-"""The program `cfg`, for scripts that run it often and look at how it ends."""
+"""The programs, for scripts that run them often and look at how they end."""
 
 from __future__ import annotations
 
@@ -8,11 +8,16 @@ import subprocess
 from cfg_report import ReportError, TOP
 
 
-def built() -> str:
-    """The path of the program: what the variable CFG names, or what bin/cfg has built, which it does now if need be."""
-    path = os.environ.get("CFG") or os.path.join(TOP, "crates", "cfg", "out", "cfg")
-    if not os.environ.get("CFG") and not os.access(path, os.X_OK):
-        subprocess.run([os.path.join(TOP, "bin", "cfg")], stdin=subprocess.DEVNULL, check=False)
+PROGRAMS = ("cfg", "cfg_walk")
+
+
+def built(name: str = "cfg") -> str:
+    """The path of a program: what the variable CFG names, or CFG_WALK and so on, or what bin/NAME has built, which it does now
+    if need be."""
+    variable = os.environ.get(name.upper())
+    path = variable or os.path.join(TOP, "crates", name, "out", name)
+    if not variable and not os.access(path, os.X_OK):
+        subprocess.run([os.path.join(TOP, "bin", name)], stdin=subprocess.DEVNULL, check=False)
     status = subprocess.run([path], stdin=subprocess.DEVNULL, capture_output=True).returncode
     if status != 1:
         raise ReportError(f"{path} ended with status {status} without words, and should with 1")

@@ -9,7 +9,7 @@ from body import Body
 from cfg_report import Block, Edge, Function, Report, ReportError, address, function_name
 from changed_graph import Places
 from elf_file import Elf
-from traced_run import Trace
+from traces import Trace
 
 OPEN_KINDS = ("icall", "unknown", "table-open", "table-cut")
 

@@ -6,7 +6,7 @@ from typing import Dict, Iterator, List, Optional, Set, Tuple
 
 from cfg_report import Block, Report
 from decoding import UNKNOWN, Insn, decode
-from elf_memory import Memory
+from elf_file import Memory
 
 APART, START, INSIDE = 0, 1, 2
 LONGEST_TRIAL = 20_000

@@ -35,8 +35,22 @@ def command(description: str, sure: bool = False) -> argparse.ArgumentParser:
     return add_words(parser, sure)
 
 
+def live_command(description: str) -> argparse.ArgumentParser:
+    """The words of a script that reads live registers."""
+    parser = argparse.ArgumentParser(description=description)
+    what = "a report of kind live, - for standard input, or an ELF file to run cfg --report live on"
+    parser.add_argument("report", metavar="REPORT_OR_ELF", help=what)
+    parser.add_argument("--demangle", action="store_true", help="show names of C++ and Rust as c++filt does")
+    return parser
+
+
 def add_elf(parser: argparse.ArgumentParser, what: str) -> None:
     parser.add_argument("--elf", help=f"the ELF file that the report is of, {what}")
+
+
+def add_live(parser: argparse.ArgumentParser) -> None:
+    """The word that asks `cfg` for a report of kind live, where it is run."""
+    parser.add_argument("--live", action="store_true", help="run cfg for the live registers of an ELF file, not for its graph")
 
 
 def address(text: str) -> int:
@@ -59,8 +73,13 @@ def items(words: argparse.Namespace, path: str, elf: Optional[Elf] = None) -> It
     if words.edges or getattr(words, "sure", False):
         yield from report(words, path, elf, whole=False).items()
         return
-    with cfg_report.opened(path) as stream:
+    with cfg_report.opened(path, kind=_kind(words)) as stream:
         yield from _matching(stream, elf)
+
+
+def _kind(words: argparse.Namespace) -> str:
+    """The kind of report to run `cfg` for."""
+    return "live" if getattr(words, "live", False) else "graph"
 
 
 def _matching(stream: BinaryIO, elf: Optional[Elf]) -> Iterator[Item]:
@@ -77,11 +96,18 @@ def _matching(stream: BinaryIO, elf: Optional[Elf]) -> Iterator[Item]:
         yield item
 
 
+def lives(words: argparse.Namespace, path: str) -> Report:
+    """A report of kind live, of a file or of what `cfg` says of an ELF file."""
+    names.demangle(words.demangle)
+    with cfg_report.naming(path), cfg_report.opened(path, kind="live") as stream:
+        return Report(cfg_report.read(stream)).want("live")
+
+
 def report(words: argparse.Namespace, path: str, elf: Optional[Elf] = None, whole: bool = True) -> Report:
     """The whole report that the words ask for, compared with the ELF file. One that is to be whole must be of kind graph
     and fit together."""
     names.demangle(words.demangle)
-    with cfg_report.naming(path), cfg_report.opened(path) as stream:
+    with cfg_report.naming(path), cfg_report.opened(path, kind=_kind(words)) as stream:
         found = Report(_matching(stream, elf))
         if whole or words.edges or getattr(words, "sure", False):
             found.want("graph")

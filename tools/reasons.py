@@ -5,15 +5,15 @@ from __future__ import annotations
 from typing import List, NamedTuple, Optional, Tuple
 
 from cfg_report import Block
-from instructions import ARGUMENTS, NAMES, Instruction, signed
+from instructions import ARGUMENTS, NAMES, UNIMP, Instruction, signed
 from tables import Use, use_of_table
 from unsure import Unsure
 from values import CALL, CALLER, Code, Place, Setter, Values, copied
 
 KINDS = ("unknown", "icall", "table-cut", "table-open", "branch-out", "stop")
 RETURN = bytes.fromhex("8280")
-# The word of `unimp`, and how many instructions may go straight on to the jump of a table.
-UNIMP, MOST_STRAIGHT = 0xC0001073, 16
+# How many instructions may go straight on to the jump of a table.
+MOST_STRAIGHT = 16
 
 
 class Why(NamedTuple):

@@ -6,8 +6,7 @@ import bisect
 from typing import Dict, Iterable, List, Optional, Tuple
 
 from cfg_report import Block, Report, ReportError
-from elf_file import joined, size_of
-from elf_memory import Memory
+from elf_file import Memory, joined, size_of
 from frames import frames, landing_pads
 from pointers import array_entries, pointers_in_data
 from reached import Reached

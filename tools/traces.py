@@ -1,28 +1,199 @@
-"""Where a run jumped or called through a register, by the addresses that it executed one after the other."""
+"""Traces: what a run has executed, from a file or from a qemu that is started for it.
+
+A trace is read in one pass and never kept. Its lines are addresses in hexadecimal digits, or those of a log of qemu:
+
+- `-d in_asm`: all instructions of what qemu translates, which it does when control comes there first;
+- `-d exec,nochain`: the first address of each part that it runs, and with `-singlestep` of each instruction;
+- `-d strace` beside these: system calls, and the signals that a thread gets.
+"""
 
 from __future__ import annotations
 
+import contextlib
+import os
 import re
-from typing import Dict, Iterator, List, Optional, Tuple
+import select
+import signal
+import subprocess
+import sys
+import tempfile
+from typing import BinaryIO, Dict, Iterator, List, NamedTuple, Optional, Tuple
 
 from cfg_report import ReportError
 from decoding import Insn, decode
-from elf_memory import Memory
+from elf_file import Memory
+from progress import Progress
 
+MOST_KNOWN = 1 << 18
 JUMP, RETURN, OTHER = 0, 1, 2
-_LOG = re.compile(rb"Trace \d+: \S+ \[[0-9a-f]*/([0-9a-f]+)[/\]]")
-_ADDRESS = re.compile(rb"\s*(?:0x)?([0-9a-fA-F]{1,16})\s*$")
+
+_PLAIN = re.compile(rb"\s*(?:0x)?([0-9a-fA-F]{1,16})\s*")
+_TRANSLATED = re.compile(rb"0x([0-9a-f]+):\s+((?:[0-9a-f]{4} ?)+)\s")
+_RUN = re.compile(rb"Trace (\d+): \S+ \[[0-9a-f]*/([0-9a-f]+)[/\]]")
+_SIGNAL = b"--- SIG"
+_BESIDE = (b"Linking ", b"Trace ", b"Stopped ", b"cpu_")
 
 
-def addresses(path: str) -> Iterator[int]:
-    """The addresses of a trace: one a line, or lines of a log of qemu."""
-    with open(path, "rb") as file:
-        for number, line in enumerate(file, 1):
-            found = _ADDRESS.match(line) or _LOG.match(line)
-            if found:
-                yield int(found[1], 16)
-            elif line.strip() and not line.startswith((b"Linking ", b"Trace ", b"Stopped ", b"cpu_")):
-                raise ReportError(f"{path}: line {number}: no address in hexadecimal digits, and no line of a log of qemu")
+# ---- lines
+
+
+class Step(NamedTuple):
+    """An address that was executed. `length` is the instruction's in bytes, if the trace tells it. With `is_part` it is
+    where a part begins that runs straight on, of which the trace has no more."""
+
+    address: int
+    length: int
+    is_part: bool = False
+
+
+def _step(line: bytes) -> Optional[Step]:
+    found = _TRANSLATED.match(line)
+    if found:
+        return Step(int(found[1], 16), len(found[2].replace(b" ", b"")) // 2)
+    found = _PLAIN.fullmatch(line)
+    if found:
+        return Step(int(found[1], 16), 0)
+    found = _RUN.match(line)
+    return Step(int(found[2], 16), 0, True) if found else None
+
+
+class Trace:
+    """The steps of a trace. If the entry is given and the program was loaded elsewhere than its file says, as a
+    position-independent one is, its first address tells by how much. If a path is given, a line of no trace is an error
+    that names it."""
+
+    def __init__(self, stream: BinaryIO, entry: Optional[int] = None, path: Optional[str] = None) -> None:
+        self._stream, self._path = stream, path
+        self._entry = entry
+        self._moved: Optional[int] = 0 if entry is None else None
+        self.lines = 0
+
+    def steps(self) -> Iterator[Step]:
+        progress = Progress(lambda: f"{self.lines} lines of the trace are read")
+        # A loop writes the same lines again and again.
+        known: Dict[bytes, Optional[Step]] = {}
+        for self.lines, line in enumerate(self._stream, 1):
+            if self.lines % 4096 == 0:
+                progress.step()
+                if len(known) > MOST_KNOWN:
+                    known.clear()
+            if line not in known:
+                known[line] = self._placed(_step(line), line)
+            step = known[line]
+            if step is not None:
+                yield step
+
+    def _placed(self, step: Optional[Step], line: bytes) -> Optional[Step]:
+        """The step where the file has it."""
+        if step is None:
+            if self._path is not None and line.strip() and not line.startswith(_BESIDE):
+                what = "no address in hexadecimal digits, and no line of a log of qemu"
+                raise ReportError(f"{self._path}: line {self.lines}: {what}")
+            return None
+        if self._moved is None:
+            assert self._entry is not None
+            moved = step.address - self._entry
+            self._moved = moved if moved % 4096 == 0 else 0
+        return step._replace(address=step.address - self._moved)
+
+
+class Log:
+    """The steps of each thread, of a log of `-singlestep -d exec,nochain,strace`."""
+
+    def __init__(self, stream: BinaryIO) -> None:
+        self._stream = stream
+        self.lines = 0
+
+    def steps(self) -> Iterator[Optional[Tuple[int, int]]]:
+        """The number of a thread and the address that it executes; None for a signal that comes to one of them."""
+        progress = Progress(lambda: f"{self.lines} lines of the log are read")
+        known: Dict[bytes, Tuple[int, int]] = {}
+        for self.lines, line in enumerate(self._stream, 1):
+            step = known.get(line)
+            if step is not None:
+                yield step
+                continue
+            progress.step()
+            # What another thread logs may stand behind the words of a system call, on one line.
+            if _SIGNAL in line:
+                yield None
+            found = [(int(one[1]), int(one[2], 16)) for one in _RUN.finditer(line)]
+            yield from found
+            if len(found) == 1:
+                if len(known) > MOST_KNOWN:
+                    known.clear()
+                known[line] = found[0]
+
+
+# ---- runs
+
+
+class Run:
+    """A program that is traced. `status` is what it ended with; it has none if it was stopped."""
+
+    def __init__(self, stream: BinaryIO, process: "Optional[subprocess.Popen[bytes]]" = None) -> None:
+        self.stream = stream
+        self.status: Optional[int] = None
+        self._process, self._is_stopped = process, False
+
+    def stop(self) -> None:
+        """Ends the program, of which no more is wanted."""
+        if self._process is not None:
+            self._is_stopped = True
+            self._process.kill()
+
+    def wait(self) -> None:
+        if self._process is not None:
+            status = self._process.wait()
+            self.status = None if self._is_stopped else status
+
+
+@contextlib.contextmanager
+def opened(path: Optional[str], command: List[str], what: str) -> Iterator[Run]:
+    """The trace of a file, of standard input for `-`, or of a command of qemu, which is started, and logs what is asked for
+    into a pipe. What the program prints goes to standard error."""
+    if not command:
+        if path is None:
+            raise ReportError("there is no trace: name a file, or a command of qemu behind --")
+        if path == "-":
+            yield Run(sys.stdin.buffer)
+        else:
+            with open(path, "rb") as stream:
+                yield Run(stream)
+        return
+    with tempfile.TemporaryDirectory() as folder:
+        pipe = os.path.join(folder, "trace")
+        os.mkfifo(pipe)
+        end = os.open(pipe, os.O_RDONLY | os.O_NONBLOCK)
+        # Ctrl-C ends the program alone, which may be one that never ends, and then what it has run is told.
+        before = signal.signal(signal.SIGINT, lambda *_: None)
+        try:
+            started = subprocess.Popen(_traced(command, what, pipe), stdout=sys.stderr)
+            with started as process, _begun(end, process) as stream:
+                run = Run(stream, process)
+                yield run
+                run.wait()
+        finally:
+            signal.signal(signal.SIGINT, before)
+
+
+def _traced(command: List[str], what: str, pipe: str) -> List[str]:
+    """The command with the words for a log, after qemu, before which others may stand, as `timeout 5`."""
+    after = next((place for place, word in enumerate(command, 1) if "qemu" in os.path.basename(word)), 1)
+    return [*command[:after], "-d", what, "-D", pipe, *command[after:]]
+
+
+def _begun(end: int, process: "subprocess.Popen[bytes]") -> BinaryIO:
+    """The stream of a pipe, once there is something in it, or the program that writes to it has ended."""
+    waiting = select.poll()
+    waiting.register(end, select.POLLIN | select.POLLHUP)
+    while not waiting.poll(100) and process.poll() is None:
+        pass
+    os.set_blocking(end, True)
+    return os.fdopen(end, "rb")
+
+
+# ---- arrivals through registers
 
 
 def arrivals(elf: Memory, path: str) -> List[List[int]]:
@@ -31,13 +202,15 @@ def arrivals(elf: Memory, path: str) -> List[List[int]]:
     found: Tuple[Dict[int, None], ...] = ({}, {}, {})
     seen = set()
     last = -1
-    for at in addresses(path):
-        if (last, at) not in seen:
-            seen.add((last, at))
-            kind = _arrival(elf, last, at)
-            if kind is not None and elf.is_code(at):
-                found[kind][at] = None
-        last = at
+    with open(path, "rb") as stream:
+        for step in Trace(stream, path=path).steps():
+            at = step.address
+            if (last, at) not in seen:
+                seen.add((last, at))
+                kind = _arrival(elf, last, at)
+                if kind is not None and elf.is_code(at):
+                    found[kind][at] = None
+            last = at
     return [list(places) for places in found]
 
 

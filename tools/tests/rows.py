@@ -13,7 +13,8 @@ sys.dont_write_bytecode = True
 
 
 class Row(NamedTuple):
-    """A function is `entry status name: blocks`, a block `start end kind` and an edge `from to kind`."""
+    """A function is `entry status name: blocks`, a block `start end kind` and an edge `from to kind`. `masks` has the live
+    registers of the blocks at which not all of x1 to x31 are live; no block of these rows has two masks."""
 
     functions: str
     blocks: str
@@ -21,50 +22,63 @@ class Row(NamedTuple):
     code: str = ""
     data: str = ""
     entry: str = "10000"
+    masks: str = ""
 
 
 ROWS: Dict[int, Row] = {
     # No row of that page but the example of docs/REPORT.md: a return that is taken for a jump.
-    0: Row("10000 may-return -: 10000", "10000 10008 unknown", code="80970513 80820001"),
+    0: Row("10000 may-return -: 10000", "10000 10008 unknown", code="80970513 80820001", masks="10000 fffffbfe"),
     1: Row("10000 may-return -: 10000", "10000 10004 return", code="00008067"),
-    5: Row("10000 may-return a: 10000, 10004 may-return c: 10004", "10000 10004 return, 10004 10008 return"),
+    5: Row("10000 may-return a: 10000, 10004 may-return c: 10004", "10000 10004 return, 10004 10008 return",
+           code="00008067 00008067"),
     6: Row("10000 may-return -: 10000 10004 1000c", "10000 10004 fall, 10004 1000c branch, 1000c 10010 return",
            "10000 10004 fall, 10004 10004 taken, 10004 1000c fall", "00000013 FFF50513 FE051EE3 00008067"),
     7: Row("10000 may-return -: 10000 10004, 10002 may-return two: 10002 10004",
-           "10000 10004 fall, 10002 10004 fall, 10004 10008 return", "10000 10004 fall, 10002 10004 fall"),
+           "10000 10004 fall, 10002 10004 fall, 10004 10008 return", "10000 10004 fall, 10002 10004 fall", "00010013 00008067"),
     8: Row("10000 may-return -: 10000 10002 10004 10008",
            "10000 10004 fall, 10002 10004 fall, 10004 10008 branch, 10008 1000c return",
            "10000 10004 fall, 10002 10004 fall, 10004 10002 taken, 10004 10008 fall", "00010013 FE051FE3 00008067"),
-    9: Row("10000 no-return -: 10000", "10000 10004 call", "10000 10000 call", "000000EF 00008067"),
+    9: Row("10000 no-return -: 10000", "10000 10004 call", "10000 10000 call", "000000EF 00008067", masks="10000 fffffffc"),
     10: Row("10000 may-return -: 10000 10004 10008, 1000c may-return -: 1000c 10010",
             "10000 10004 branch, 10004 10008 call, 10008 1000c return, 1000c 10010 call, 10010 10014 return",
-            "10000 10004 fall, 10000 10008 taken, 10004 10008 after, 10004 1000c call, 1000c 10000 call, 1000c 10010 after"),
+            "10000 10004 fall, 10000 10008 taken, 10004 10008 after, 10004 1000c call, 1000c 10000 call, 1000c 10010 after",
+            "00050463 008000EF 00008067 FF5FF0EF 00008067", masks="10004 fffffffc, 1000c fffffffc"),
     11: Row("10000 may-return -: 10000 10008", "10000 10008 icall, 10008 10010 unknown", "10000 10008 after",
-            "00100097 000080E7 00100097 00008067"),
+            "00100097 000080E7 00100097 00008067", masks="10000 fffffffc, 10008 fffffffc"),
     12: Row("10000 may-return -: 10000 10004", "10000 10004 branch-out, 10004 10008 jump",
-            "10000 10004 fall, 10004 10004 jump", "04050063 0000006F"),
+            "10000 10004 fall, 10004 10004 jump", "04050063 0000006F",
+            masks="10004 00000000"),
     13: Row("10000 may-return -: 10000 10008 10020 10024 10028",
             "10000 10008 branch, 10008 10020 table, 10020 10024 return, 10024 10028 return, 10028 1002c return",
-            "10000 10008 fall, 10000 10028 taken, 10008 10020 table, 10008 10024 table"),
+            "10000 10008 fall, 10000 10028 taken, 10008 10020 table, 10008 10024 table",
+            "00700793 02A7E263 00020737 00251513 00E50533 00052783 00E787B3 00078067 00008067 00008067 00008067 00008067",
+            masks="10000 ffff7ffe, 10008 ffff3ffe"),
     15: Row("10000 may-return -: 10000 10008 10020 10024, 10028 may-return b: 10028 10030 10050 10054",
             "10000 10008 branch, 10008 10020 table-cut, 10020 10024 return, 10024 10028 return, 10028 10030 branch,"
             " 10030 1004c table, 10050 10054 return, 10054 10058 return",
             "10000 10008 fall, 10000 10024 taken, 10008 10020 table, 10028 10030 fall, 10028 10050 taken, 10030 10054 table",
             "00300793 02A7E063 00020737 00251513 00E50533 00052783 00E787B3 00078067 00008067 00008067 00100793 02A7E263"
-            " 00020737 00870713 00251513 00E50533 00052783 00E787B3 00078067 00008067 00008067 00008067"),
-    16: Row("10000 no-return -: 10000", "10000 10002 stop", code="00000000"),
+            " 00020737 00870713 00251513 00E50533 00052783 00E787B3 00078067 00008067 00008067 00008067",
+            masks="10000 ffff7ffe, 10008 ffff3ffe, 10028 ffff7ffe, 10030 ffff3ffe"),
+    16: Row("10000 no-return -: 10000", "10000 10002 stop", code="00000000", masks="10000 00000000"),
     17: Row("10000 may-return -: 10000 10004 10008, 1000c may-return g: 1000c",
             "10000 10004 branch, 10004 10008 jump, 10008 1000c return, 1000c 10010 jump",
             "10000 10004 fall, 10000 10008 taken, 10004 10000 jump, 1000c 10000 tail", "00050463 FFDFF06F 00008067 FF5FF06F"),
     32: Row("10000 may-return -: 10000 10018 1001c", "10000 10018 table-open, 10018 1001c return, 1001c 10020 return",
             "10000 10018 table, 10000 1001c table",
-            "00020737 00251513 00E50533 00052783 00E787B3 00078067 00008067 00008067"),
+            "00020737 00251513 00E50533 00052783 00E787B3 00078067 00008067 00008067", masks="10000 ffff3ffe"),
     33: Row("10000 may-return -: 10000 10008 1001c 10020 10024",
             "10000 10008 branch, 10008 1001c table, 1001c 10020 return, 10020 10024 return, 10024 10028 return",
-            "10000 10008 fall, 10000 10024 taken, 10008 1001c table, 10008 10020 table"),
+            "10000 10008 fall, 10000 10024 taken, 10008 1001c table, 10008 10020 table",
+            "00100793 02A7E063 00020737 00351513 00E50533 00053783 00078067 00008067 00008067 00008067",
+            masks="10000 ffff7ffe, 10008 ffff3ffe"),
     34: Row("10000 may-return -: 10000 10018, 10020 may-return b: 10020 1003c",
             "10000 10018 table-open, 10018 1001c return, 10020 1003c table-open, 1003c 10040 return",
-            "10000 10018 table, 10020 1003c table"),
+            "10000 10018 table, 10020 1003c table",
+            "00020737 00251513 00E50533 00052783 00E787B3 00078067 00008067 00008067 00020737 00470713 00251513 00E50533"
+            " 00052783 00E787B3 00078067 00008067", masks="10000 ffff3ffe, 10020 ffff3ffe"),
+    40: Row("10000 may-return -: 10000", "10000 10008 return", code="00000513 00008067", masks="10000 fffffbfe"),
+    41: Row("10000 no-return -: 10000", "10000 10004 jump", "10000 10000 jump", "0000006F", masks="10000 00000000"),
 }
 
 
@@ -92,11 +106,21 @@ def sections(row: Row) -> Tuple[List[str], List[str], List[str]]:
             [f"edges {len(edges)}", *(_lined("edge", item) for item in edges)])
 
 
+def lives(row: Row) -> List[str]:
+    """The lines of live registers."""
+    masks = dict(item.split(" ") for item in _items(row.masks))
+    found: List[str] = []
+    for line in sections(row)[0]:
+        word, _, rest = line.partition(" ")
+        found.append(f"live {rest} {masks.get(f'{int(rest, 16):x}', 'fffffffe')}" if word == "in" else line)
+    return [found[0].replace("functions", "lives"), *found[1:]]
+
+
 def lines(number: int, kind: str = "graph") -> List[str]:
     """The lines of a row's report of a kind."""
     row = ROWS[number]
     functions, blocks, edges = sections(row)
-    parts = {"functions": [functions], "blocks": [blocks], "edges": [edges]}.get(kind, [functions, blocks, edges])
+    parts = {"functions": [functions], "blocks": [blocks], "edges": [edges], "live": [lives(row)]}.get(kind, [functions, blocks, edges])
     return ["cfg-report 2", f"entry {int(row.entry, 16):016x}", *(line for part in parts for line in part), "end"]
 
 

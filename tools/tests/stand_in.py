@@ -12,7 +12,7 @@ sys.dont_write_bytecode = True
 sys.path.insert(0, str(Path(__file__).resolve().parent.parent))
 
 from decoding import UNKNOWN, Insn, decode
-from elf_memory import Memory
+from elf_file import Memory
 
 EXITS = ("return", "unknown", "branch-out")
 
@@ -104,7 +104,8 @@ def report(elf: Memory) -> List[str]:
     graph = finished(elf)
     names: Dict[int, bytes] = {}
     for symbol in elf.symbols():
-        names[symbol.address] = min(symbol.name, names.get(symbol.address, symbol.name))
+        if symbol.name:
+            names[symbol.address] = min(symbol.name, names.get(symbol.address, symbol.name))
     bodies = {entry: graph.body(entry, graph.functions) for entry in sorted(graph.functions)}
     lines = ["cfg-report 2", f"entry {elf.entry:016x}", f"functions {len(bodies)}"]
     for entry, body in bodies.items():

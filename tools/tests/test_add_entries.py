@@ -14,7 +14,7 @@ import rows
 import cfg_report
 import small_elf
 from cfg_report import ReportError
-from elf_memory import Memory
+from elf_file import Memory
 from frames import Frame, frames, landing_pads
 from hostile import NOP, RETURN, Halves, add, branch, immediate, jump, short_jump, upper
 from small_elf import ALLOC, CODE_AT, DATA_AT, INIT_ARRAY, NOBITS, RELA, WRITE, Part, code, file_of, symbols, words

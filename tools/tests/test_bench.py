@@ -2,18 +2,22 @@
 
 from __future__ import annotations
 
+import io
 import os
 import subprocess
 import sys
 import tempfile
 import unittest
 from pathlib import Path
-from typing import List, Optional
+from typing import Dict, List, Optional
 from unittest import mock
 
 import rows
+import binutils
+import cfg_report
 import contrived
 from elf_file import Elf
+from hostile import with_names
 from test_tools import script
 
 DUMP = rows.TOOLS.parent / "crates" / "workers_dump" / "out" / "workers_dump"
@@ -37,6 +41,30 @@ class Contrived(unittest.TestCase):
         # Two branches over a jump of four bytes each, and a return: as binutils encodes them.
         halves = contrived.branches_to([9, 10])
         self.assertEqual(halves, [0x1463, 0x00B5, 0x006F, 0x00E0, 0x1463, 0x00B5, 0x006F, 0x0080, 0x8082])
+
+    @unittest.skipIf(binutils.missing(binutils.OBJDUMP, binutils.READELF), "objdump or readelf is not installed")
+    def test_live_registers_of_shapes(self) -> None:
+        """What the shapes for live registers are made for."""
+        masks = {name: self.masks(contrived.SHAPES[name](32)) for name in ("zigzag", "shared_tail", "one_long_body", "waves")}
+        self.assertEqual(masks["zigzag"], [{0x10000 + 4 * place: 0xFFFFFFFE for place in range(32)}])
+        self.assertEqual(masks["one_long_body"], [{0x10000 + 4 * place: 1 << 10 for place in range(33)}])
+        self.assertEqual([set(each.values()) for each in masks["waves"]], [{0xFFFFFFFE}])
+        self.assertEqual(len(masks["waves"][0]), 1 + 31 + 32 + 31)
+        first, second = masks["shared_tail"]
+        tail = 0x10000 + 2 * (8 * 16 + 2)
+        shared = {start: mask for start, mask in first.items() if start >= tail}
+        self.assertEqual(shared, {start: mask for start, mask in second.items() if start >= tail})
+        self.assertEqual([mask for _, mask in sorted(shared.items())][:16], [0xFFFFFFFE & ((1 << 16 + block) - 1) for block in range(16)])
+        self.assertEqual((len(first), len(shared)), (2 * 16 + 1 + 16, 16))
+
+    def masks(self, file: bytes) -> List[Dict[int, int]]:
+        """The live registers of each function of a file, by what compare_live works out."""
+        self.path.write_bytes(with_names(file))
+        report = Path(self.path).with_suffix(".report")
+        report.write_bytes(subprocess.run([sys.executable, "-B", str(rows.TOOLS / "tests" / "stand_in.py"), str(self.path)], capture_output=True).stdout)
+        command = [sys.executable, "-B", str(rows.TOOLS / "compare_live"), "--report", str(report), "--print", str(self.path)]
+        text = subprocess.run(command, capture_output=True).stdout
+        return list(cfg_report.load(io.BytesIO(text)).lives.values())
 
     def test_words(self) -> None:
         command = [sys.executable, "-B", str(rows.TOOLS / "contrived.py")]
@@ -78,6 +106,12 @@ class Bench(unittest.TestCase):
         again = self.said("call_chain 8000", "--earlier", str(earlier))
         self.assertEqual(again[2][5], "3.00 s")
         self.assertGreater(float(again[2][6]), 1)
+
+    def test_live_registers(self) -> None:
+        table = self.said("call_chain 8000", "--live")
+        self.assertEqual([cells[1] for cells in table[2:]], ["cfg", "cfg, live", "cfg, live, 4 workers"])
+        words = [line.split(" ")[:-1] for line in (self.folder / "words").read_text().splitlines()]
+        self.assertEqual(words[:9], [[]] * 3 + [["--report", "live"]] * 3 + [["--report", "live", "--workers", "4"]] * 3)
 
     def test_a_program_made_in_memory(self) -> None:
         copy = self.folder / "copy"

@@ -116,6 +116,25 @@ class Fuzz(unittest.TestCase):
                 self.assertTrue(lines[0].startswith("WRONG ./hostile-1-0.elf"), lines[0])
                 self.assertEqual((self.folder / "hostile-1-0.elf").read_bytes(), hostile.make("1:0").data)
 
+    def test_walks(self) -> None:
+        program = self.folder / "cfg_walk"
+        command = [sys.executable, "-B", str(rows.TOOLS / "fuzz"), "--program", "cfg_walk", "--steps", "7", "--count", "2"]
+        environment = dict(os.environ, CFG_WALK=str(program))
+        for script, status, told in (
+            ("[ $1 = 7 ] && printf 'at 0000000000010000\\nend steps\\n'", 0, "0 2 times"),
+            ("echo 'cfg_walk: too much memory asked' >&2; exit 6", 0, "6 2 times"),
+            ("echo 'cfg_walk: malformed: Short' >&2; exit 2", 0, "2 Short 2 times"),
+            ("printf 'at 0000000000010000\\n'", 1, "its trace is none: line 1: the trace is cut off"),
+            ("echo 'cfg: malformed: Short' >&2; exit 2", 1, "status 2"),
+            ("exit 4", 1, "again: tools/fuzz --seed 1 --first 0 --count 1 --program cfg_walk --steps 7"),
+        ):
+            with self.subTest(script):
+                program.write_text(f"#!/bin/sh\n{USAGE}\n{script}\n")
+                program.chmod(0o755)
+                done = subprocess.run(command, cwd=self.folder, env=environment, capture_output=True, text=True)
+                self.assertEqual((done.returncode, done.stderr), (status, ""))
+                self.assertIn(told, done.stdout)
+
     def test_no_program(self) -> None:
         command = [sys.executable, "-B", str(rows.TOOLS / "fuzz")]
         done = subprocess.run(command, env=dict(os.environ, CFG="/nowhere/cfg"), capture_output=True)
@@ -127,7 +146,7 @@ ASKS = r"""
 #include <stdio.h>
 #include <stdlib.h>
 #include <unistd.h>
-static int refused(void) { (void)!write(2, "cfg: out of memory\n", 19); return 5; }
+static int refused(void) { (void)!write(2, LINE, LENGTH); return 5; }
 int main(int count, char **words) {
     if (count == 1) return 1;
     void *volatile first = malloc(100), *volatile second = malloc(100);
@@ -143,19 +162,26 @@ int main(int count, char **words) {
 
 @unittest.skipUnless(shutil.which("cc"), "cc is not installed")
 class Sweep(unittest.TestCase):
-    def swept(self, without_first: str) -> "subprocess.CompletedProcess[str]":
+    def swept(self, without_first: str, name: str = "cfg") -> "subprocess.CompletedProcess[str]":
         """A sweep over a program that does this without its first piece of memory."""
         with tempfile.TemporaryDirectory() as folder:
             program = os.path.join(folder, "asks")
-            compiler = ["cc", f"-DWITHOUT_FIRST={without_first}", "-x", "c", "-", "-o", program]
-            subprocess.run(compiler, input=ASKS, text=True, check=True)
-            command = [sys.executable, "-B", str(rows.TOOLS / "sweep_memory"), "--workers", "1"]
-            return subprocess.run(command, env=dict(os.environ, CFG=program), capture_output=True, text=True)
+            line = f"{name}: out of memory\\n"
+            words = [f"-DWITHOUT_FIRST={without_first}", f'-DLINE="{line}"', f"-DLENGTH={len(line) - 1}"]
+            subprocess.run(["cc", *words, "-x", "c", "-", "-o", program], input=ASKS, text=True, check=True)
+            command = [sys.executable, "-B", str(rows.TOOLS / "sweep_memory"), "--program", name, "--workers", "1"]
+            return subprocess.run(command, env={**os.environ, name.upper(): program}, capture_output=True, text=True)
 
     def test_a_program(self) -> None:
         done = self.swept("refused()")
         self.assertEqual((done.returncode, done.stderr), (0, ""))
         self.assertIn("| one return (row 1) | 1 | 3 | 3 | 0 | 3 | 0 |", done.stdout)
+
+    def test_a_program_that_walks(self) -> None:
+        done = self.swept("refused()", "cfg_walk")
+        self.assertEqual((done.returncode, done.stderr), (0, ""))
+        self.assertIn("| one return (row 1) | 1 | 3 | 3 | 0 | 3 | 0 |", done.stdout)
+        self.assertNotIn("--make", done.stdout)
 
     def test_a_wrong_status(self) -> None:
         done = self.swept("3")

@@ -41,6 +41,7 @@ class Install(unittest.TestCase):
         program.chmod(0o755)
         ran = self.install()
         self.assertEqual((ran.returncode, ran.stderr), (0, ""))
+        self.assertIn("cfg_walk is left out", ran.stdout)
         for line in ran.stdout.splitlines():
             if line.startswith(str(self.prefix)) and not line.endswith("is not on the PATH"):
                 self.assertTrue(Path(line).is_file(), line)
@@ -51,6 +52,20 @@ class Install(unittest.TestCase):
         said = subprocess.run([self.prefix / "bin" / "cfg-summary", elf], capture_output=True, text=True, env=environment, check=False)
         self.assertEqual((said.returncode, said.stderr), (0, ""))
         self.assertIn("functions", said.stdout)
+
+    def test_further_programs_that_are_built(self) -> None:
+        for name in ("cfg", "cfg_walk", "cfg_check"):
+            program = self.top / "crates" / name / "out" / name
+            program.parent.mkdir(parents=True)
+            program.write_text("#!/bin/sh\n")
+            program.chmod(0o755)
+        ran = self.install()
+        self.assertEqual((ran.returncode, ran.stderr), (0, ""))
+        self.assertIn(f"{self.prefix}/bin/cfg_walk\n", ran.stdout)
+        self.assertTrue(os.access(self.prefix / "bin" / "cfg_walk", os.X_OK))
+        self.assertTrue(os.access(self.prefix / "bin" / "cfg_check", os.X_OK))
+        for page in ("cfg_walk.1", "cfg_check.1"):
+            self.assertTrue((self.prefix / "share" / "man" / "man1" / page).is_file())
 
 
 if __name__ == "__main__":

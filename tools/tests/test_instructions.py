@@ -5,6 +5,7 @@ from __future__ import annotations
 import unittest
 
 import rows
+import decoding
 from instructions import decode
 
 # The bytes as a number, at address 10000, and the instruction.
@@ -45,6 +46,23 @@ class Decoder(unittest.TestCase):
             one = decode(bytes.fromhex(number)[::-1], 0)
             assert one is not None
             self.assertEqual((one.written, one.read), (written, read), number)
+
+    def test_what_scripts_want_of_it(self) -> None:
+        # As decoding.py has them: the name, the length, rd, rs1, rs2 and the immediate.
+        for word, wanted in (
+            (0x00351513, ("slli", 4, 10, 10, 0, 3)), (0x0000F517, ("auipc", 4, 10, 0, 0, 0xF000)), (0x00C5B023, ("sd", 4, 0, 11, 12, 0)),
+            (0xFE051EE3, ("bne", 4, 0, 10, 0, -4)), (0x008000EF, ("jal", 4, 1, 0, 0, 8)), (0x8082, ("jalr", 2, 0, 1, 0, 0)),
+            (0x852E, ("add", 2, 10, 0, 11, 0)), (0x4501, ("addi", 2, 10, 0, 0, 0)), (0x9002, ("ebreak", 2, 0, 0, 0, 0)), (0x60A2, ("ld", 2, 1, 2, 0, 8)),
+            # Of others whether they write an integer register.
+            (0x02C58533, ("calculated", 4, 10, 0, 0, 0)), (0x100525AF, ("calculated", 4, 11, 0, 0, 0)), (0xC2059553, ("calculated", 4, 10, 0, 0, 0)),
+            (0x02C5F553, ("other", 4, 0, 0, 0, 0)), (0x2388, ("other", 2, 0, 0, 0, 0)), (0x00000073, ("other", 4, 0, 0, 0, 0)),
+            # Of further extensions: sh1add, vadd.vv, min; and mret.
+            (0x20C5A533, ("sh1add", 4, 10, 11, 12, 0)), (0x57, ("other", 4, 0, 0, 0, 0)), (0x0AC5C533, ("calculated", 4, 10, 0, 0, 0)),
+            (0x30200073, ("mret", 4, 0, 0, 0, 0)),
+            # No instruction: no rounding mode, a reserved halfword, zeros.
+            (0x02C5E553, ("?", 2, 0, 0, 0, 0)), (0x8002, ("?", 2, 0, 0, 0, 0)), (0x0000, ("?", 2, 0, 0, 0, 0)),
+        ):
+            self.assertEqual(tuple(decoding.decode(word)), wanted, f"{word:x}")
 
 
 if __name__ == "__main__":

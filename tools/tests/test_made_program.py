@@ -18,10 +18,9 @@ import cfg_report
 from binutils import OBJDUMP, instructions, missing
 from elf_file import Elf
 from hostile import with_names
-from test_tools import script
+from made import made, made_with_functions
 
 CFG = rows.TOOLS.parent / "crates" / "cfg" / "out" / "cfg"
-made = script("made_program").made
 
 
 def words_at(file: bytes, address: int, count: int) -> str:
@@ -106,7 +105,11 @@ class Script(InFolder):
         return subprocess.run(command, capture_output=True, text=True)
 
     def test_files(self) -> None:
-        for options, wanted in (((), made(6)), (("--names",), with_names(made(6)))):
+        named = with_names(made_with_functions(6))
+        for options, wanted in (
+            ((), made(6)), (("--names",), with_names(made(6))), (("--functions",), made_with_functions(6)),
+            (("--functions", "--names"), named),
+        ):
             done = self.run_script(*options, "6", str(self.path))
             self.assertEqual((done.returncode, done.stdout, done.stderr), (0, "", ""))
             self.assertEqual(self.path.read_bytes(), wanted)
@@ -148,6 +151,12 @@ class ByCfg(InFolder):
                 self.assertEqual(self.summary(n, report), self.said("--make", str(n)).decode().splitlines())
                 self.path.write_bytes(with_names(made(n)))
                 self.assertEqual(self.said(str(self.path)), report)
+
+    def test_symbols_name_its_functions(self) -> None:
+        self.path.write_bytes(made_with_functions(9))
+        report = cfg_report.load(io.BytesIO(self.said(str(self.path))))
+        named = {function.entry: function.name for function in report.functions}
+        self.assertEqual(named, {0x10000 + 128 * i: f"f{i}".encode() for i in range(11)})
 
     def test_the_worked_summary(self) -> None:
         # The one of docs/REPORT.md.

@@ -27,11 +27,13 @@ class Recipes(unittest.TestCase):
         "open_ends": ["3 of 4 blocks, at 0 of them a way on is unknown"],
         "dominators()": ["10004: 10000", "10008: 10000"],
         "loops()": ["_start: 2 blocks, entered at 10000"],
+        "registers.free": ["10000: none", "10004: none", "10008: none"],
     }
 
     def run_recipe(self, code: str) -> List[str]:
         with tempfile.TemporaryDirectory() as folder:
-            Path(folder, "program.report").write_bytes(rows.report(17).replace(b"3 -\n", b"3 _start\n"))
+            for kind, name in (("graph", "program.report"), ("live", "program.live")):
+                Path(folder, name).write_bytes(rows.report(17, kind).replace(b"3 -\n", b"3 _start\n"))
             environment = dict(os.environ, PYTHONPATH=str(rows.TOOLS))
             done = subprocess.run([sys.executable, "-B", "-c", code], cwd=folder, env=environment, capture_output=True, text=True)
         self.assertEqual((done.returncode, done.stderr), (0, ""))
