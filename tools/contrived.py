@@ -169,6 +169,19 @@ def streams_that_meet(n: int) -> bytes:
     return file_with(([0x0013] * 13 + NOP * 3) * count + RETURN, symbols_at(range(16 * count)))
 
 
+SORTING = """
+    00002337 F403031B 406102B3 00028393 00001437 FA04041B 0083B023 FFD40413 00838393 FE239AE3 FF810593 3E800613 00028393
+    0003B483 0083B503 00955663 00A3B023 0093B423 00838393 FEB394E3 FFF60613 FC061EE3 FB5FF06F
+"""
+
+
+def sorting() -> bytes:
+    """A program that puts 1,000 falling doublewords on the stack and sorts them by exchanges, again and again. It is one
+    for tools/bench to walk, and no shape: it has one size."""
+    words = [int(word, 16) for word in SORTING.split()]
+    return file_with([half for word in words for half in (word & 0xFFFF, word >> 16)])
+
+
 SHAPES: Dict[str, Callable[[int], bytes]] = {
     shape.__name__: shape for shape in (
         symbols, symbols_on_lines, rising, falling, last_then_rising, one_callee, one_callee_that_stays, call_chain,
