@@ -1,7 +1,7 @@
 -- The numbers of code addresses: how many lie below an address.
 use Rattle.std.proofs.Common.{◌≡◌, ℕ, zero, suc, ◌+◌, ◌-◌, ◌*◌, ◌/◌, ◌%◌, ◌<◌, ◌≤◌, ◌^◌, true, false, List, [], ◌∷◌, ◌++◌, length, get_or, Option, Some, None, is_some, refl, sym, ap, ◌∙◌, subst, arith, inl, inr, if◌then◌else◌}
 use Rattle.std.specs.List.{Contains}
-use Rattle.std.proofs.lemmas.Bool.{cases_order, eqb-true, false_from_ne_true}
+use Rattle.std.proofs.lemmas.Bool.{cases_Bool, cases_order, eqb-true, false_from_ne_true}
 use Rattle.std.specs.Prelude.{slice_get}
 use Rattle.std.proofs.lemmas.List.{get_or_default}
 use Rattle.std.proofs.lemmas.Option.{get_or_from_slice_get, none-some}
@@ -69,6 +69,23 @@ module _ (bytes : List ℕ) where
       let more = never_falls (suc a) (b - suc a) in
       let to : codes_below bytes (suc a) ≤ codes_below bytes b = subst (λ c. codes_below bytes (suc a) ≤ codes_below bytes c) there more in
       omega (arith, to, below_code a code)
+
+-- each number below how many codes lie below an address is that of a code address
+pub code_numbered : (bytes : List ℕ) (n a : ℕ) → n < codes_below bytes a → (b : ℕ) × (is_code bytes b ≡ true) × (n ≡ codes_below bytes b)
+code_numbered bytes n zero less = absurd (omega (arith, less, below_zero bytes))
+code_numbered bytes n (suc a) less = elim (cases_order n (codes_below bytes a)) [
+  | inl same ↦ elim (cases_Bool (is_code bytes a)) [
+    | inl code ↦ (a, code, same)
+    | inr none ↦ absurd (omega (arith, less, below_none bytes a none, same))
+  ]
+  | inr other ↦ elim other [
+    | inl before ↦ code_numbered bytes n a before
+    | inr behind ↦ elim (cases_Bool (is_code bytes a)) [
+      | inl code ↦ absurd (omega (arith, less, below_code bytes a code, behind))
+      | inr none ↦ absurd (omega (arith, less, below_none bytes a none, behind))
+    ]
+  ]
+]
 
 pub numbers_rise : NumbersRise
 numbers_rise bytes a b code up = rises bytes a b code up

@@ -6,5 +6,6 @@ pub mod Passes
 pub mod Walks
 pub mod Joins
 pub mod Apart
+pub mod ByNumber
 pub mod Counts
 pub mod Looking

@@ -1,17 +1,17 @@
 -- What is kept of each section, and looked up.
-use Rattle.std.proofs.Common.{◌≡◌, ℕ, zero, suc, ◌+◌, ◌-◌, ◌*◌, ◌/◌, ◌%◌, ◌<◌, ◌≤◌, true, false, List, [], ◌∷◌, ◌++◌, length, get_or, Option, Some, None, is_some, refl, sym, ap, ◌∙◌, subst, arith, inl, inr}
+use Rattle.std.proofs.Common.{◌≡◌, ℕ, zero, suc, ◌+◌, ◌-◌, ◌*◌, ◌/◌, ◌%◌, ◌<◌, ◌≤◌, true, false, List, [], ◌∷◌, ◌++◌, length, get_or, Option, Some, None, is_some, leb, refl, sym, ap, ◌∙◌, subst, arith, inl, inr}
 use Rattle.std.specs.Prelude.{IfSome, IfNone}
-use Rattle.std.specs.Option.{option_map}
+use Rattle.std.specs.Option.{option_map, option_and_then}
 use Rattle.std.specs.List.{All, Contains}
 use Rattle.std.specs.List.Sorted.{IsNonDecreasingBy}
-use Rattle.std.proofs.lemmas.Bool.{cases_order, eqb-true}
+use Rattle.std.proofs.lemmas.Bool.{cases_order, eqb-true, and_from, cond-true, cond-false, le-leb}
 use Rattle.std.proofs.lemmas.List.{get_or_append_left, get_or_push, get_or_default, length_push}
 use Rattle.std.proofs.lemmas.List.Elements.{All-push, Contains-append_left, Contains-push, Contains-push_cases}
 use Rattle.elf_image.specs.declared.section.Section.{Section}
-use Rattle.elf_image.specs.Number.{u16_at}
-use Rattle.elf_image.specs.Sections.{section, file_offset}
-use Rattle.elf_image.specs.Code.{is_even, is_code, code_section_of}
-use Rattle.elf_image.proofs.LaidOut.{holds-true}
+use Rattle.elf_image.specs.Number.{u16_at, u32_at}
+use Rattle.elf_image.specs.Sections.{section, file_offset, holds_bytes}
+use Rattle.elf_image.specs.Code.{is_even, is_code, code_section_of, word_in}
+use Rattle.elf_image.proofs.LaidOut.{holds-true, holds-above}
 use Rattle.elf_image.proofs.OneSection.{code_section-is}
 use Rattle.chain_index.specs.declared.lookup.SectionReaches.{SectionReaches}
 use Rattle.chain_index.specs.Chain.{IsChainEnd}
@@ -238,6 +238,16 @@ reached bytes a kept code right low within =
       end = λ d. subst (λ b. IsChainEnd bytes b (b + 2 * get_or kept.reaches.items i d)) at (right.reaches.ends i d within);
       half = ap (option_map (λ t. u16_at bytes (file_offset t a))) is ∙ ap (λ o. Some (u16_at bytes o)) place;
       in_file = omega (arith, right.of.in_file, at, inside, right.offset);
+      word = λ more.
+          let fits : a + 4 ≤ s.address + s.size = omega (arith, more, right.size, at_s) in
+          ap (option_and_then (word_in bytes a)) is
+          ∙ cond-true (holds_bytes a 4 s) _ None (and_from (leb s.address a) (leb (a + 4) (s.address + s.size)) (le-leb _ _ (omega (arith, at_s))) (le-leb _ _ fits))
+          ∙ ap (λ o. Some (u32_at bytes o)) place;
+      word_in_file = λ more. omega (arith, right.of.in_file, at, more, right.size, right.offset);
+      no_word = λ last.
+          let past : s.address + s.size < a + 4 = omega (arith, last, right.size, at_s) in
+          ap (option_and_then (word_in bytes a)) is
+          ∙ cond-false (holds_bytes a 4 s) (Some (u32_at bytes (file_offset s a))) None (holds-above a 4 s past);
       small = right.of.small;
       counted = omega (arith, right.counted);
       number = omega (arith, right.counted, numbered, start_number);

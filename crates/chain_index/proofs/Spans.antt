@@ -24,7 +24,7 @@ unfolding u16_at
 u16-part bytes o n i within =
     ap (little_from 0 2) (part-drop bytes o n i (omega arith)) ∙ little_from-take 0 2 (n - i) (drop (o + i) bytes) (omega arith)
 
-u32-part : (bytes : List ℕ) (o n i : ℕ) → i + 4 ≤ n → u32_at (take n (drop o bytes)) i ≡ u32_at bytes (o + i)
+pub u32-part : (bytes : List ℕ) (o n i : ℕ) → i + 4 ≤ n → u32_at (take n (drop o bytes)) i ≡ u32_at bytes (o + i)
 unfolding u32_at
 u32-part bytes o n i within =
     ap (little_from 0 4) (part-drop bytes o n i (omega arith)) ∙ little_from-take 0 4 (n - i) (drop (o + i) bytes) (omega arith)

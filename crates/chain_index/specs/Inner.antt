@@ -10,7 +10,7 @@ use Rattle.elf_image.specs.Sections.{section, is_code_section}
 use Rattle.elf_image.specs.Number.{u16_at, u32_at}
 use Rattle.elf_image.specs.FaultTests.{any_pair, shares_address}
 use Rattle.elf_image.specs.Faults.{IsImage}
-use Rattle.elf_image.specs.Code.{is_code, half_at}
+use Rattle.elf_image.specs.Code.{is_code, half_at, word_at}
 use Rattle.chain_index.specs.declared.lookup.SectionReaches.{SectionReaches}
 use Rattle.chain_index.specs.Chain.{IsChainEnd}
 use Rattle.chain_index.specs.Found.{IsCodeOf, IsSectionReaches, BeginsAt}
@@ -94,8 +94,8 @@ AreRising sections =
     (i j : ℕ) (d : Section) → i < j → j < length sections
     → (get_or sections i d).address < (get_or sections j d).address
 
--- A section that is kept is that of an address: its reach is there, and so are both its bytes. The
--- number of the address is told from those of the section.
+-- A section that is kept is that of an address: its reach is there, and so are both its bytes, and
+-- its word if another halfword follows. The number of the address is told from those of the section.
 pub record IsReachedAt (bytes : List ℕ) (a : ℕ) (kept : SectionReaches) : Type 0 where
   pub image : IsImage bytes
   pub start : kept.address ≤ a
@@ -104,6 +104,11 @@ pub record IsReachedAt (bytes : List ℕ) (a : ℕ) (kept : SectionReaches) : Ty
       → IsChainEnd bytes a (a + 2 * get_or kept.reaches.items ((a - kept.address) / 2) d)
   pub half : half_at bytes a ≡ Some (u16_at bytes (kept.offset + (a - kept.address)))
   pub in_file : kept.offset + (a - kept.address) + 2 ≤ length bytes
+  pub word : (a - kept.address) / 2 + 1 < length kept.reaches.items
+      → word_at bytes a ≡ Some (u32_at bytes (kept.offset + (a - kept.address)))
+  pub word_in_file : (a - kept.address) / 2 + 1 < length kept.reaches.items
+      → kept.offset + (a - kept.address) + 4 ≤ length bytes
+  pub no_word : length kept.reaches.items ≤ (a - kept.address) / 2 + 1 → word_at bytes a ≡ None
   pub small : length bytes ≤ 67108864
   pub counted : kept.from ≤ code_count bytes
   pub number : codes_below bytes a + kept.from ≡ code_count bytes + (a - kept.address) / 2

@@ -1,19 +1,23 @@
 //! The index of an image's chains.
 
-ghost use Rattle.std.specs.Prelude.{◌≡◌, ◌+◌, ◌*◌, ◌/◌, ◌<◌, ◌≤◌, IsTrue, IfOk, vec_len};
+ghost use Rattle.std.specs.Prelude.{◌≡◌, ℕ, ◌+◌, ◌*◌, ◌/◌, ◌<◌, ◌≤◌, IsTrue, IfOk, true};
+ghost use Rattle.std.specs.Prelude.{vec_len};
 ghost use Rattle.std.specs.List.Sorted.{IsNonDecreasing};
 ghost use Rattle.elf_image.specs.Code.{is_code};
+ghost use Rattle.rv_flow.specs.InsnBytes.{AreBytesAt};
 ghost use Rattle.chain_index.specs.Chain.{next_of, IsChainEnd};
 ghost use Rattle.chain_index.specs.Found.{AreReachesOf, IsCodeOf};
 ghost use Rattle.chain_index.specs.Numbers.{codes_below, code_count};
 ghost use Rattle.chain_index.specs.Inner.{IsReachedAt, Reaches, length_by};
 
-use crate::lookup::{SectionReaches, count_above, halfwords, widest};
-use crate::memory::Memory;
+use crate::Memory;
+use crate::lookup::{SectionReaches, count_above, count_above_number, halfwords, widest};
 use crate::over_sections::over_sections;
 use crate::reach::section_reaches;
-use crate::sharing::{MOST_WORKERS, reaches_by, workers_for};
+use crate::sharing::{reaches_by, workers_for};
 use elf_image::Image;
+use parallel::MOST_WORKERS;
+use rv_flow::InsnBytes;
 use std::alloc::Global;
 use std::marker::Model;
 use std::thread::Threads;
@@ -148,6 +152,7 @@ impl<'a> ChainIndex<'a> {
     /// The last address of the chain of the code address `a`: the first one from there on after
     /// which control does not go straight on to code.
     /// Time: O(1) in the widest of n code sections, else O(log n).
+    #[inline]
     pub fn term(&self, a: u64) -> u64
         requires { IsTrue (is_code self.now a) }
         ensures { IsChainEnd self.now a result }
@@ -159,6 +164,7 @@ impl<'a> ChainIndex<'a> {
     /// The address after the instruction at the code address `a`, if control goes straight on to
     /// code there; `None` exactly if `a` ends its chain. It decodes nothing.
     /// Time: as [`term`](Self::term).
+    #[inline]
     pub fn next(&self, a: u64) -> Option<u64>
         requires { IsTrue (is_code self.now a) }
         ensures { result ≡ next_of self.now a }
@@ -170,6 +176,28 @@ impl<'a> ChainIndex<'a> {
         Some(a + straight_length(s.half(self.image, a)))
     }
 
+    /// The bytes at the code address `a` that an instruction there may have.
+    /// Time: as [`term`](Self::term).
+    #[inline]
+    pub fn bytes_at(&self, a: u64) -> InsnBytes
+        requires { IsTrue (is_code self.now a) }
+        ensures { AreBytesAt self.now a result }
+    {
+        self.section(a).bytes_at(self.image, a)
+    }
+
+    /// Whether `a` is a code address: [`Image::is_code`] of the image.
+    /// Time: as [`term`](Self::term).
+    #[inline]
+    pub fn is_code(&self, a: u64) -> bool
+        ensures { result ≡ is_code self.now a }
+    {
+        match self.sections.get(self.widest) {
+            Some(s) if a % 2 == 0 && s.holds(a) => true,
+            _ => self.image.is_code(a),
+        }
+    }
+
     /// The number of the code address `a`: how many code addresses lie below it. So different ones
     /// have different numbers, in the order of the addresses. Time: that of [`term`](Self::term).
     pub fn number(&self, a: u64) -> u32
@@ -179,6 +207,17 @@ impl<'a> ChainIndex<'a> {
     {
         let s = self.section(a);
         self.numbers - s.from + ((a - s.address) / 2) as u32
+    }
+
+    /// The code address with the number `n`: what [`number`](Self::number) gives `n` for.
+    /// Time: O(log sections).
+    pub fn address(&self, n: u32) -> u64
+        requires { (a : ℕ) × (is_code self.now a ≡ true) × (n ≡ codes_below self.now a) }
+        ensures { (a : ℕ) → is_code self.now a ≡ true → n ≡ codes_below self.now a → result ≡ a }
+    {
+        let s = &self.sections[count_above_number(&self.sections, self.numbers, n)];
+        let place = u64::from(n) + u64::from(s.from) - u64::from(self.numbers);
+        s.address + 2 * place
     }
 
     /// How many code addresses there are: all numbers are below.
@@ -219,7 +258,7 @@ impl<'a> ChainIndex<'a> {
     }
 
     /// The section of the code address `a`: the widest is asked first.
-    #[inline]
+    #[inline(always)]
     fn section(&self, a: u64) -> &SectionReaches
         requires { IsTrue (is_code self.now a) }
         ensures { IsReachedAt self.now a result.now }

@@ -17,7 +17,6 @@
 mod index;
 mod laws;
 mod lookup;
-mod memory;
 mod over_sections;
 mod reach;
 mod sections;
@@ -26,5 +25,4 @@ mod walk;
 
 pub use index::{ChainIndex, ChainReaches};
 pub use laws::{numbers_differ, one_chain_end};
-pub use memory::Memory;
-pub use sharing::MOST_WORKERS;
+pub use std::alloc::AllocError as Memory;

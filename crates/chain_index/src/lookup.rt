@@ -1,14 +1,17 @@
 //! Code sections with the reaches of their halfwords, looked up by address.
 
 ghost use Rattle.std.specs.Prelude.{◌≡◌, ℕ, ◌+◌, ◌-◌, ◌*◌, ◌/◌, ◌≤◌, ◌<◌, List, length, Some};
-ghost use Rattle.std.specs.Prelude.{IfSome, IfNone, nat_le, nat_lt, ◌&&◌};
-ghost use Rattle.elf_image.specs.Code.{half_at};
+ghost use Rattle.std.specs.Prelude.{IfSome, IfNone, nat_le, nat_lt, ◌&&◌, true};
+ghost use Rattle.elf_image.specs.Code.{half_at, is_code};
+ghost use Rattle.rv_flow.specs.InsnBytes.{AreBytesAt};
 ghost use Rattle.chain_index.specs.Chain.{IsChainEnd};
-ghost use Rattle.chain_index.specs.Found.{AreFalling, BeginsAt, last_count};
+ghost use Rattle.chain_index.specs.Found.{AreFalling, AreReachesOf, BeginsAt, last_count};
+ghost use Rattle.chain_index.specs.Numbers.{codes_below, code_count};
 ghost use Rattle.chain_index.specs.Inner.{AreRight, IsCountAbove};
 ghost use Rattle.chain_index.specs.Inner.{IsReachedAt, Reaches};
 
-use elf_image::{Image, Span, u16_at};
+use elf_image::{Image, Span, u16_at, u32_at};
+use rv_flow::InsnBytes;
 
 /// A code section, and how far the chains of its halfwords reach.
 #[derive(Drop)]
@@ -34,6 +37,7 @@ impl SectionReaches {
     }
 
     /// How many halfwords the end of the chain of its address `a` lies ahead.
+    #[inline]
     pub(crate) fn reach(&self, a: u64) -> u32
         requires start { self.now.address ≤ a }
         requires within { (a - self.now.address) / 2 < length self.now.reaches.items }
@@ -43,7 +47,30 @@ impl SectionReaches {
         self.reaches[((a - self.address) / 2) as usize]
     }
 
+    /// The bytes at its address `a`.
+    #[inline]
+    pub(crate) fn bytes_at(&self, image: &Image, a: u64) -> InsnBytes
+        requires { IsReachedAt image.now a self.now }
+        ensures { AreBytesAt image.now a result }
+    {
+        if (a - self.address) / 2 + 1 >= self.reaches.len() as u64 {
+            return InsnBytes {
+                half: self.half(image, a),
+                word: None,
+            };
+        }
+        let bytes = image.bytes(Span {
+            at: (self.offset + (a - self.address)) as u32,
+            len: 4,
+        });
+        InsnBytes {
+            half: u16_at(bytes, 0),
+            word: Some(u32_at(bytes, 0)),
+        }
+    }
+
     /// The halfword at its address `a`.
+    #[inline]
     pub(crate) fn half(&self, image: &Image, a: u64) -> u16
         requires { IsReachedAt image.now a self.now }
         ensures { half_at image.now a ≡ Some result }
@@ -84,6 +111,16 @@ pub(crate) fn count_above(sections: &[SectionReaches], a: u64) -> usize
     ensures { IsCountAbove sections.now a result }
 {
     sections.partition_point(|s| s.address > a)
+}
+
+/// How many of the sections begin above the code address with the number `n`, of `numbers` in all.
+pub(crate) fn count_above_number(sections: &[SectionReaches], numbers: u32, n: u32) -> usize
+    requires { (bytes : List ℕ) × AreReachesOf bytes sections.now }
+    ensures { (bytes : List ℕ) (a : ℕ) → AreReachesOf bytes sections.now
+        → numbers ≡ code_count bytes → is_code bytes a ≡ true → n ≡ codes_below bytes a
+        → IsCountAbove sections.now a result }
+{
+    sections.partition_point(|s| u64::from(n) + u64::from(s.from) < u64::from(numbers))
 }
 
 /// How far the chain of the address `a` reaches, if one of the sections begins there.

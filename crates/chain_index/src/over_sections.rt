@@ -4,8 +4,8 @@ ghost use Rattle.std.specs.Prelude.{◌≡◌, ◌+◌, ◌*◌, ◌/◌, ◌^�
 ghost use Rattle.chain_index.specs.Found.{IsCodeOf, AreReaches, AreReachesOf};
 ghost use Rattle.chain_index.specs.Inner.{Reaches};
 
+use crate::Memory;
 use crate::lookup::{SectionReaches, first_reach, halfwords};
-use crate::memory::Memory;
 use crate::sections::code_sections;
 use elf_image::{Image, Section};
 use rv_flow::StraightForms;

@@ -7,7 +7,7 @@ ghost use Rattle.rv_flow.specs.Straight.{IsStraightLength};
 ghost use Rattle.chain_index.specs.Found.{IsCodeOf, AreReaches};
 ghost use Rattle.chain_index.specs.Inner.{Reaches, ReachesFrom, IsReach, word_of, reach_over};
 
-use crate::memory::Memory;
+use crate::Memory;
 use crate::walk::reach_at;
 use elf_image::{Image, Section, Span, u16_at, u32_at};
 use rv_flow::StraightForms;

@@ -5,16 +5,13 @@ ghost use Rattle.std.specs.Prelude.{slice_index_or};
 ghost use Rattle.chain_index.specs.Found.{IsCodeOf, AreReaches};
 ghost use Rattle.chain_index.specs.Inner.{Reaches, ReachesFrom, IsReach};
 
-use crate::memory::Memory;
+use crate::Memory;
 use crate::reach::{pass_back, room_for, section_reaches};
 use elf_image::{Image, Section};
-use fan_out::for_each_chunk_mut;
+use parallel::for_each_chunk_mut;
 use rv_flow::StraightForms;
 use std::alloc::Global;
 use std::thread::Threads;
-
-/// The most workers that an index is made by.
-pub const MOST_WORKERS: u32 = 64;
 
 /// How many halfwords a section has at least for which threads are started.
 const LEAST_SHARED: u64 = 1 << 16;

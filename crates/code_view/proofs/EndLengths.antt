@@ -83,11 +83,3 @@ module _ (bytes : List ℕ) (a half : ℕ) (is : half_at bytes a ≡ Some half) 
       by-half (cond (is_some (word_at bytes a)) 4 2)
       (ap (λ (p : Placed). p.length) (cond-true (half % 4 == 3) _ _ long ∙ cond-false (half / 4 % 8 == 7) bad (whole (whole_insn (word_at bytes a))) fits)
       ∙ word-length jump (word_at bytes a) refl)
-
--- The same of whatever stands there.
-pub jump_at-length : (bytes : List ℕ) (a : ℕ) → option_map_or is_jump_word (half_at bytes a) false ≡ true → (placed_at bytes a).length ≡ cond (is_some (word_at bytes a)) 4 2
-jump_at-length bytes a = go (half_at bytes a) refl
-  where
-    go : (o : Option ℕ) → half_at bytes a ≡ o → option_map_or is_jump_word o false ≡ true → (placed_at bytes a).length ≡ cond (is_some (word_at bytes a)) 4 2
-    go None is jump = absurd (cc)
-    go (Some half) is jump = jump-length bytes a half is jump

@@ -227,7 +227,7 @@ module _ (bytes : List ℕ) (cuts : ℕ → Option ℕ) (a : ℕ) where
       go true h = refl
       go false h = absurd (cc)
 
-  program-at_code : is_code bytes a ≡ true → program_under bytes cuts a ≡ Some (instruction_at bytes (table_at bytes) cuts a)
+  pub program-at_code : is_code bytes a ≡ true → program_under bytes cuts a ≡ Some (instruction_at bytes (table_at bytes) cuts a)
   program-at_code code = cond-true (is_code bytes a) _ _ code
 
   pub length-program : is_code bytes a ≡ true → (placed : Placed) → placed ≡ placed_at bytes a → length_at (program_under bytes cuts) a ≡ Some placed.length

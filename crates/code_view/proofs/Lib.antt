@@ -5,4 +5,5 @@ pub mod ChainEnds
 pub mod RegisterJumps
 pub mod JumpsFound
 pub mod EndLengths
+pub mod Sought
 mod Worked

@@ -1,6 +1,7 @@
 pub mod Cuts
 pub mod Flow
 pub mod RegisterJump
+pub mod Tables
 pub mod Program
 pub mod FileCode
 pub mod Inner

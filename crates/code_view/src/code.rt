@@ -1,16 +1,17 @@
 //! An image's instructions as a program.
 
+use crate::Memory;
 use crate::cuts::Cuts;
-use crate::flow::{call_flow, in_code, jump_flow, straight_flow, table_flow};
-use crate::jump_word::is_jump_word;
+use crate::flow::{call_flow, jump_flow, straight_flow, table_flow};
+use crate::jump_word::{is_jump_word, jump_length};
 use crate::kept::kept_targets;
-use crate::memory::Memory;
 use crate::register_jump::{is_register_jump, register_jumps_between};
+use crate::tables::AllTables;
 use cfg_model::{Chains, Flow};
 use chain_index::ChainIndex;
 use elf_image::Image;
 use jump_table::{Table, find_table, target_of};
-use rv_flow::{RawFlow, flow_of, insn_at};
+use rv_flow::{RawFlow, flow_of_bytes, insn_at};
 use std::alloc::Global;
 use std::marker::Model;
 
@@ -19,12 +20,14 @@ use std::marker::Model;
 /// Targets outside the code are dropped: a jump or a call whose target is outside is one whose
 /// target is not known, and a branch that loses one of its ways is cut off. A straight instruction
 /// with no code after it stops. A jump through a register that is no return goes through its jump
-/// table, and its cut says how many entries are kept. Without a table its targets are unknown.
+/// table, and its cut says how many entries are kept. Without a table its targets are unknown. Once
+/// all tables of the code are known, they are looked up; before, each is found anew.
 #[derive(Drop)]
 pub struct Code<'a> {
     image: &'a Image,
     index: &'a ChainIndex<'a>,
     cuts: &'a Cuts,
+    tables: Option<&'a AllTables>,
 }
 
 impl<'a> Model for Code<'a> {
@@ -45,18 +48,17 @@ impl<'a> Code<'a> {
     ghost use Rattle.std.specs.Prelude.{◌≡◌, ℕ, ◌≤◌, true, false, None, IsTrue, IsSome, IfOk};
     ghost use Rattle.std.specs.Prelude.{All, Contains, vec_len};
     ghost use Rattle.std.specs.List.Sorted.{IsNonDecreasing};
-    ghost use Rattle.std.specs.Option.{option_map_or};
-    ghost use Rattle.elf_image.specs.Code.{is_code, half_at};
+    ghost use Rattle.elf_image.specs.Code.{is_code};
     ghost use Rattle.elf_image.specs.Faults.{IsImage};
     ghost use Rattle.rv_flow.specs.Placed.{placed_at};
     ghost use Rattle.jump_table.specs.Table.{table_at};
     ghost use Rattle.code_view.specs.Cuts.{cut_of, CutsFit};
-    ghost use Rattle.code_view.specs.Flow.{flow_by};
+    ghost use Rattle.code_view.specs.Flow.{flow_by, in_code};
     ghost use Rattle.code_view.specs.Program.{program_under};
     ghost use Rattle.code_view.specs.FileCode.{program_of};
+    ghost use Rattle.code_view.specs.Tables.{AreAllTables};
     ghost use Rattle.code_view.specs.RegisterJump.{is_register_jump_at, AreRegisterJumps};
     ghost use Rattle.code_view.specs.RegisterJump.{IsBetween, AreRegisterJumpsBetween};
-    ghost use Rattle.code_view.specs.JumpWord.{is_jump_word};
     ghost use Rattle.cfg_model.specs.Program.Instructions.{flow_at, IsLawful};
 
     /// The code of `image`, whose chains end as `index` says, under `cuts`. Each of the cuts is of
@@ -70,16 +72,39 @@ impl<'a> Code<'a> {
         ensures cuts { result.cuts ≡ cuts.now }
     {
         prove!(image.is_code(image.entry()));
-        Code { image, index, cuts }
+        Code {
+            image,
+            index,
+            cuts,
+            tables: None,
+        }
     }
 
-    /// The same code under other cuts, each of a table of that image.
+    /// The same code under other cuts, each of a table of that image. It knows the same tables.
     pub fn under<'b>(&'b self, cuts: &'b Cuts) -> Code<'b>
         requires cuts { CutsFit self.now.bytes (cut_of cuts.now) }
         ensures bytes { result.bytes ≡ self.now.bytes }
         ensures cuts { result.cuts ≡ cuts.now }
     {
-        Code::new(self.image, self.index, cuts)
+        Code {
+            image: self.image,
+            index: self.index,
+            cuts,
+            tables: self.tables,
+        }
+    }
+
+    /// The same code under the same cuts, which knows all its tables.
+    pub fn with_tables<'b>(&'b self, tables: &'b AllTables) -> Code<'b>
+        requires { AreAllTables self.now.bytes tables.now }
+        ensures { result ≡ self.now }
+    {
+        Code {
+            image: self.image,
+            index: self.index,
+            cuts: self.cuts,
+            tables: Some(tables),
+        }
     }
 
     /// The code addresses whose first halfword is that of a jump through a register that links to
@@ -118,12 +143,16 @@ impl<'a> Code<'a> {
     }
 
     /// The jump table of the jump at the code address `j`, before cuts; `None` exactly if it has
-    /// none.
+    /// none. Time: that of [`AllTables::table`] once all tables are known, and else that of
+    /// [`find_table`].
     pub fn table(&self, j: u64) -> Option<Table>
         requires { IsTrue (is_code self.now.bytes j) }
         ensures { result ≡ table_at self.now.bytes j }
     {
-        find_table(self.image, j)
+        match self.tables {
+            Some(tables) => tables.table(j),
+            None => find_table(self.image, j),
+        }
     }
 
     /// Whether the instruction at the code address `a` is a jump through a register that links to
@@ -152,7 +181,7 @@ impl<'a> Code<'a> {
 
     /// Addresses that cut the code into `count` ranges of about the same size in bytes:
     /// [`ChainIndex::bounds`].
-    pub fn bounds(&self, alloc: Global, count: u32) -> Result<Vec<u64>, chain_index::Memory>
+    pub fn bounds(&self, alloc: Global, count: u32) -> Result<Vec<u64>, Memory>
         requires { 1 ≤ count }
         ensures few { IfOk result (λ bounds. vec_len bounds ≤ count) }
         ensures rising { IfOk result (λ bounds. IsNonDecreasing bounds.items) }
@@ -165,9 +194,9 @@ impl<'a> Code<'a> {
         requires { IsTrue (is_code self.now.bytes a) }
         ensures { flow_at (program_of self.now) a ≡ Some result }
     {
-        let placed = insn_at(self.image, a);
+        let placed = flow_of_bytes(self.image, a, self.index.bytes_at(a));
         let behind = a + u64::from(placed.length);
-        self.flow_by(a, behind, flow_of(self.image, a, placed.insn))
+        self.flow_by(a, behind, placed.flow)
     }
 
     /// The length of the instruction at `a`. It is decoded only if its first halfword does not tell
@@ -176,23 +205,21 @@ impl<'a> Code<'a> {
         requires { IsTrue (is_code self.now.bytes a) }
         ensures { result ≡ (placed_at self.now.bytes a).length }
     {
-        match self.image.half_at(a) {
-            Some(half) if half & 0b11 != 0b11 => 2,
-            Some(half) if is_jump_word(half) => self.jump_length(a),
-            _ => insn_at(self.image, a).length,
+        let read = self.index.bytes_at(a);
+        if read.half & 0b11 != 0b11 {
+            2
+        } else if is_jump_word(read.half) {
+            jump_length(read.word)
+        } else {
+            insn_at(self.image, a).length
         }
     }
 
-    /// The length of a jump, a call or a branch of 32 bits at `a`, if its word is there.
-    fn jump_length(&self, a: u64) -> u8
-        requires code { IsTrue (is_code self.now.bytes a) }
-        requires jump { option_map_or is_jump_word (half_at self.now.bytes a) false ≡ true }
-        ensures { result ≡ (placed_at self.now.bytes a).length }
+    /// `a`, if it is a code address.
+    fn in_code(&self, a: u64) -> Option<u64>
+        ensures { result ≡ in_code self.now.bytes a }
     {
-        match self.image.word_at(a) {
-            Some(_) => 4,
-            None => 2,
-        }
+        if self.index.is_code(a) { Some(a) } else { None }
     }
 
     /// The flow of the instruction at `a`, which alone has the flow `raw`; `behind` is the address
@@ -203,16 +230,14 @@ impl<'a> Code<'a> {
             (table_at self.now.bytes a) raw }
     {
         match raw {
-            RawFlow::Straight => straight_flow(in_code(self.image, behind)),
+            RawFlow::Straight => straight_flow(self.in_code(behind)),
             RawFlow::Branch { target } => Flow::Branch {
-                taken: in_code(self.image, target),
-                fall: in_code(self.image, behind),
+                taken: self.in_code(target),
+                fall: self.in_code(behind),
             },
-            RawFlow::Jump { target } => jump_flow(in_code(self.image, target)),
-            RawFlow::Call { target } => {
-                call_flow(in_code(self.image, target), in_code(self.image, behind))
-            }
-            RawFlow::IndirectCall => call_flow(None, in_code(self.image, behind)),
+            RawFlow::Jump { target } => jump_flow(self.in_code(target)),
+            RawFlow::Call { target } => { call_flow(self.in_code(target), self.in_code(behind)) }
+            RawFlow::IndirectCall => call_flow(None, self.in_code(behind)),
             RawFlow::Return => Flow::Return,
             RawFlow::RegisterJump { .. } => table_flow(self.cuts.count(a), self.table(a)),
             RawFlow::Stop => Flow::Stop,
@@ -226,7 +251,7 @@ impl<'a> Chains for Code<'a> {
     ghost map = { program_of };
 
     fn has(&self, a: u64) -> bool {
-        self.image.is_code(a)
+        self.index.is_code(a)
     }
 
     // Only what ends its chain is decoded.
@@ -248,7 +273,7 @@ impl<'a> Chains for Code<'a> {
         target_of(self.image, a, i)
     }
 
-    fn targets(&self, a: u64) -> Result<Vec<u64>, cfg_model::Memory> {
+    fn targets(&self, a: u64) -> Result<Vec<u64>, Memory> {
         match self.table(a) {
             Some(table) => kept_targets(self.cuts.alloc(), self.image, self.cuts.count(a), table),
             None => Ok(Vec::new(self.cuts.alloc())),

@@ -4,7 +4,7 @@ ghost use Rattle.std.specs.Prelude.{◌≡◌, ◌↔◌, ◌≤◌, IsTrue, OnO
 ghost use Rattle.std.specs.FinMap as map;
 ghost use Rattle.code_view.specs.Cuts.{cut_of};
 
-use crate::memory::Memory;
+use crate::Memory;
 use std::alloc::Global;
 use std::collections::BTreeMap;
 use std::marker::Model;

@@ -2,18 +2,10 @@
 //! dropped.
 
 ghost use Rattle.std.specs.Prelude.{◌≡◌};
-ghost use Rattle.code_view.specs.Flow.{in_code, straight_flow, jump_flow, call_flow, table_flow};
+ghost use Rattle.code_view.specs.Flow.{straight_flow, jump_flow, call_flow, table_flow};
 
 use cfg_model::Flow;
-use elf_image::Image;
 use jump_table::Table;
-
-/// `a`, if it is a code address.
-pub fn in_code(image: &Image, a: u64) -> Option<u64>
-    ensures { result ≡ in_code image.now a }
-{
-    if image.is_code(a) { Some(a) } else { None }
-}
 
 /// Straight on to `next`, if there is code, and else a stop.
 pub fn straight_flow(next: Option<u64>) -> Flow

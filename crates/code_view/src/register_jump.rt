@@ -6,7 +6,7 @@ ghost use Rattle.code_view.specs.RegisterJump.{is_jump_by_c_jr, is_register_jump
 ghost use Rattle.code_view.specs.RegisterJump.{IsBetween, AreRegisterJumpsBetween};
 ghost use Rattle.code_view.specs.Inner.{AreJumpsOfFirst};
 
-use crate::memory::Memory;
+use crate::Memory;
 use elf_image::{Image, Span, u16_at};
 use std::alloc::Global;
 

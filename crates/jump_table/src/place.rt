@@ -82,6 +82,8 @@ fn place_from(way: &Approach, parcels: usize, register: u8) -> Option<Place>
         ≡ place_from way.now.image.now way.now.start way.now.jump register
         (way.now.jump - 2 * parcels) }
 {
+    // From most of the parcels no run leads to the jump.
+    way.steps[parcels]?;
     let value = value_behind(way, parcels, Registers::unknown(), true, register)?;
     place_of(true, MOST_OPEN_ENTRIES, value)
 }

@@ -1,13 +1,16 @@
 -- Words that no public clause cites.
 use Rattle.std.specs.Prelude.{◌≡◌, ℕ, ◌==◌, ◌||◌, not, Bool, true, false, List, get_or}
-use Rattle.std.specs.Prelude.{Option, Some, None}
+use Rattle.std.specs.Prelude.{Option, Some, None, ℤ, if◌then◌else◌}
 use Rattle.rv_decode.specs.Fields.{opcode}
 use Rattle.rv_decode.specs.declared.instructions.Insn.{Insn}
 use Rattle.rv_decode.specs.declared.instructions.Insn.TheVariants as insns
 use Rattle.rv_flow.specs.declared.straight.ShortForm.{ShortForm}
 use Rattle.rv_flow.specs.declared.straight.ShortForm.TheVariants.{Unasked, GoesOn, Stops}
+use Rattle.rv_flow.specs.declared.raw.RawFlow.{RawFlow}
+use Rattle.rv_flow.specs.declared.raw.RawFlow.TheVariants as raw
+use Rattle.rv_flow.specs.declared.insn_bytes.PlacedFlow.{PlacedFlow}
 use Rattle.rv_flow.specs.Placed.{compressed_insn}
-use Rattle.rv_flow.specs.Raw.{is_unimp}
+use Rattle.rv_flow.specs.Raw.{is_unimp, insn_flow, jalr_flow, pair_target, address_plus}
 
 -- Control goes straight on after an instruction, wherever that stands.
 abbrev pub goes_on : Insn → Bool
@@ -36,3 +39,20 @@ pub record AreTold (shorts : List ShortForm) : Type 0 where
 -- The opcode of a word is that of LUI or AUIPC.
 abbrev pub is_upper : ℕ → Bool
 is_upper word = (opcode word == 0x37) || (opcode word == 0x17)
+
+-- The flow of a JAL at an address.
+abbrev pub jal_flow : ℕ → ℕ → ℤ → RawFlow
+jal_flow a rd offset =
+    if rd == 0 then raw.Jump (address_plus a offset) else raw.Call (address_plus a offset)
+
+-- The flow of a JALR at an address.
+abbrev pub register_flow : List ℕ → ℕ → ℕ → ℕ → ℤ → RawFlow
+register_flow bytes a rd rs1 imm = jalr_flow rd rs1 imm (pair_target bytes a rs1 imm)
+
+-- An instruction of 32 bits has its own flow; what is no instruction has two bytes and stops.
+abbrev pub long : RawFlow → PlacedFlow
+long flow = record { length = 4; flow = flow }
+
+abbrev pub flow_of_whole : List ℕ → ℕ → Option Insn → PlacedFlow
+flow_of_whole bytes a None = record { length = 2; flow = raw.Stop }
+flow_of_whole bytes a (Some insn) = long (insn_flow bytes a insn)

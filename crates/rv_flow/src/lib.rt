@@ -3,11 +3,14 @@
 //! What lies outside the code, and what a jump table holds, is judged by the crates above.
 #![tactic(auto)]
 
+mod insn_bytes;
 mod laws;
 mod placed;
 mod raw;
 mod straight;
+mod straight_words;
 
+pub use insn_bytes::{InsnBytes, PlacedFlow, flow_of_bytes};
 pub use laws::{each_word_is_its_instruction, every_expansion_decodes};
 pub use placed::{Placed, insn_at};
 pub use raw::{RawFlow, flow_of, raw_flow};

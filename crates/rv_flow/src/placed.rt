@@ -66,7 +66,7 @@ pub(crate) fn whole_insn(word: Option<u32>) -> Option<Insn>
 }
 
 // The instruction that a word is, by the base table or the float table.
-fn word_insn(word: u32) -> Option<Insn>
+pub(crate) fn word_insn(word: u32) -> Option<Insn>
     ensures { result ≡ word_insn word }
 {
     match decode(word) {

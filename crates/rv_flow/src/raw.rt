@@ -6,7 +6,7 @@ ghost use Rattle.elf_image.specs.Code.{is_code};
 ghost use Rattle.elf_image.specs.Faults.{IsImage};
 ghost use Rattle.rv_flow.specs.Raw.{raw_flow_at, raw_flow_by, insn_flow, jalr_flow, pair_target};
 ghost use Rattle.rv_flow.specs.Raw.{upper_before, upper_of, word_before, address_plus, is_unimp};
-ghost use Rattle.rv_flow.specs.Inner.{is_upper};
+ghost use Rattle.rv_flow.specs.Inner.{is_upper, jal_flow, register_flow};
 
 use crate::placed::insn_at;
 use elf_image::Image;
@@ -60,17 +60,12 @@ pub fn flow_of(image: &Image, a: u64, insn: Option<Insn>) -> RawFlow
     }
 }
 
-fn insn_flow(image: &Image, a: u64, insn: Insn) -> RawFlow
+pub(crate) fn insn_flow(image: &Image, a: u64, insn: Insn) -> RawFlow
     ensures { result ≡ insn_flow image.now a insn }
 {
     match insn {
-        Insn::Jal { rd: 0, offset } => RawFlow::Jump {
-            target: a.wrapping_add_signed(offset),
-        },
-        Insn::Jal { offset, .. } => RawFlow::Call {
-            target: a.wrapping_add_signed(offset),
-        },
-        Insn::Jalr { rd, rs1, imm } => jalr_flow(rd, rs1, imm, pair_target(image, a, rs1, imm)),
+        Insn::Jal { rd, offset } => jal_flow(a, rd, offset),
+        Insn::Jalr { rd, rs1, imm } => register_flow(image, a, rd, rs1, imm),
         Insn::Branch { offset, .. } => RawFlow::Branch {
             target: a.wrapping_add_signed(offset),
         },
@@ -95,6 +90,25 @@ pub(crate) fn is_unimp(kind: CsrKind, rd: u8, source: u8, csr: u16) -> bool
     ensures { result ≡ is_unimp kind rd source csr }
 {
     matches!(kind, CsrKind::Csrrw) && rd == 0 && source == 0 && csr == 0xC00
+}
+
+// The flow of a JAL at `a`.
+pub(crate) fn jal_flow(a: u64, rd: u8, offset: i64) -> RawFlow
+    ensures { result ≡ jal_flow a rd offset }
+{
+    let target = a.wrapping_add_signed(offset);
+    if rd == 0 {
+        RawFlow::Jump { target }
+    } else {
+        RawFlow::Call { target }
+    }
+}
+
+// The flow of a JALR at `a`.
+pub(crate) fn register_flow(image: &Image, a: u64, rd: u8, rs1: u8, imm: i64) -> RawFlow
+    ensures { result ≡ register_flow image.now a rd rs1 imm }
+{
+    jalr_flow(rd, rs1, imm, pair_target(image, a, rs1, imm))
 }
 
 // The flow of a JALR whose target is known if it is paired.

@@ -6,8 +6,9 @@ ghost use Rattle.rv_flow.specs.Straight.{IsStraightLength};
 ghost use Rattle.rv_flow.specs.Placed.{compressed_insn};
 ghost use Rattle.rv_flow.specs.Inner.{AreTold, goes_on, goes_on_behind, short_goes_on};
 
-use crate::placed::{compressed_insn, whole_insn};
+use crate::placed::compressed_insn;
 use crate::raw::is_unimp;
+use crate::straight_words::word_goes_on;
 use rv_decode::Insn;
 use std::alloc::Global;
 
@@ -61,7 +62,7 @@ impl StraightForms {
         } else if half >> 2 & 0b111 == 0b111 {
             None
         } else {
-            goes_on_behind(whole_insn(word)).then_some(4)
+            word_goes_on(word?).then_some(4)
         }
     }
 
@@ -94,7 +95,7 @@ impl StraightForms {
 }
 
 // Whether control goes straight on after what is an instruction.
-fn goes_on_behind(insn: Option<Insn>) -> bool
+pub(crate) fn goes_on_behind(insn: Option<Insn>) -> bool
     ensures { result ≡ goes_on_behind insn }
 {
     match insn {

@@ -4,6 +4,7 @@ ghost use Rattle.std.specs.Prelude.{◌≡◌};
 
 use chain_index::{ChainIndex, ChainReaches, one_chain_end};
 use elf_image::{ElfError, Image};
+use rv_flow::{flow_of_bytes, raw_flow};
 use std::alloc::Global;
 use std::process::Abort;
 use std::test::Fail;
@@ -70,6 +71,15 @@ fn expect_ends(
         assert!(rt; image.is_code(a));
         assert_eq!(rt; index.term(a), end, "the end of the chain of {a}");
         assert_eq!(rt; index.next(a), next, "the address behind {a}");
+        assert!(rt; index.is_code(a));
+        let read = index.bytes_at(a);
+        assert_eq!(rt; Some(read.half), image.half_at(a), "the halfword at {a}");
+        assert_eq!(rt; read.word, image.word_at(a), "the word at {a}");
+        assert_eq!(rt;
+            flow_of_bytes(image, a, read).flow,
+            raw_flow(image, a),
+            "the flow at {a} by its bytes"
+        );
     }
 }
 
