@@ -3,22 +3,22 @@
 ghost use Rattle.std.specs.Prelude.{◌≡◌, ◌≤◌, IfOk, IfErr};
 ghost use Rattle.std.specs.Thread.{IsSync};
 ghost use Rattle.cfg_model.specs.Program.Reach.{AreSeeds};
-ghost use Rattle.cfg_model.specs.Builder.Kept.{IsClosed};
 ghost use Rattle.code_view.specs.FileCode.{program_of};
-ghost use Rattle.table_cuts.specs.Tables.{AreAllTables};
+ghost use Rattle.code_view.specs.Tables.{AreAllTables};
 ghost use Rattle.file_program.specs.FileGraph.{IsGraphOf};
 ghost use Rattle.file_graph.specs.File.{IsGraphedFile};
 ghost use Rattle.file_program.specs.FileSeeds.{AreSeedsOf};
 ghost use Rattle.file_graph.specs.Survey.{IsFaultOf};
 ghost use Rattle.file_graph.specs.Inner.{AnswersGraph, AnswersSurvey};
 
+use crate::Memory;
 use crate::builder::{Alone, Builder, Workers};
-use crate::graph::{Shown, graph_of};
-use crate::memory::Memory;
-use crate::sharing::{graph_with, state_with, survey_with, tables_with};
+use crate::graph::graph_of;
+use crate::sharing::{graph_with, survey_with, tables_with};
+use crate::shown::Shown;
 use crate::survey::Survey;
 use cfg_model::Graph;
-use code_view::Code;
+use code_view::{AllTables, Code};
 use core_state::State;
 use crew::Gate;
 use elf_image::{ElfError, Image};
@@ -27,19 +27,18 @@ use std::alloc::Global;
 use std::marker::{Model, Sync};
 use std::sync::Wait;
 use std::thread::Threads;
-use table_cuts::TableJump;
 
 /// A file with its seeds and its graph: the seeds and their names are those of the file, and the
 /// graph is the one graph that the file has.
 ///
-/// It also keeps the closed state that the graph was read off. To free that takes time, which a
-/// program that ends soon saves if it forgets the whole (`mem::forget`).
+/// It also keeps the closed state that the graph was read off, if workers built one. To free that
+/// takes time, which a program that ends soon saves if it forgets the whole (`mem::forget`).
 #[derive(Drop)]
 pub struct FileGraph {
     image: Image,
     seeds: Seeds,
     graph: Graph,
-    state: State,
+    state: Option<State>,
 }
 
 impl Model for FileGraph {
@@ -110,24 +109,18 @@ pub fn file_graph_by<R: Threads + Wait + Sync, G: Gate>(
         requires { IsSync R.row × (1 ≤ workers) × (workers ≤ 64) }
         ensures { AnswersSurvey image.now result }
     { survey_with(rt, alloc, image, workers) };
-    let tables = |code: &Code| -> Result<Vec<TableJump>, Memory>
+    let tables = |code: &Code| -> Result<AllTables, Memory>
         requires { IsSync R.row × (1 ≤ workers) }
-        ensures { IfOk result (λ jumps. AreAllTables code.now.bytes jumps.items) }
+        ensures { IfOk result (AreAllTables code.now.bytes) }
     { tables_with(rt, alloc, code, workers) };
-    let state = |code: &Code, seeds: &[u64]| -> Result<State, Memory>
+    let graph = |code: &Code, seeds: &[u64], entry: u64| -> Result<Shown, Memory>
         requires { IsSync R.row × IsSync G.row × (2 ≤ workers) × (workers ≤ 64)
             × AreSeeds (program_of code.now) seeds.now }
-        ensures { IfOk result (λ state. IsClosed (program_of code.now) seeds.now state.maps) }
-    { state_with(rt, alloc, code, seeds, workers, gate) };
-    let graph = |code: &Code, seeds: &[u64], state: &State, entry: u64| -> Result<Graph, Memory>
-        requires { IsSync R.row × (1 ≤ workers) × (workers ≤ 64)
-            × IsClosed (program_of code.now) seeds.now state.now.maps }
         ensures { AnswersGraph (program_of code.now) seeds.now entry result }
-    { graph_with(rt, alloc, code, seeds, state, entry, workers) };
+    { graph_with(rt, alloc, code, seeds, entry, workers, gate) };
     let by = Workers {
         survey,
         tables,
-        state,
         graph,
     };
     graphed(alloc, &by, bytes)

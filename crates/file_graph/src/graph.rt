@@ -5,25 +5,18 @@ ghost use Rattle.chain_index.specs.Found.{AreReachesOf};
 ghost use Rattle.file_program.specs.FileGraph.{IsGraphOf};
 ghost use Rattle.file_program.specs.FileSeeds.{AreSeedsOf};
 
+use crate::Memory;
 use crate::builder::Builder;
-use crate::memory::Memory;
-use crate::settling::{Settled, settle};
-use cfg_model::Graph;
+use crate::cuts::file_cuts;
+use crate::shown::Shown;
 use chain_index::{ChainIndex, ChainReaches};
 use code_view::{Code, Cuts};
-use core_state::State;
 use elf_image::Image;
 use elf_symbols::Seeds;
 use std::alloc::Global;
 
-/// The graph of a file, and the closed state that it was read off.
-#[derive(Drop)]
-pub struct Shown {
-    pub graph: Graph,
-    pub state: State,
-}
-
-/// The graph of a file from its seeds and the reaches of its chains. `by` does the parts.
+/// The graph of a file from its seeds and the reaches of its chains: the least closure from the
+/// seeds under the cuts of those jump tables that are reached if none is cut. `by` does the parts.
 pub fn graph_of<B: Builder>(
     alloc: Global,
     by: &B,
@@ -39,8 +32,9 @@ pub fn graph_of<B: Builder>(
     let index = ChainIndex::of(image, reaches);
     let none = Cuts::none(alloc);
     let uncut = Code::new(image, &index, &none);
-    let Settled { cuts, state } = settle(alloc, by, &uncut, seeds)?;
+    let tables = by.tables(&uncut)?;
+    let uncut = uncut.with_tables(&tables);
+    let cuts = file_cuts(alloc, &uncut, seeds, &tables)?;
     let code = uncut.under(&cuts);
-    let graph = by.graph(&code, seeds.addresses(), &state, image.entry())?;
-    Ok(Shown { graph, state })
+    by.graph(&code, seeds.addresses(), image.entry())
 }

@@ -2,24 +2,20 @@
 //!
 //! - `file`: a file with its graph, and the calls that make it, on one thread or by workers.
 //! - `survey`: what is known of a file before any of its program is followed.
-//! - `settling`: the cuts of the jump tables, and the closed state under them. `graph`: the graph that
-//!   is read off it.
-//! - `builder`: who does the parts of this: the caller's thread, or workers. `shown` is how the
-//!   caller's thread reads a graph off a state, and `sharing` what workers do of each part.
-//! - `memory`: the one error of all but the calls that judge a file.
+//! - `graph`: the graph of a file, step by step. `cuts`: the cuts of its jump tables.
+//! - `builder`: who does the parts of this: the caller's thread, or workers. `shown` is the graph that
+//!   they make, which `sharing` reads off the closed state that workers build.
 #![tactic(auto)]
 
 mod builder;
+mod cuts;
 mod file;
 mod graph;
-mod memory;
-mod settling;
 mod sharing;
 mod shown;
 mod survey;
 
 pub use builder::{Alone, Builder, Workers};
 pub use file::{FileGraph, file_graph, file_graph_by};
-pub use memory::Memory;
-pub use settling::{Settled, settle};
+pub use std::alloc::AllocError as Memory;
 pub use survey::Survey;

@@ -8,16 +8,16 @@ ghost use Rattle.code_view.specs.FileCode.{program_of};
 ghost use Rattle.cfg_model.specs.Graph.Graph.{IsGraph};
 ghost use Rattle.chain_index.specs.Found.{AreReachesOf};
 ghost use Rattle.finaliser.specs.Closed.{IsClosedFromSome, IsOutlineOf};
-ghost use Rattle.table_cuts.specs.Tables.{AreAllTables};
+ghost use Rattle.code_view.specs.Tables.{AreAllTables};
 ghost use Rattle.file_graph.specs.Survey.{IsFaultOf, IsSurveyOf};
 ghost use Rattle.file_graph.specs.Inner.{AnswersSeeds};
 
-use crate::memory::Memory;
+use crate::Memory;
+use crate::shown::Shown;
 use crate::survey::Survey;
-use alone::build_alone;
 use cfg_model::{Graph, Outline};
 use chain_index::ChainReaches;
-use code_view::Code;
+use code_view::{AllTables, Code};
 use core_state::State;
 use crew::{Gate, build};
 use elf_image::{ElfError, Image};
@@ -28,7 +28,6 @@ use std::alloc::Global;
 use std::marker::Sync;
 use std::sync::Wait;
 use std::thread::{Threads, join};
-use table_cuts::TableJump;
 use table_trim::all_tables_by;
 
 /// The gaps between the bounds of an outline that there are for each worker. With one each, all
@@ -54,7 +53,7 @@ pub fn survey_with<R: Threads + Sync>(
         || -> Result<Seeds, ElfError>
             ensures { AnswersSeeds image.entry.now result }
         { seeds(alloc, image) },
-        || -> Result<ChainReaches, chain_index::Memory>
+        || -> Result<ChainReaches, Memory>
             requires { IsSync R.row × (1 ≤ workers) × (workers ≤ 64) }
             ensures { IfOk result (AreReachesOf image.entry.now) }
         { ChainReaches::new_by(rt, alloc, image, workers) },
@@ -72,37 +71,43 @@ pub fn tables_with<R: Threads + Sync>(
     alloc: Global,
     code: &Code,
     workers: u32,
-) -> Result<Vec<TableJump>, Memory>
+) -> Result<AllTables, Memory>
     requires { 1 ≤ workers }
-    ensures { IfOk result (λ jumps. AreAllTables code.now.bytes jumps.items) }
+    ensures { IfOk result (AreAllTables code.now.bytes) }
 {
-    Ok(all_tables_by(rt, alloc, code, workers)?)
+    all_tables_by(rt, alloc, code, workers)
 }
 
-/// A closed state of a program from its seeds, built by `workers` workers. From one seed it is built
-/// on the caller's thread: there nearly each function is found by a call of the one before it, so
-/// that workers would wait for one another.
-pub fn state_with<R: Threads + Wait + Sync, G: Gate>(
+/// The graph of a program with this entry, made by `workers` workers, who build a closed state first.
+/// From one seed it is made on the caller's thread: there nearly each function is found by a call of
+/// the one before it, so that workers would wait for one another.
+pub fn graph_with<R: Threads + Wait + Sync, G: Gate>(
     rt: &R,
     alloc: Global,
     code: &Code,
     seeds: &[u64],
+    entry: u64,
     workers: u32,
     gate: &G,
-) -> Result<State, Memory>
+) -> Result<Shown, Memory>
     requires least { 2 ≤ workers }
     requires most { workers ≤ 64 }
     requires seeds { AreSeeds (program_of code.now) seeds.now }
-    ensures { IfOk result (λ state. IsClosed (program_of code.now) seeds.now state.maps) }
+    ensures { IfOk result (λ shown. IsGraph (program_of code.now) seeds.now entry shown.graph) }
 {
     if seeds.len() < 2 {
-        return Ok(build_alone(alloc, code, seeds)?);
+        return Shown::alone(alloc, code, seeds, entry);
     }
-    Ok(build(rt, alloc, code, seeds, workers, gate)?)
+    let state = build(rt, alloc, code, seeds, workers, gate)?;
+    let graph = read_off(rt, alloc, code, seeds, &state, entry, workers)?;
+    Ok(Shown {
+        graph,
+        state: Some(state),
+    })
 }
 
-/// The graph of a program with this entry, from its closed state, made by `workers` workers.
-pub fn graph_with<R: Threads + Sync>(
+/// The graph of a program with this entry, read off its closed state by `workers` workers.
+fn read_off<R: Threads + Sync>(
     rt: &R,
     alloc: Global,
     code: &Code,
@@ -141,5 +146,5 @@ fn outline_with<R: Threads + Sync>(
     ensures { IfOk result (IsOutlineOf (program_of code.now) state.now.maps) }
 {
     let bounds = code.bounds(alloc, workers.saturating_mul(GAPS_PER_WORKER))?;
-    Ok(blocks_and_edges_by(rt, alloc, code, state, &bounds, workers)?)
+    blocks_and_edges_by(rt, alloc, code, state, &bounds, workers)
 }

@@ -1,38 +1,39 @@
-//! The graph that a closed state shows.
+//! The graph of a program, and what it was read off.
 
-ghost use Rattle.std.specs.Prelude.{◌≡◌, IfOk, IfErr};
+ghost use Rattle.std.specs.Prelude.{IfOk};
 ghost use Rattle.cfg_model.specs.Graph.Graph.{IsGraph};
-ghost use Rattle.cfg_model.specs.Builder.Kept.{IsClosed};
+ghost use Rattle.cfg_model.specs.Program.Reach.{AreSeeds};
 ghost use Rattle.code_view.specs.FileCode.{program_of};
 
-use crate::memory::Memory;
-use cfg_model::{Graph, Outline};
+use crate::Memory;
+use cfg_model::Graph;
 use code_view::Code;
 use core_state::State;
-use finaliser::blocks_and_edges;
-use func_bodies::{functions, mark_tails};
+use reached_graph::graph_of;
 use std::alloc::Global;
 
-/// The graph of a program with this entry, from its closed state, made on the caller's thread: the
-/// outline of the state, the functions, and the tail calls among the edges.
-pub fn shown(
-    alloc: Global,
-    code: &Code,
-    seeds: &[u64],
-    state: &State,
-    entry: u64,
-) -> Result<Graph, Memory>
-    requires closed { IsClosed (program_of code.now) seeds.now state.now.maps }
-    ensures { IfOk result (IsGraph (program_of code.now) seeds.now entry) }
-{
-    let outline = blocks_and_edges(alloc, code, state)?;
-    let functions = functions(alloc, code, seeds, state, &outline)?;
-    let Outline { blocks, mut edges } = outline;
-    mark_tails(&functions, &mut edges);
-    Ok(Graph {
-        entry,
-        functions,
-        blocks,
-        edges,
-    })
+/// The graph of a program.
+#[derive(Drop)]
+pub struct Shown {
+    /// The graph.
+    pub graph: Graph,
+    /// The closed state that it was read off, if workers built one.
+    pub state: Option<State>,
+}
+
+impl Shown {
+    /// The graph of the program `code` with this entry, made on the caller's thread.
+    pub(crate) fn alone(
+        alloc: Global,
+        code: &Code,
+        seeds: &[u64],
+        entry: u64,
+    ) -> Result<Shown, Memory>
+        requires seeds { AreSeeds (program_of code.now) seeds.now }
+        ensures { IfOk result
+            (λ shown. IsGraph (program_of code.now) seeds.now entry shown.graph) }
+    {
+        let graph = graph_of(alloc, code, entry, seeds)?;
+        Ok(Shown { graph, state: None })
+    }
 }

@@ -7,9 +7,9 @@ use Rattle.jump_table.specs.Table.{table_at}
 use Rattle.cfg_model.specs.Program.Cuts.{AreCuts}
 use Rattle.cfg_model.specs.Program.Reach.{Reached}
 use Rattle.code_view.specs.FileCode.{FileCode, program_of}
-use Rattle.table_cuts.specs.declared.jump.TableJump.{TableJump}
+use Rattle.code_view.specs.declared.table_jump.TableJump.{TableJump}
 use Rattle.table_cuts.specs.Extents.{extent_at}
-use Rattle.table_cuts.specs.Tables.{AreAllTables, addresses_of}
+use Rattle.code_view.specs.Tables.{AreAllTables, addresses_of}
 use Rattle.table_cuts.proofs.Counted.{cuts-other, has-table}
 use Rattle.reached_cuts.specs.Counted.{AreReachedAmong}
 

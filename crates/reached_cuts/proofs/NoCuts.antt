@@ -6,9 +6,9 @@ use Rattle.std.proofs.lemmas.Bool.{cases_order}
 use Rattle.cfg_model.specs.Program.Cuts.{Extent, IsBaseInside, IsCutTo, AreCuts, kept_before}
 use Rattle.cfg_model.proofs.Program.Listed.{none_in, head_in, tail_in, in_cases}
 use Rattle.jump_table.specs.Table.{table_at}
-use Rattle.table_cuts.specs.declared.jump.TableJump.{TableJump}
+use Rattle.code_view.specs.declared.table_jump.TableJump.{TableJump}
 use Rattle.table_cuts.specs.Extents.{extent_of, extent_at}
-use Rattle.table_cuts.specs.Tables.{AreTablesOf, AreAllTables, addresses_of}
+use Rattle.code_view.specs.Tables.{AreTablesOf, AreAllTables, addresses_of}
 use Rattle.std.proofs.lemmas.Nat.{le-div}
 use Rattle.std.proofs.Math.Nat.{div-mul-le_self, le-max_left, le-max_right, max-le}
 use Rattle.table_cuts.proofs.Counted.{has-table}

@@ -2,8 +2,8 @@
 use Rattle.std.specs.Prelude.{ℕ, List, Contains}
 use Rattle.cfg_model.specs.Program.Reach.{Reached}
 use Rattle.code_view.specs.FileCode.{FileCode, program_of}
-use Rattle.table_cuts.specs.declared.jump.TableJump.{TableJump}
-use Rattle.table_cuts.specs.Tables.{AreTablesOf, addresses_of}
+use Rattle.code_view.specs.declared.table_jump.TableJump.{TableJump}
+use Rattle.code_view.specs.Tables.{AreTablesOf, addresses_of}
 
 -- These are those of some jumps through tables that the program reaches from its seeds.
 pub record AreReachedAmong (code : FileCode) (seeds : List ℕ) (tables counted : List TableJump)

@@ -6,14 +6,14 @@ ghost use Rattle.cfg_model.specs.Program.Reach.{Reached};
 ghost use Rattle.code_view.specs.Cuts.{cut_of, CutsFit};
 ghost use Rattle.code_view.specs.FileCode.{program_of};
 ghost use Rattle.table_cuts.specs.Extents.{extent_at};
-ghost use Rattle.table_cuts.specs.Tables.{AreAllTables, AreTablesOf};
+ghost use Rattle.code_view.specs.Tables.{AreAllTables, AreTablesOf};
 ghost use Rattle.reached_cuts.specs.Counted.{AreReachedAmong};
 
-use crate::memory::Memory;
-use code_view::{Code, Cuts};
+use crate::Memory;
+use code_view::{AllTables, Code, Cuts, TableJump};
 use reached_terms::ReachedTerms;
 use std::alloc::Global;
-use table_cuts::{TableJump, cuts_of};
+use table_cuts::cuts_of;
 
 /// The cuts of jump tables, of which `tables` are all in the code. Those count whose jumps the
 /// program `code` reaches from its seeds. If all tables together cut none, the ones that count cut
@@ -25,7 +25,7 @@ pub fn reached_cuts(
     alloc: Global,
     code: &Code,
     seeds: &[u64],
-    tables: &[TableJump],
+    tables: &AllTables,
 ) -> Result<Cuts, Memory>
     requires seeds { All (λ a. IsSome (program_of code.now a)) seeds.now }
     requires tables { AreAllTables code.now.bytes tables.now }
@@ -33,11 +33,12 @@ pub fn reached_cuts(
         (Reached (program_of code.now) seeds.now) (cut_of cuts)) }
     ensures fits { IfOk result (λ cuts. CutsFit code.now.bytes (cut_of cuts)) }
 {
-    let cuts = cuts_of(alloc, tables)?;
+    let listed = tables.jumps();
+    let cuts = cuts_of(alloc, listed)?;
     if cuts.is_empty() {
         return Ok(cuts);
     }
-    let counted = reached_among(alloc, code, seeds, tables)?;
+    let counted = reached_among(alloc, code, seeds, listed)?;
     Ok(cuts_of(alloc, &counted)?)
 }
 

@@ -5,7 +5,6 @@
 #![tactic(auto)]
 
 mod cuts;
-mod memory;
 
 pub use cuts::reached_cuts;
-pub use memory::Memory;
+pub use std::alloc::AllocError as Memory;

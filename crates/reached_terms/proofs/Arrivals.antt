@@ -1,8 +1,7 @@
 -- A terminator that is found.
-use Rattle.std.proofs.Common.{◌≡◌, ℕ, ◌+◌, ◌<◌, ◌≤◌, ◌⊎◌, Bool, true, false, List, [], ◌∷◌, ◌++◌, length, get_or, set, IsSome, refl, sym, ap, ◌∙◌, subst, arith, inl, inr}
+use Rattle.std.proofs.Common.{◌≡◌, ℕ, ◌<◌, ◌⊎◌, Bool, true, false, List, [], ◌∷◌, ◌++◌, length, get_or, set, IsSome, refl, sym, ap, ◌∙◌, subst, arith, inl, inr}
 use Rattle.std.specs.Prelude.{Contains}
-use Rattle.std.proofs.lemmas.Bool.{cases_eq}
-use Rattle.std.proofs.lemmas.List.{get_or_append_left, length_push, length-set, get_or_default}
+use Rattle.std.proofs.lemmas.List.{get_or_append_left, length_push, length-set}
 use Rattle.std.proofs.lemmas.List.Elements.{All-push, Contains-append_left, Contains-push}
 use Rattle.cfg_model.specs.Program.Instructions.{InstructionMap}
 use Rattle.cfg_model.specs.Program.Chain.{IsTerminator, IsTerminatorOf, OnChain}
@@ -10,8 +9,8 @@ use Rattle.cfg_model.specs.Program.Reach.{Reached}
 use Rattle.cfg_model.proofs.Program.Along.{next_is_successor}
 use Rattle.reached_terms.specs.declared.marks.Way.{Way}
 use Rattle.reached_terms.specs.declared.marks.Marks.{Marks}
-use Rattle.reached_terms.specs.Inner.Marks.{IsOn, AreKept, AreRight, AreTold, IsDone}
-use Rattle.reached_terms.specs.Inner.Steps.{Grow, Step, left_to_tell}
+use Rattle.reached_terms.specs.Inner.Marks.{IsOn, AreNoted, AreKept, AreRight, AreTold, IsDone}
+use Rattle.reached_terms.specs.Inner.Steps.{Grow, Step}
 use Rattle.reached_terms.proofs.Bits.{on_set, on_kept, on_cases, one_less}
 use Rattle.reached_terms.proofs.Growth.{done-grow}
 
@@ -22,7 +21,7 @@ reached_on {map} (OnChain.on {a = a} {next = next} goes rest) reached = reached_
 
 module _ (map : InstructionMap) (number : ℕ → ℕ) (a k : ℕ) (old new : Marks) (kept : AreKept map number old) (ends : IsTerminatorOf map a k) (has : IsSome (map k)) (off : get_or old.reached.items (number k) true ≡ false)
     (reached : new.reached.items ≡ set old.reached.items (number k) true) (order : new.order.items ≡ old.order.items ++ k ∷ [])
-    (returns : new.returns ≡ old.returns) (waiting : new.waiting ≡ old.waiting) (ways : new.ways ≡ old.ways) (untold : new.untold ≡ old.untold) where
+    (returns : new.returns ≡ old.returns) (waiting : new.waiting ≡ old.waiting) (ways : new.ways ≡ old.ways) (untold : new.untold ≡ old.untold) (sent : new.sent ≡ old.sent) where
   within : number k < length old.reached.items
   within = kept.numbering.below k has
 
@@ -40,6 +39,9 @@ module _ (map : InstructionMap) (number : ℕ → ℕ) (a k : ℕ) (old new : Ma
 
   same_untold : new.untold.items ≡ old.untold.items
   same_untold = ap (λ v. v.items) untold
+
+  same_sent : new.sent.list.items ≡ old.sent.list.items
+  same_sent = ap (λ s. s.list.items) sent
 
   stays : (n : ℕ) → IsOn old.reached.items n → IsOn new.reached.items n
   stays n on = rw reached (on_kept old.reached.items (number k) within n on)
@@ -64,6 +66,7 @@ module _ (map : InstructionMap) (number : ℕ → ℕ) (a k : ℕ) (old new : Ma
     untold = rw same_untold kept.untold;
     last = rw (size, same_ways, same_waiting) kept.last;
     before = rw same_ways kept.before;
+    sent = subst (AreNoted map number) (sym sent) kept.sent;
   }
 
   arrive_grow : Grow old new
@@ -76,6 +79,7 @@ module _ (map : InstructionMap) (number : ℕ → ℕ) (a k : ℕ) (old new : Ma
     same_ways = λ i d inside. rw same_ways refl;
     more = rw order (omega (arith, length_push old.order.items k));
     same = λ i d inside. rw order (get_or_append_left old.order.items (k ∷ []) d i inside);
+    sent = λ x there. rw same_sent there;
   }
 
   arrive_right : (seeds : List ℕ) → AreRight map number seeds old → Reached map seeds a → AreRight map number seeds new
@@ -89,6 +93,7 @@ module _ (map : InstructionMap) (number : ℕ → ℕ) (a k : ℕ) (old new : Ma
     returns = rw same_returns right.returns;
     ways = rw same_ways right.ways;
     untold = rw same_untold right.untold;
+    sent = rw same_sent right.sent;
   }
 
   arrive_told : (p at : ℕ) → AreTold map number old p at → AreTold map number new p at

@@ -1,17 +1,13 @@
 -- The changes of the marks, one by one.
-use Rattle.std.proofs.Common.{◌≡◌, ℕ, zero, suc, ◌+◌, ◌<◌, ◌≤◌, ◌≢◌, ◌⊎◌, Bool, true, false, List, [], ◌∷◌, ◌++◌, length, get_or, set, Option, Some, None, IsSome, refl, sym, ap, ◌∙◌, subst, arith, inl, inr}
+use Rattle.std.proofs.Common.{◌≡◌, ℕ, ◌+◌, ◌<◌, ◌≤◌, ◌⊎◌, Bool, true, false, List, [], ◌∷◌, ◌++◌, length, get_or, set, Option, IsSome, refl, sym, ap, ◌∙◌, subst, arith, inl, inr}
 use Rattle.std.specs.Prelude.{IfSome, Contains, All}
-use Rattle.std.proofs.lemmas.Bool.{cases_Bool, cases_eq, cases_order}
-use Rattle.std.proofs.lemmas.List.{get_or_append_left, get_or_push, length_push, length-set, get_or-set_same, get_or-set_other}
-use Rattle.std.proofs.lemmas.List.Elements.{All-push, Contains-append_left, Contains-push, Contains-push_cases}
-use Rattle.cfg_model.specs.Program.Instructions.{InstructionMap, IsLawful}
-use Rattle.cfg_model.specs.Program.Chain.{IsTerminator, IsTerminatorOf}
-use Rattle.cfg_model.specs.Program.Reach.{Reached}
-use Rattle.cfg_model.specs.Program.Status.{Returns}
+use Rattle.std.proofs.lemmas.Bool.{cases_eq}
+use Rattle.std.proofs.lemmas.List.{length_push, length-set, get_or-set_same, get_or-set_other}
+use Rattle.std.proofs.lemmas.List.Elements.{All-push, Contains-append_left, Contains-push}
+use Rattle.cfg_model.specs.Program.Instructions.{InstructionMap}
 use Rattle.reached_terms.specs.declared.marks.Way.{Way}
 use Rattle.reached_terms.specs.declared.marks.Marks.{Marks}
-use Rattle.reached_terms.specs.Numbering.{IsNumbering}
-use Rattle.reached_terms.specs.Inner.Marks.{IsOn, count_off, IsNumberOf, HasWay, IsWay, IsLast, AreKept, AreRight, AreTold, LeadsBy, ReturnsBy, IsDone, IsDoneBy}
+use Rattle.reached_terms.specs.Inner.Marks.{IsOn, IsNumberOf, HasWay, IsWay, IsLast, AreNoted, AreKept, AreRight, AreTold, LeadsBy, ReturnsBy, IsDone, IsDoneBy}
 use Rattle.reached_terms.specs.Inner.Steps.{Grow, Step, IsMarked, IsLinked, left_to_tell}
 use Rattle.reached_terms.proofs.Bits.{on_set, on_kept, on_cases, one_less, none_less, is_on}
 use Rattle.reached_terms.proofs.Growth.{done-grow, step-on}
@@ -39,6 +35,9 @@ module _ (map : InstructionMap) (number : ℕ → ℕ) (n : ℕ) (old new : Mark
   same_waiting : new.waiting.items ≡ old.waiting.items
   same_waiting = ap (λ v. v.items) marked.waiting
 
+  same_sent : new.sent.list.items ≡ old.sent.list.items
+  same_sent = ap (λ s. s.list.items) marked.sent
+
   -- who is still to be told is, or was before
   untold_cases : (was : Bool) → get_or old.returns.items n true ≡ was → (was ≡ true) × (new.untold.items ≡ old.untold.items) ⊎ ((was ≡ false) × (new.untold.items ≡ old.untold.items ++ n ∷ []))
   untold_cases true was = inl (refl, rw was at marked.untold)
@@ -63,6 +62,7 @@ module _ (map : InstructionMap) (number : ℕ → ℕ) (n : ℕ) (old new : Mark
     untold = mark_untold (IsNumberOf map number) is_number kept.untold;
     last = rw (same_reached, same_ways, same_waiting) kept.last;
     before = rw same_ways kept.before;
+    sent = subst (AreNoted map number) (sym marked.sent) kept.sent;
   }
 
   mark_grow : Grow old new
@@ -75,6 +75,7 @@ module _ (map : InstructionMap) (number : ℕ → ℕ) (n : ℕ) (old new : Mark
     same_ways = λ i d inside. rw same_ways refl;
     more = rw same_order (omega arith);
     same = λ i d inside. rw same_order refl;
+    sent = λ a there. rw same_sent there;
   }
 
   mark_right : (seeds : List ℕ) → AreRight map number seeds old → ReturnsBy map number n → AreRight map number seeds new
@@ -86,6 +87,7 @@ module _ (map : InstructionMap) (number : ℕ → ℕ) (n : ℕ) (old new : Mark
     ];
     ways = rw same_ways right.ways;
     untold = mark_untold (ReturnsBy map number) given right.untold;
+    sent = rw same_sent right.sent;
   }
 
   still_untold : (m : ℕ) → Contains old.untold.items m → Contains new.untold.items m
@@ -156,6 +158,9 @@ module _ (map : InstructionMap) (number : ℕ → ℕ) (from to : ℕ) (fall : O
   l_untold : new.untold.items ≡ old.untold.items
   l_untold = ap (λ v. v.items) linked.untold
 
+  l_sent : new.sent.list.items ≡ old.sent.list.items
+  l_sent = ap (λ s. s.list.items) linked.sent
+
   link_last : (n d : ℕ) → n < length old.reached.items → IsLast (old.ways.items ++ way ∷ []) n (length (old.ways.items ++ way ∷ [])) (get_or (set old.waiting.items to (length old.ways.items + 1)) n d)
   link_last n d inside = elim (cases_eq n to) [
     | inl same ↦
@@ -194,6 +199,7 @@ module _ (map : InstructionMap) (number : ℕ → ℕ) (from to : ℕ) (fall : O
     untold = rw l_untold kept.untold;
     last = rw (l_reached, linked.ways, linked.waiting) link_last;
     before = rw linked.ways link_before;
+    sent = subst (AreNoted map number) (sym linked.sent) kept.sent;
   }
 
   link_grow : Grow old new
@@ -206,6 +212,7 @@ module _ (map : InstructionMap) (number : ℕ → ℕ) (from to : ℕ) (fall : O
     same_ways = λ i d inside. rw linked.ways (old_way old.ways.items way i d inside);
     more = rw l_order (omega arith);
     same = λ i d inside. rw l_order refl;
+    sent = λ a there. rw l_sent there;
   }
 
   link_right : (seeds : List ℕ) → AreRight map number seeds old → LeadsBy map number seeds from to fall → AreRight map number seeds new
@@ -214,6 +221,7 @@ module _ (map : InstructionMap) (number : ℕ → ℕ) (from to : ℕ) (fall : O
     returns = rw l_returns right.returns;
     ways = rw linked.ways (All-push (λ w. LeadsBy map number seeds w.from w.to w.fall) old.ways.items way right.ways given);
     untold = rw l_untold right.untold;
+    sent = rw l_sent right.sent;
   }
 
   link_told : (IsOn old.returns.items to → IsDoneBy map number old from fall) → (p at : ℕ) → AreTold map number old p at → AreTold map number new p at

@@ -1,5 +1,5 @@
 -- The closure, terminator by terminator.
-use Rattle.std.proofs.Common.{◌≡◌, ℕ, ◌+◌, ◌<◌, ◌≤◌, ◌⊎◌, List, [], ◌∷◌, ◌++◌, length, take, get_or, refl, sym, ap, ◌∙◌, subst, arith, inl, inr}
+use Rattle.std.proofs.Common.{◌≡◌, ℕ, ◌+◌, ◌<◌, ◌≤◌, List, length, take, get_or, IsSome, sym, ap, ◌∙◌, subst, arith, inl, inr}
 use Rattle.std.specs.Prelude.{All, Contains}
 use Rattle.std.proofs.lemmas.Bool.{cases_order}
 use Rattle.std.proofs.lemmas.List.{get_or_default, take_more, take_all}
@@ -9,22 +9,24 @@ use Rattle.cfg_model.specs.Program.Chain.{IsTerminator, IsTerminatorOf}
 use Rattle.cfg_model.specs.Program.Reach.{Reached}
 use Rattle.reached_terms.specs.declared.marks.Marks.{Marks}
 use Rattle.reached_terms.specs.Reached.{AreReachedTerms}
+use Rattle.reached_terms.specs.Sent.{IsSent}
 use Rattle.reached_terms.specs.Inner.Marks.{IsOn, AreKept, AreRight, AreTold, IsVisited}
 use Rattle.reached_terms.specs.Inner.Steps.{Grow, Step, IsArrived}
-use Rattle.reached_terms.proofs.Complete.{ends_stand, exact}
+use Rattle.reached_terms.proofs.Complete.{ends_stand, exact, returns_exact, sent_exact}
 use Rattle.reached_terms.proofs.Growth.{visited-grow}
+use Rattle.reached_terms.proofs.Sending.{reached_stands}
 
--- The terminator of s is marked.
+-- The terminator of s is marked, and control is sent to s.
 pub IsFrom : InstructionMap → (ℕ → ℕ) → Marks → ℕ → Type 0
-IsFrom map number m s = (k : ℕ) × IsTerminatorOf map s k × IsOn m.reached.items (number k)
+IsFrom map number m s = (k : ℕ) × IsTerminatorOf map s k × IsOn m.reached.items (number k) × Contains m.sent.list.items s
 
 pub from-grow : (map : InstructionMap) (number : ℕ → ℕ) (old new : Marks) → Grow old new → (s : ℕ) → IsFrom map number old s → IsFrom map number new s
 unfolding IsFrom
-from-grow map number old new grow s from = (from.0, from.1, grow.reached (number from.0) from.2)
+from-grow map number old new grow s from = (from.0, from.1, grow.reached (number from.0) from.2, grow.sent s from.3)
 
-pub from-arrived : (map : InstructionMap) (number : ℕ → ℕ) (m : Marks) (s n : ℕ) → IsArrived map number m s n → IsFrom map number m s
+pub from-arrived : (map : InstructionMap) (number : ℕ → ℕ) (m : Marks) (s n : ℕ) → IsArrived map number m s n → Contains m.sent.list.items s → IsFrom map number m s
 unfolding IsFrom
-from-arrived map number m s n at = (at.end, at.ends, subst (λ k. IsOn m.reached.items k) at.is at.reached)
+from-arrived map number m s n at sent = (at.end, at.ends, subst (λ k. IsOn m.reached.items k) at.is at.reached, sent)
 
 -- Some of the seeds are taken.
 pub record IsSeeded (map : InstructionMap) (number : ℕ → ℕ) (seeds seen : List ℕ) (m : Marks) : Type 0 where
@@ -35,16 +37,16 @@ pub record IsSeeded (map : InstructionMap) (number : ℕ → ℕ) (seeds seen : 
   pub from : (s : ℕ) → Contains seen s → IsFrom map number m s
 
 module _ (map : InstructionMap) (number : ℕ → ℕ) (seeds : List ℕ) where
-  pub seed-on : (i : ℕ) (old new : Marks) (n : ℕ) → i < length seeds → IsSeeded map number seeds (take i seeds) old → Step map number (λ all. Reached map all (get_or seeds i 0)) old new → IsArrived map number new (get_or seeds i 0) n
+  pub seed-on : (i : ℕ) (old new : Marks) (n : ℕ) → i < length seeds → IsSeeded map number seeds (take i seeds) old → Step map number (λ all. IsSent map all (get_or seeds i 0)) old new → IsArrived map number new (get_or seeds i 0) n → Contains new.sent.list.items (get_or seeds i 0)
       → new.untold ≡ old.untold → IsSeeded map number seeds (take (i + 1) seeds) new
-  seed-on i old new n within so_far step at untold = record {
+  seed-on i old new n within so_far step at sent untold = record {
     kept = step.kept;
-    right = step.right seeds so_far.right (Reached.seed (i, within, get_or_default seeds i (get_or seeds i 0) 0 within));
+    right = step.right seeds so_far.right (IsSent.seed (i, within, get_or_default seeds i (get_or seeds i 0) 0 within));
     told = λ m. step.told m 0 (so_far.told m);
     none = ap (λ v. length v.items) untold ∙ so_far.none;
     from = λ s there. elim (Contains-push_cases (take i seeds) (get_or seeds i 0) s (subst (λ xs. Contains xs s) (take_more seeds i 0 within) there)) [
       | inl before ↦ from-grow map number old new step.grow s (so_far.from s before)
-      | inr here ↦ subst (IsFrom map number new) here (from-arrived map number new (get_or seeds i 0) n at)
+      | inr here ↦ subst (IsFrom map number new) here (from-arrived map number new (get_or seeds i 0) n at sent)
     ];
   }
 
@@ -101,16 +103,23 @@ module _ (map : InstructionMap) (number : ℕ → ℕ) (seeds : List ℕ) where
     pub fewer : length new.reached.items ≡ length old.reached.items
     fewer = grow.size ∙ step.grow.size
 
-  pub closed : (m : Marks) (i : ℕ) → length m.order.items ≤ i → IsClosing m i → AreReachedTerms map number seeds m.reached.items
-  unfolding IsFrom
-  closed m i past closing =
-      let so_far = closing.seeded in
-      record {
-        below = so_far.kept.numbering.below;
-        reached = exact map number seeds m so_far.kept so_far.right (so_far.told 0) so_far.none
-            (λ k there.
-            let at = there.0 in
-            let is : get_or m.order.items at 0 ≡ k = get_or_default m.order.items at 0 k there.1 ∙ there.2 in
-            subst (IsVisited map number m) is (closing.visited at (omega (arith, there.1, past)) there.1))
-            so_far.from;
-      }
+  module _ (m : Marks) (i : ℕ) (past : length m.order.items ≤ i) (closing : IsClosing m i) where
+    all_visited : (k : ℕ) → Contains m.order.items k → IsVisited map number m k
+    all_visited k there =
+        let at = there.0 in
+        let is : get_or m.order.items at 0 ≡ k = get_or_default m.order.items at 0 k there.1 ∙ there.2 in
+        subst (IsVisited map number m) is (closing.visited at (omega (arith, there.1, past)) there.1)
+
+    pub closed : All (λ s. IsSome (map s)) seeds → AreReachedTerms map number seeds (record { reached = m.reached.items; returns = m.returns.items; sent = m.sent.list.items })
+    unfolding IsFrom
+    closed known =
+        let so_far = closing.seeded in
+        record {
+          below = so_far.kept.numbering.below;
+          sizes = so_far.kept.returns;
+          known = λ a reached. reached_stands so_far.kept.lawful known reached;
+          reached = exact map number seeds m so_far.kept so_far.right (so_far.told 0) so_far.none all_visited so_far.from;
+          returns = returns_exact map number seeds m so_far.kept so_far.right (so_far.told 0) so_far.none all_visited so_far.from;
+          sent = sent_exact map number seeds m so_far.kept so_far.right (so_far.told 0) so_far.none all_visited so_far.from;
+          once = so_far.kept.sent.once;
+        }

@@ -1,11 +1,10 @@
 -- What holds of the marks stays as they grow.
-use Rattle.std.proofs.Common.{◌≡◌, ℕ, ◌+◌, ◌<◌, ◌≤◌, List, length, get_or, Option, Some, None, refl, sym, ap, ◌∙◌, subst, arith, inl, inr}
-use Rattle.std.specs.Prelude.{IfSome, Contains}
+use Rattle.std.proofs.Common.{ℕ, List, Option, Some, None, refl, ◌∙◌, arith}
+use Rattle.std.specs.Prelude.{IfSome}
 use Rattle.cfg_model.specs.Program.Instructions.{InstructionMap}
-use Rattle.reached_terms.specs.declared.marks.Way.{Way}
 use Rattle.reached_terms.specs.declared.marks.Marks.{Marks}
 use Rattle.reached_terms.specs.Inner.Marks.{HasWay, IsLed, IsCalled, IsVisited, IsDoneBy, AreKept, AreRight}
-use Rattle.reached_terms.specs.Inner.Steps.{Grow, Step, left_to_tell}
+use Rattle.reached_terms.specs.Inner.Steps.{Grow, Step}
 
 pub grow-none : (m : Marks) → Grow m m
 grow-none m = record {
@@ -17,6 +16,7 @@ grow-none m = record {
   same_ways = λ i d within. refl;
   more = omega arith;
   same = λ i d within. refl;
+  sent = λ a there. there;
 }
 
 pub grow-on : (a b c : Marks) → Grow a b → Grow b c → Grow a c
@@ -29,6 +29,7 @@ grow-on a b c first second = record {
   same_ways = λ i d within. second.same_ways i d (omega (arith, within, first.more_ways)) ∙ first.same_ways i d within;
   more = omega (arith, first.more, second.more);
   same = λ i d within. second.same i d (omega (arith, within, first.more)) ∙ first.same i d within;
+  sent = λ x there. second.sent x (first.sent x there);
 }
 
 module _ (map : InstructionMap) (number : ℕ → ℕ) (old new : Marks) (grow : Grow old new) where
@@ -36,14 +37,18 @@ module _ (map : InstructionMap) (number : ℕ → ℕ) (old new : Marks) (grow :
   way-grow from to fall has = record { way = has.way; there = grow.ways has.way has.there; from_is = has.from_is; to_is = has.to_is; fall_is = has.fall_is }
 
   pub led-grow : (n b : ℕ) → IsLed map number old n b → IsLed map number new n b
-  led-grow n b led = record { end = led.end; ends = led.ends; reached = grow.reached (number led.end) led.reached; way = way-grow n (number led.end) None led.way }
+  led-grow n b led = record { end = led.end; ends = led.ends; reached = grow.reached (number led.end) led.reached; way = way-grow n (number led.end) None led.way; sent = grow.sent b led.sent }
 
   fall-grow : (n t : ℕ) (fall : Option ℕ) → IfSome fall (λ f. HasWay old.ways.items n t (Some f)) → IfSome fall (λ f. HasWay new.ways.items n t (Some f))
   fall-grow n t None way = way
   fall-grow n t (Some f) way = way-grow n t (Some f) way
 
   pub called-grow : (n target : ℕ) (fall : Option ℕ) → IsCalled map number old n target fall → IsCalled map number new n target fall
-  called-grow n target fall called = record { end = called.end; ends = called.ends; reached = grow.reached (number called.end) called.reached; way = fall-grow n (number called.end) fall called.way }
+  called-grow n target fall called = record { end = called.end; ends = called.ends; reached = grow.reached (number called.end) called.reached; way = fall-grow n (number called.end) fall called.way; sent = grow.sent target called.sent }
+
+  pub led_any-grow : (n : ℕ) (b : Option ℕ) → IfSome b (IsLed map number old n) → IfSome b (IsLed map number new n)
+  led_any-grow n None led = led
+  led_any-grow n (Some b) led = led-grow n b led
 
   pub done-grow : (from : ℕ) (fall : Option ℕ) → IsDoneBy map number old from fall → IsDoneBy map number new from fall
   done-grow from None done = grow.returns from done

@@ -1,23 +1,25 @@
 -- Why what is given to a change is so.
-use Rattle.std.proofs.Common.{◌≡◌, ℕ, Bool, true, false, List, [], ◌∷◌, ◌++◌, Option, Some, None, IsSome, refl, sym, ap, ◌∙◌, subst, inl, inr, arith, ◌+◌, ◌<◌, ◌≤◌, length, take, get_or}
-use Rattle.std.specs.Prelude.{IfSome, All, Contains, option_to_list}
+use Rattle.std.proofs.Common.{◌≡◌, ℕ, List, [], ◌∷◌, ◌++◌, Option, Some, None, IsSome, refl, sym, ◌∙◌, subst, arith, ◌+◌, ◌<◌, ◌≤◌, length, take, get_or}
+use Rattle.std.specs.Prelude.{OnOk, Result, Ok, Err, All, Contains}
 use Rattle.std.proofs.lemmas.List.{get_or_append_left, length_push, take_all, take_more}
 use Rattle.std.proofs.lemmas.List.Elements.{All-push, Contains-push}
-use Rattle.cfg_model.specs.declared.flow.Flow.{Flow}
-use Rattle.cfg_model.specs.declared.flow.Flow.TheVariants.{Straight, Branch, Jump, Call, IndirectCall, Table, Return, Unknown, Stop}
-use Rattle.cfg_model.specs.Program.Instructions.{Instruction, InstructionMap, IsLawful, flow_at, targets_at}
-use Rattle.cfg_model.specs.Program.Chain.{IsTerminatorOf}
-use Rattle.cfg_model.specs.Program.Successors.{IsSuccessor, IsCall, ReturnsByItself, LeavesFunction, successors_of_flow, successors_by}
+use Rattle.cfg_model.specs.Program.Instructions.{Instruction, InstructionMap, IsLawful, targets_at}
+use Rattle.cfg_model.specs.Program.Successors.{IsSuccessor, IsCall, ReturnsByItself}
 use Rattle.cfg_model.specs.Program.Reach.{Reached}
 use Rattle.cfg_model.specs.Program.Status.{Returns}
 use Rattle.cfg_model.proofs.Program.Along.{returns_along}
-use Rattle.cfg_model.proofs.Program.Listed.{none_in, in_cases}
 use Rattle.reached_terms.specs.declared.marks.Marks.{Marks}
 use Rattle.reached_terms.specs.Numbering.{IsNumbering}
-use Rattle.reached_terms.specs.Inner.Marks.{IsOn, IsNumberOf, AreKept, AreRight, Leads, LeadsBy, LeadsOn, ReturnsBy, IsLed, IsCalled, IsVisited, IsCutOff, HasWay}
+use Rattle.reached_terms.specs.Sent.{IsSent}
+use Rattle.reached_terms.specs.Inner.Marks.{IsOn, IsNumberOf, AreKept, LeadsBy, LeadsOn, ReturnsBy, IsLed, IsCalled, HasWay}
 use Rattle.reached_terms.specs.Inner.Steps.{Grow, Step, IsArrived}
 use Rattle.reached_terms.proofs.Complete.{ends_stand}
 use Rattle.reached_terms.proofs.Growth.{led-grow, step-none, step-on}
+
+-- two facts of a call that went well
+pub on_both : {T E P Q R : Type 0} (r : Result T E) → (P → Q → R) → OnOk r P → OnOk r Q → OnOk r R
+on_both (Ok x) f p q = f p q
+on_both (Err e) f p q = tt
 
 module _ (map : InstructionMap) (number : ℕ → ℕ) where
   -- the number of the terminator at which one arrived
@@ -49,19 +51,30 @@ module _ (map : InstructionMap) (number : ℕ → ℕ) where
       (on.0, on.1 f f_has f_is)
 
   -- where one arrived and linked
-  pub led : (old new : Marks) (n b to : ℕ) → IsArrived map number old b to → Grow old new → HasWay new.ways.items n to None → IsLed map number new n b
-  led old new n b to at grow way = record {
+  pub led : (old new : Marks) (n b to : ℕ) → IsArrived map number old b to → Contains old.sent.list.items b → Grow old new → HasWay new.ways.items n to None → IsLed map number new n b
+  led old new n b to at sent grow way = record {
     end = at.end;
     ends = at.ends;
     reached = grow.reached (number at.end) (subst (λ k. IsOn old.reached.items k) at.is at.reached);
     way = subst (λ k. HasWay new.ways.items n k None) at.is way;
+    sent = grow.sent b sent;
+  }
+
+  -- the same of the target of a call that has a fall
+  pub called : (old new : Marks) (n target to f : ℕ) → IsArrived map number old target to → Contains old.sent.list.items target → Grow old new → HasWay new.ways.items n to (Some f) → IsCalled map number new n target (Some f)
+  called old new n target to f at sent grow way = record {
+    end = at.end;
+    ends = at.ends;
+    reached = grow.reached (number at.end) (subst (λ k. IsOn old.reached.items k) at.is at.reached);
+    way = subst (λ k. HasWay new.ways.items n k (Some f)) at.is way;
+    sent = grow.sent target sent;
   }
 
   -- an address at which one arrived, and one way more
-  pub lead-step : (old mid new : Marks) (n b to : ℕ) → AreKept map number mid → Step map number (λ seeds. Reached map seeds b) old mid → IsArrived map number mid b to
+  pub lead-step : (old mid new : Marks) (n b to : ℕ) → AreKept map number mid → Step map number (λ seeds. IsSent map seeds b) old mid → IsArrived map number mid b to
       → Step map number (λ seeds. LeadsBy map number seeds n to None) mid new → Step map number (λ seeds. LeadsOn map number seeds n b) old new
   lead-step old mid new n b to kept first at second =
-      step-on map number (λ seeds. Reached map seeds b) (λ seeds. LeadsBy map number seeds n to None) (λ seeds. LeadsOn map number seeds n b) old mid new first second
+      step-on map number (λ seeds. IsSent map seeds b) (λ seeds. LeadsBy map number seeds n to None) (λ seeds. LeadsOn map number seeds n b) old mid new first second
       (λ seeds right given. given.0)
       (λ seeds right given. leads_by _ kept.numbering seeds mid n b to at given)
 
@@ -74,11 +87,11 @@ module _ (map : InstructionMap) (number : ℕ → ℕ) (count : ℕ) (numbering 
   pub number_is : IsNumberOf map number n
   number_is = record { at = k; has = has; is = is }
 
-  pub on_successor : (seeds : List ℕ) (b : ℕ) → IsSuccessor map k b → Reached map seeds k → LeadsOn map number seeds n b
-  on_successor seeds b next reached = (Reached.onward reached next, λ a a_has a_is returns. subst (Returns map) (same_place a a_has a_is) (Returns.onward next returns))
+  pub on_successor : (seeds : List ℕ) (b : ℕ) → IsSuccessor map k b → IsSent map seeds b → LeadsOn map number seeds n b
+  on_successor seeds b next sent = (sent, λ a a_has a_is returns. subst (Returns map) (same_place a a_has a_is) (Returns.onward next returns))
 
   pub on_fall : (seeds : List ℕ) (target fall : ℕ) → IsCall map k target (Some fall) → Reached map seeds k → Returns map target → LeadsOn map number seeds n fall
-  on_fall seeds target fall call reached returns = (Reached.past_call reached call returns, λ a a_has a_is goes_on. subst (Returns map) (same_place a a_has a_is) (Returns.past_call call returns goes_on))
+  on_fall seeds target fall call reached returns = (IsSent.past_call reached call returns, λ a a_has a_is goes_on. subst (Returns map) (same_place a a_has a_is) (Returns.past_call call returns goes_on))
 
   pub on_itself : ReturnsByItself map k → ReturnsBy map number n
   on_itself leaves a a_has a_is = subst (Returns map) (same_place a a_has a_is) (Returns.by_itself leaves)

@@ -6,6 +6,8 @@ pub mod Arrivals
 pub mod Complete
 pub mod Leading
 pub mod Visits
+pub mod Sending
+pub mod Returning
 pub mod Telling
 pub mod Closing
 pub mod CodeNumbers

@@ -1,13 +1,13 @@
 -- All that wait for a terminator are told, from the last to the first.
-use Rattle.std.proofs.Common.{◌≡◌, ℕ, zero, suc, ◌+◌, ◌-◌, ◌<◌, ◌≤◌, ◌≢◌, ◌⊎◌, Bool, true, List, [], ◌∷◌, ◌++◌, length, get_or, refl, sym, ap, ◌∙◌, subst, arith, inl, inr}
+use Rattle.std.proofs.Common.{◌≡◌, ℕ, suc, ◌<◌, ◌≤◌, ◌⊎◌, List, [], ◌∷◌, ◌++◌, length, get_or, refl, sym, ap, ◌∙◌, subst, arith, inl, inr}
 use Rattle.std.specs.Prelude.{All, Contains}
 use Rattle.std.proofs.lemmas.Bool.{cases_order}
-use Rattle.std.proofs.lemmas.List.{get_or_append_left, get_or_default, length_push}
+use Rattle.std.proofs.lemmas.List.{get_or_append_left, length_push}
 use Rattle.std.proofs.lemmas.List.Elements.{Contains-push, Contains-push_cases}
 use Rattle.cfg_model.specs.Program.Instructions.{InstructionMap}
 use Rattle.reached_terms.specs.declared.marks.Way.{Way}
 use Rattle.reached_terms.specs.declared.marks.Marks.{Marks}
-use Rattle.reached_terms.specs.Inner.Marks.{IsOn, IsNumberOf, IsWay, IsLast, AreKept, AreRight, AreTold, LeadsBy, ReturnsBy, IsDone}
+use Rattle.reached_terms.specs.Inner.Marks.{IsOn, IsNumberOf, IsWay, IsLast, AreNoted, AreKept, AreRight, AreTold, LeadsBy, ReturnsBy, IsDone}
 use Rattle.reached_terms.specs.Inner.Steps.{Grow, Step, left_to_tell}
 use Rattle.reached_terms.proofs.Growth.{grow-none, grow-on, done-grow}
 
@@ -121,7 +121,7 @@ module _ (map : InstructionMap) (number : ℕ → ℕ) (n : ℕ) (start : Marks)
 -- ---- one less that is to be told of
 
 module _ (map : InstructionMap) (number : ℕ → ℕ) (n : ℕ) (old new : Marks) (kept : AreKept map number old)
-    (reached : new.reached ≡ old.reached) (returns : new.returns ≡ old.returns) (waiting : new.waiting ≡ old.waiting) (order : new.order ≡ old.order) (ways : new.ways ≡ old.ways)
+    (reached : new.reached ≡ old.reached) (returns : new.returns ≡ old.returns) (waiting : new.waiting ≡ old.waiting) (order : new.order ≡ old.order) (ways : new.ways ≡ old.ways) (sent : new.sent ≡ old.sent)
     (untold : old.untold.items ≡ new.untold.items ++ n ∷ []) where
   p_reached : new.reached.items ≡ old.reached.items
   p_reached = ap (λ v. v.items) reached
@@ -137,6 +137,9 @@ module _ (map : InstructionMap) (number : ℕ → ℕ) (n : ℕ) (old new : Mark
 
   p_ways : new.ways.items ≡ old.ways.items
   p_ways = ap (λ v. v.items) ways
+
+  p_sent : new.sent.list.items ≡ old.sent.list.items
+  p_sent = ap (λ s. s.list.items) sent
 
   rest_of : (P : ℕ → Type 0) → All P old.untold.items → All P new.untold.items
   rest_of P all k d below =
@@ -165,6 +168,7 @@ module _ (map : InstructionMap) (number : ℕ → ℕ) (n : ℕ) (old new : Mark
     untold = rest_of (IsNumberOf map number) kept.untold;
     last = rw (p_reached, p_ways, p_waiting) kept.last;
     before = rw p_ways kept.before;
+    sent = subst (AreNoted map number) (sym sent) kept.sent;
   }
 
   pub popped-grow : Grow old new
@@ -177,6 +181,7 @@ module _ (map : InstructionMap) (number : ℕ → ℕ) (n : ℕ) (old new : Mark
     same_ways = λ i d inside. rw p_ways refl;
     more = rw p_order (omega arith);
     same = λ i d inside. rw p_order refl;
+    sent = λ a there. rw p_sent there;
   }
 
   pub popped-right : (seeds : List ℕ) → AreRight map number seeds old → AreRight map number seeds new × ReturnsBy map number n
@@ -186,6 +191,7 @@ module _ (map : InstructionMap) (number : ℕ → ℕ) (n : ℕ) (old new : Mark
       returns = rw p_returns right.returns;
       ways = rw p_ways right.ways;
       untold = rest_of (ReturnsBy map number) right.untold;
+      sent = rw p_sent right.sent;
     },
     last_of (ReturnsBy map number) right.untold,
   )
@@ -240,7 +246,7 @@ module _ (map : InstructionMap) (number : ℕ → ℕ) (start now : Marks) where
 -- ---- none is left to be told of
 
 module _ (map : InstructionMap) (number : ℕ → ℕ) (old new : Marks)
-    (reached : new.reached ≡ old.reached) (returns : new.returns ≡ old.returns) (order : new.order ≡ old.order) (ways : new.ways ≡ old.ways)
+    (reached : new.reached ≡ old.reached) (returns : new.returns ≡ old.returns) (order : new.order ≡ old.order) (ways : new.ways ≡ old.ways) (sent : new.sent ≡ old.sent)
     (old_none : length old.untold.items ≡ 0) (new_none : length new.untold.items ≡ 0) where
   n_reached : new.reached.items ≡ old.reached.items
   n_reached = ap (λ v. v.items) reached
@@ -254,6 +260,9 @@ module _ (map : InstructionMap) (number : ℕ → ℕ) (old new : Marks)
   n_order : new.order.items ≡ old.order.items
   n_order = ap (λ v. v.items) order
 
+  n_sent : new.sent.list.items ≡ old.sent.list.items
+  n_sent = ap (λ s. s.list.items) sent
+
   n_grow : Grow old new
   n_grow = record {
     size = rw n_reached refl;
@@ -264,6 +273,7 @@ module _ (map : InstructionMap) (number : ℕ → ℕ) (old new : Marks)
     same_ways = λ i d inside. rw n_ways refl;
     more = rw n_order (omega arith);
     same = λ i d inside. rw n_order refl;
+    sent = λ a there. rw n_sent there;
   }
 
   pub none-right : (seeds : List ℕ) → AreRight map number seeds old → AreRight map number seeds new
@@ -272,6 +282,7 @@ module _ (map : InstructionMap) (number : ℕ → ℕ) (old new : Marks)
     returns = rw n_returns right.returns;
     ways = rw n_ways right.ways;
     untold = λ k d below. absurd (omega (arith, below, new_none));
+    sent = rw n_sent right.sent;
   }
 
   pub none-told : (n : ℕ) → AreTold map number old n 0 → AreTold map number new n 0

@@ -1,8 +1,8 @@
 -- A terminator whose flow is followed.
-use Rattle.std.proofs.Common.{◌≡◌, ℕ, ◌<◌, Bool, true, false, List, [], ◌∷◌, ◌++◌, length, get_or, Option, Some, None, refl, sym, ap, ◌∙◌, subst, inl, inr}
+use Rattle.std.proofs.Common.{◌≡◌, ℕ, Bool, [], ◌∷◌, ◌++◌, Option, Some, None, refl, sym, ◌∙◌, subst, inl, inr}
 use Rattle.std.specs.Prelude.{IfSome, All, Contains, option_to_list}
 use Rattle.cfg_model.specs.declared.flow.Flow.{Flow}
-use Rattle.cfg_model.specs.declared.flow.Flow.TheVariants.{Straight, Branch, Jump, Call, IndirectCall, Table, Return, Unknown, Stop}
+use Rattle.cfg_model.specs.declared.flow.Flow.TheVariants.{Branch, Jump, Call, IndirectCall, Table, Return, Unknown, Stop}
 use Rattle.cfg_model.specs.Program.Instructions.{InstructionMap, flow_at, targets_at}
 use Rattle.cfg_model.specs.Program.Successors.{LeavesFunction, successors_by}
 use Rattle.cfg_model.proofs.Program.Known.{successor_to_flow}
@@ -59,9 +59,6 @@ module _ (map : InstructionMap) (number : ℕ → ℕ) (m : Marks) (n k : ℕ) (
     itself = λ leaves. subst (λ p. IsOn m.returns.items p) is (itself (subst LeavesFunction at leaves));
     called = λ target fall call. subst (λ p. IsCalled map number m p target fall) is (called target fall (sym at ∙ call));
   }
-
-  pub straight_visited : (next : ℕ) → flow_at map k ≡ Some (Straight next) → IsLed map number m n next → IsVisited map number m k
-  straight_visited next at led = visited_from (Straight next) at (λ b there. one_of (IsLed map number m n) next led b there) (λ leaves. absurd leaves) (λ t f call. absurd (cc))
 
   pub branch_visited : (taken fall : Option ℕ) → flow_at map k ≡ Some (Branch taken fall) → IfSome taken (IsLed map number m n) → IfSome fall (IsLed map number m n) → (IsCutOff taken fall → IsOn m.returns.items n) → IsVisited map number m k
   branch_visited taken fall at first second itself =

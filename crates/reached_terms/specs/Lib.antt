@@ -1,3 +1,4 @@
 pub mod Numbering
 pub mod Reached
+pub mod Sent
 pub mod Inner

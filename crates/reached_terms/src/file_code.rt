@@ -15,4 +15,13 @@ impl<'a> Numbered for Code<'a> {
     fn number(&self, a: u64) -> u32 {
         self.index().number(a)
     }
+
+    fn address(&self, n: u32) -> Option<u64> {
+        let index = self.index();
+        if n < index.numbers() {
+            Some(index.address(n))
+        } else {
+            None
+        }
+    }
 }

@@ -1,11 +1,14 @@
-//! Which instructions that end a chain a program reaches from its seeds.
+//! Which instructions that end a chain a program reaches from its seeds, which of them return, and
+//! to which addresses control is sent.
 //!
 //! An instruction of a chain is reached if and only if control comes to the chain's end, and returns
 //! if the end does. So the closure of a program is found over its terminators alone: what is known
 //! of each is kept in arrays, by the number of its address, and whoever waits for it to return is
-//! linked to it. Of all this only the marks of what is reached are kept.
+//! linked to it. Each address at which a chain is entered on the way is noted, once. Of all this
+//! the marks of what is reached and of what returns are kept, and these addresses.
 //!
 //! - `numbered`: a program whose addresses are numbered.
+//! - `sent`: the addresses to which control is sent.
 //! - `marks`: what is known of the terminators, and the changes of it.
 //! - `reached`: the closure from the seeds.
 //! - `file_code`: the numbers of the code of a file.
@@ -15,6 +18,7 @@ mod file_code;
 mod marks;
 mod numbered;
 mod reached;
+mod sent;
 
 pub use numbered::Numbered;
 pub use reached::ReachedTerms;

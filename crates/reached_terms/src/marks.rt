@@ -7,6 +7,7 @@ ghost use Rattle.cfg_model.specs.Program.Chain.{IsTerminator};
 ghost use Rattle.cfg_model.specs.Program.Reach.{Reached};
 ghost use Rattle.cfg_model.specs.Program.Status.{Returns};
 ghost use Rattle.reached_terms.specs.Numbering.{IsNumbering};
+ghost use Rattle.reached_terms.specs.Sent.{IsSent};
 ghost use Rattle.reached_terms.specs.Inner.Marks.{AreKept, AreRight, AreTold, IsCalled, IsDone};
 ghost use Rattle.reached_terms.specs.Inner.Marks.{IsLed, IsNumberOf, IsOn, IsVisited, IsWay, HasWay};
 ghost use Rattle.reached_terms.specs.Inner.Marks.{IsCutOff, LeadsBy, LeadsOn, ReturnsBy};
@@ -14,6 +15,7 @@ ghost use Rattle.reached_terms.specs.Inner.Steps.{Grow, IsArrived, IsLinked, IsM
 ghost use Rattle.reached_terms.specs.Inner.Steps.{left_to_tell};
 
 use crate::numbered::Numbered;
+use crate::sent::Sent;
 use cfg_model::{Flow, Memory};
 use std::alloc::Global;
 
@@ -46,6 +48,8 @@ pub(crate) struct Marks {
     pub(crate) ways: Vec<Way>,
     /// The numbers of those that return, but whose callers have not been told yet.
     pub(crate) untold: Vec<u32>,
+    /// Where control is sent.
+    pub(crate) sent: Sent,
 }
 
 impl Marks {
@@ -67,17 +71,35 @@ impl Marks {
             order: Vec::new(alloc),
             ways: Vec::new(alloc),
             untold: Vec::new(alloc),
+            sent: Sent::new(alloc, numbers)?,
         })
     }
 
-    /// Marks the terminator of the reached address `a` as reached, and answers its number.
+    /// Control is sent to `a`: notes that, marks the terminator of `a` as reached, and answers its
+    /// number.
     pub(crate) fn arrive<C: Numbered>(&mut self, code: &C, a: u64) -> Result<u32, Memory>
+        requires kept { AreKept (C.map code.now) (C.number code.now) self.old }
+        requires has { IsSome (C.map code.now a) }
+        ensures step { IfOk result (λ _. Step (C.map code.now) (C.number code.now)
+            (λ seeds. IsSent (C.map code.now) seeds a) self.old self.new) }
+        ensures there { IfOk result
+            (IsArrived (C.map code.now) (C.number code.now) self.new a) }
+        ensures sent { IfOk result (λ _. Contains self.new.sent.list.items a) }
+        ensures untold { IfOk result (λ _. self.new.untold ≡ self.old.untold) }
+    {
+        self.sent.note(code, a)?;
+        self.reach(code, a)
+    }
+
+    /// Marks the terminator of the reached address `a` as reached, and answers its number.
+    fn reach<C: Numbered>(&mut self, code: &C, a: u64) -> Result<u32, Memory>
         requires kept { AreKept (C.map code.now) (C.number code.now) self.old }
         requires has { IsSome (C.map code.now a) }
         ensures step { IfOk result (λ _. Step (C.map code.now) (C.number code.now)
             (λ seeds. Reached (C.map code.now) seeds a) self.old self.new) }
         ensures there { IfOk result
             (IsArrived (C.map code.now) (C.number code.now) self.new a) }
+        ensures sent { IfOk result (λ _. self.new.sent ≡ self.old.sent) }
         ensures untold { IfOk result (λ _. self.new.untold ≡ self.old.untold) }
     {
         let k = code.term(a);
@@ -230,14 +252,13 @@ impl Marks {
     {
         let n = code.number(k);
         match code.flow(k) {
-            Flow::Straight { next } => self.lead(code, n, next),
             Flow::Branch { taken, fall } => self.branch(code, n, taken, fall),
             Flow::Jump { target } => self.lead(code, n, target),
             Flow::Call { target, fall } => self.call_from(code, n, target, fall),
             Flow::IndirectCall { fall } => self.lead_any(code, n, fall),
             Flow::Table { .. } => self.table(code, n, k),
             Flow::Return | Flow::Unknown => self.mark(n),
-            Flow::Stop => Ok(()),
+            Flow::Stop | Flow::Straight { .. } => Ok(()),
         }
     }
 
@@ -315,7 +336,7 @@ impl Marks {
         requires target { IsSome (C.map code.now target) }
         requires fall { IfSome fall (λ a. IsSome (C.map code.now a)) }
         ensures step { OnOk result (Step (C.map code.now) (C.number code.now)
-            (λ seeds. Reached (C.map code.now) seeds target
+            (λ seeds. IsSent (C.map code.now) seeds target
             × IfSome fall (λ f. Returns (C.map code.now) target
             → LeadsOn (C.map code.now) (C.number code.now) seeds n f)) self.old self.new) }
         ensures called { OnOk result

@@ -1,8 +1,9 @@
-//! The terminators that a program reaches from its seeds.
+//! What a program reaches from its seeds.
 
 ghost use Rattle.std.specs.Prelude.{◌≡◌, ◌↔◌, ℕ, List, length, IfOk, OnOk, IsSome, IsTrue, All};
 ghost use Rattle.cfg_model.specs.Program.Chain.{IsTerminator};
 ghost use Rattle.cfg_model.specs.Program.Reach.{Reached};
+ghost use Rattle.cfg_model.specs.Program.Status.{Returns};
 ghost use Rattle.reached_terms.specs.Reached.{AreReachedTerms};
 ghost use Rattle.reached_terms.specs.Inner.Marks.{AreKept, AreRight, AreTold};
 ghost use Rattle.reached_terms.specs.Inner.Steps.{Grow};
@@ -13,29 +14,36 @@ use cfg_model::Memory;
 use std::alloc::Global;
 use std::marker::Model;
 
-/// Of each terminator of a program, whether it is reached. To a contract it is the list of these
-/// marks, by number.
+/// What a program reaches from its seeds: of each terminator whether it is reached, of each reached
+/// one whether it returns, and the addresses to which control is sent. To a contract it is these
+/// marks, by number, and the list of these addresses.
 #[derive(Drop)]
 pub struct ReachedTerms {
-    marks: Vec<bool>,
+    reached: Vec<bool>,
+    returns: Vec<bool>,
+    sent: Vec<u64>,
 }
 
 impl Model for ReachedTerms {
-    ghost use Rattle.std.specs.Prelude.{Bool, List};
+    ghost use Rattle.reached_terms.specs.Reached.{Reach};
 
-    ghost Value = { List Bool };
+    ghost Value = { Reach };
 
-    ghost view = { λ terms. terms.marks.items };
+    ghost view = { λ terms. record {
+      reached = terms.reached.items;
+      returns = terms.returns.items;
+      sent = terms.sent.items;
+    } };
 }
 
 impl ReachedTerms {
-    /// The terminators of the program `code` that are reached from `seeds`. The only error is that
-    /// memory ran out.
+    /// What the program `code` reaches from `seeds`. The only error is that memory ran out.
     ///
     /// Each reached terminator is looked at once, and whoever waits for another is told once. Time:
     /// linear in the reached terminators and the kept targets of table jumps, but for that of
-    /// [`term`](cfg_model::Chains::term), and in the numbers. Memory: six bytes for each number, and
-    /// meanwhile some 60 for each reached terminator.
+    /// [`term`](cfg_model::Chains::term), and in the numbers. Memory: two bytes for each number and
+    /// eight for each address to which control is sent, and meanwhile five more for each number and
+    /// some 60 for each reached terminator.
     pub fn of<C: Numbered>(alloc: Global, code: &C, seeds: &[u64]) -> Result<ReachedTerms, Memory>
         requires { All (λ a. IsSome (C.map code.now a)) seeds.now }
         ensures { IfOk result (AreReachedTerms (C.map code.now) (C.number code.now) seeds.now) }
@@ -51,8 +59,11 @@ impl ReachedTerms {
             tell_all(&mut marks, code)?;
             i += 1;
         }
+        let sent = marks.sent;
         Ok(ReachedTerms {
-            marks: marks.reached,
+            reached: marks.reached,
+            returns: marks.returns,
+            sent: sent.list,
         })
     }
 
@@ -65,7 +76,25 @@ impl ReachedTerms {
             → AreReachedTerms (C.map code.now) (C.number code.now) seeds self.now
             → IsTrue result ↔ Reached (C.map code.now) seeds k }
     {
-        self.marks[code.number(k) as usize]
+        self.reached[code.number(k) as usize]
+    }
+
+    /// Whether the reached address `a` returns. Time: that of
+    /// [`term`](cfg_model::Chains::term).
+    pub fn returns<C: Numbered>(&self, code: &C, a: u64) -> bool
+        requires terms { (seeds : List ℕ)
+            × AreReachedTerms (C.map code.now) (C.number code.now) seeds self.now
+            × Reached (C.map code.now) seeds a }
+        ensures { IsTrue result ↔ Returns (C.map code.now) a }
+    {
+        self.returns[code.number(code.term(a)) as usize]
+    }
+
+    /// The addresses to which control is sent, each once, in the order in which they were found.
+    pub fn sent(&self) -> &[u64]
+        ensures { result.now ≡ self.now.sent }
+    {
+        &self.sent
     }
 }
 

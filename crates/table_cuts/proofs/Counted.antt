@@ -7,7 +7,7 @@ use Rattle.jump_table.specs.declared.table.Table.{Table}
 use Rattle.jump_table.specs.Table.{table_at}
 use Rattle.cfg_model.specs.Program.Cuts.{Extent, Tables, AreCuts, IsCutTo, IsBaseInside}
 use Rattle.table_cuts.specs.Extents.{extent_of, extent_at}
-use Rattle.table_cuts.specs.Tables.{HasTable}
+use Rattle.code_view.specs.Tables.{HasTable}
 
 -- ---- an extent is that of a table
 

@@ -17,7 +17,7 @@ use Rattle.cfg_model.specs.Program.Chain.{IsTerminator, EndsChain}
 use Rattle.code_view.specs.Flow.{in_code, flow_by, straight_flow, jump_flow, call_flow, table_flow}
 use Rattle.code_view.specs.Program.{program_under}
 use Rattle.code_view.proofs.Lawful.{code_of, flow-program}
-use Rattle.table_cuts.specs.Tables.{HasTable}
+use Rattle.code_view.specs.Tables.{HasTable}
 
 no-some : {X : Type 0} (x : X) → ◌≡◌ {A = Option X} None (Some x) → ⊥
 no-some x e = cc

@@ -2,8 +2,7 @@
 use Rattle.std.proofs.Common.{◌≡◌, ℕ, ◌+◌, ◌<◌, List, [], ◌∷◌, ◌++◌, length, get_or, Some, sym, ap, ◌∙◌, subst, inl, inr, ⊎_elim, arith}
 use Rattle.std.specs.Prelude.{Contains}
 use Rattle.std.specs.List.Sorted.{IsPermutation}
-use Rattle.std.proofs.lemmas.List.{get_or_default, get_or-map}
-use Rattle.std.proofs.Math.ListN.{length-map}
+use Rattle.std.proofs.lemmas.List.{get_or_default}
 use Rattle.std.proofs.lemmas.List.Elements.{Contains-get_or, Contains-append_left, Contains-push, Contains-push_cases}
 use Rattle.std.proofs.lemmas.List.Sorted.{Contains-permutation, IsPermutation-sym}
 use Rattle.std.proofs.lemmas.Option.{same_Some}
@@ -11,8 +10,9 @@ use borrow.Author.Count.{below_more}
 use Rattle.jump_table.specs.declared.table.Table.{Table}
 use Rattle.jump_table.specs.Table.{table_at}
 use Rattle.jump_table.proofs.Targets.{is_table}
-use Rattle.table_cuts.specs.declared.jump.TableJump.{TableJump}
-use Rattle.table_cuts.specs.Tables.{AreTablesOf, addresses_of}
+use Rattle.code_view.specs.declared.table_jump.TableJump.{TableJump}
+use Rattle.code_view.specs.Tables.{AreTablesOf, addresses_of}
+use Rattle.code_view.proofs.Sought.{same_length, jump_is}
 use Rattle.table_cuts.specs.Inner.{IsBaseOf, AreBases}
 
 -- The base of the table of jump k is there.
@@ -63,15 +63,9 @@ found-all bytes jumps bases ordered i all permuted found = record {
 -- ---- with the tables that were found
 
 module _ (jumps : List TableJump) where
-  pub same_length : length (addresses_of jumps) ≡ length jumps
-  same_length = length-map jumps (λ (f : TableJump). f.jump)
-
   module _ (i e : ℕ) (d : TableJump) (inside : i < length jumps) where
-    pub jump_is : get_or (addresses_of jumps) i e ≡ (get_or jumps i d).jump
-    jump_is = get_or-map (λ (f : TableJump). f.jump) jumps i d e inside
-
     pub table_is : (bytes : List ℕ) → AreTablesOf bytes jumps → table_at bytes (get_or (addresses_of jumps) i e) ≡ Some (get_or jumps i d).table
-    table_is bytes are = ap (table_at bytes) jump_is ∙ are i d inside
+    table_is bytes are = ap (table_at bytes) (jump_is jumps i e d inside) ∙ are i d inside
 
     -- Its entries have a width.
     pub some_width : (bytes : List ℕ) → AreTablesOf bytes jumps → 0 < (get_or jumps i d).table.width
@@ -88,8 +82,8 @@ module _ (jumps : List TableJump) where
 
   pub bases-one : (bases : List ℕ) (i : ℕ) (d : TableJump) → i < length jumps → HaveBases bases i → HaveBases (bases ++ (get_or jumps i d).table.base ∷ []) (i + 1)
   bases-one bases i d inside before bytes are =
-      found-one bytes (addresses_of jumps) bases i 0 (omega (arith, inside, same_length)) (before bytes are) (get_or jumps i d).table (table_is i 0 d inside bytes are)
+      found-one bytes (addresses_of jumps) bases i 0 (omega (arith, inside, same_length jumps)) (before bytes are) (get_or jumps i d).table (table_is i 0 d inside bytes are)
 
   pub bases-all : (bases ordered : List ℕ) (i : ℕ) → i ≡ length jumps → IsPermutation bases ordered → HaveBases bases i → (bytes : List ℕ) → AreTablesOf bytes jumps → AreBases bytes (addresses_of jumps) ordered
   bases-all bases ordered i all permuted found bytes are =
-      found-all bytes (addresses_of jumps) bases ordered i (omega (arith, all, same_length)) permuted (found bytes are)
+      found-all bytes (addresses_of jumps) bases ordered i (omega (arith, all, same_length jumps)) permuted (found bytes are)

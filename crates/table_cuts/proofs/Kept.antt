@@ -15,10 +15,11 @@ use Rattle.cfg_model.specs.Program.Cuts.{Extent, IsBaseInside, IsCutTo, AreCuts,
 use Rattle.cfg_model.proofs.Builder.MapFacts.{same_or_other, get_here, get_apart}
 use Rattle.code_view.specs.Cuts.{Counts, cut_of, CutsFit}
 use Rattle.table_cuts.specs.Extents.{extent_of, extent_at}
-use Rattle.table_cuts.specs.declared.jump.TableJump.{TableJump}
-use Rattle.table_cuts.specs.Tables.{AreTablesOf, addresses_of}
+use Rattle.code_view.specs.declared.table_jump.TableJump.{TableJump}
+use Rattle.code_view.specs.Tables.{AreTablesOf, addresses_of}
 use Rattle.table_cuts.specs.Inner.{IsBaseOf, AreBases, IsInside, IsCutBy, CutBy}
-use Rattle.table_cuts.proofs.Found.{same_length, jump_is, table_is}
+use Rattle.code_view.proofs.Sought.{same_length, jump_is}
+use Rattle.table_cuts.proofs.Found.{table_is}
 
 -- A jump whose table is cut to this many entries.
 pub record IsCutJump (bytes jumps bases : List ℕ) (j kept : ℕ) : Type 0 where

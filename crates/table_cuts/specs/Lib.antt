@@ -1,3 +1,2 @@
 pub mod Extents
-pub mod Tables
 pub mod Inner

@@ -3,11 +3,10 @@
 ghost use Rattle.std.specs.Prelude.{◌≡◌, ◌<◌, ℕ, List, IfOk};
 ghost use Rattle.std.specs.List.Sorted.{IsNonDecreasing};
 ghost use Rattle.table_cuts.specs.Extents.{extent_of};
-ghost use Rattle.table_cuts.specs.Tables.{addresses_of, AreTablesOf};
+ghost use Rattle.code_view.specs.Tables.{addresses_of, AreTablesOf};
 ghost use Rattle.table_cuts.specs.Inner.{AreBases, CutBy};
 
-use crate::jump::TableJump;
-use code_view::Memory;
+use code_view::{Memory, TableJump};
 use jump_table::Table;
 use std::alloc::Global;
 

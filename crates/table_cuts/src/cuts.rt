@@ -4,11 +4,10 @@ ghost use Rattle.std.specs.Prelude.{ℕ, List, IfOk, Contains};
 ghost use Rattle.cfg_model.specs.Program.Cuts.{AreCuts};
 ghost use Rattle.code_view.specs.Cuts.{cut_of, CutsFit};
 ghost use Rattle.table_cuts.specs.Extents.{extent_at};
-ghost use Rattle.table_cuts.specs.Tables.{addresses_of, AreTablesOf};
+ghost use Rattle.code_view.specs.Tables.{addresses_of, AreTablesOf};
 
 use crate::bases::{bases_of, cut_by};
-use crate::jump::TableJump;
-use code_view::{Cuts, Memory};
+use code_view::{Cuts, Memory, TableJump};
 use std::alloc::Global;
 
 /// The cuts of the tables of `jumps`, if the tables of these jumps alone count. [`Memory`] if

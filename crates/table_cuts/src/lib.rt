@@ -3,14 +3,11 @@
 //! The entries of a table lie one after another, and the bound test before its jump may allow more
 //! than belong to it. A table ends at the latest where the next one begins, so it is cut there.
 //!
-//! - `jump`: a jump with its table.
 //! - `bases`: where tables begin.
 //! - `cuts`: the cuts of given tables. Who found them does not matter.
 #![tactic(auto)]
 
 mod bases;
 mod cuts;
-mod jump;
 
 pub use cuts::cuts_of;
-pub use jump::TableJump;

@@ -16,17 +16,18 @@ use Rattle.code_view.specs.Cuts.{CutsFit}
 use Rattle.code_view.specs.Program.{program_under}
 use Rattle.code_view.specs.RegisterJump.{IsBetween}
 use Rattle.core_state.specs.Least.{IsAbove}
-use Rattle.stretches.specs.declared.stretch.Stretch.{Stretch}
-use Rattle.stretches.specs.Stretch.{IsUpTo}
-use Rattle.stretches.specs.Gaps.{gap}
-use Rattle.stretches.proofs.Covered.{in_some_gap}
-use Rattle.stretches.proofs.Joined.{item_of, from_part, all_joined}
-use Rattle.table_cuts.specs.declared.jump.TableJump.{TableJump}
+use Rattle.parallel.specs.declared.ranges.AddressRange.{AddressRange}
+use Rattle.parallel.specs.Ranges.{IsUpTo}
+use Rattle.parallel.specs.Gaps.{gap}
+use Rattle.parallel.proofs.Covered.{in_some_gap}
+use Rattle.parallel.proofs.GapByGap.{item_of, from_part, all_joined}
+use Rattle.code_view.specs.declared.table_jump.TableJump.{TableJump}
 use Rattle.table_cuts.specs.Extents.{extent_at}
-use Rattle.table_cuts.specs.Tables.{AreTablesOf, AreAllTables, addresses_of}
-use Rattle.table_trim.specs.Parts.{Answered, AreMade, jumps_in, AreTablesAmong, AreTablesIn, AreTablesByGap}
+use Rattle.code_view.specs.Tables.{AreTablesOf, AreAllTables, addresses_of}
+use Rattle.parallel.specs.Lists.{Answered, AreMade, made_in}
+use Rattle.table_trim.specs.Parts.{AreTablesAmong, AreTablesIn, AreTablesByGap}
 use Rattle.table_trim.proofs.Shared.{addresses_in, addresses_joined}
-use Rattle.table_cuts.proofs.Found.{same_length, jump_is}
+use Rattle.code_view.proofs.Sought.{same_length, jump_is}
 use Rattle.table_cuts.proofs.Counted.{cuts-other, has-table}
 use Rattle.table_trim.proofs.Reached.{reached_jump}
 use Rattle.table_trim.proofs.Fewer.{reached-uncut}
@@ -62,44 +63,43 @@ module _ (bytes : List ℕ) where
     all_jumps = λ j has. among.complete j (complete j (ap (λ o. is_some o) has.at_jump)) has;
   }
 
-  -- an address in a stretch lies between its ends
+  -- an address in a range lies between its ends
   is_between : (after last : Option ℕ) (a : ℕ) → IsAbove after a → IsUpTo last a → IsBetween after last a
   is_between None None a above up_to = (above, up_to)
   is_between None (Some l) a above up_to = (above, up_to)
   is_between (Some f) None a above up_to = (above, up_to)
   is_between (Some f) (Some l) a above up_to = (above, up_to)
 
-  pub among-in : (stretch : Stretch) (places : List ℕ) → ((a : ℕ) → IsBetween stretch.after stretch.last a → IsSome (table_at bytes a) → Contains places a) → (jumps : List TableJump) → AreTablesAmong bytes places jumps → AreTablesIn bytes stretch jumps
-  among-in stretch places complete jumps among = record {
+  pub among-in : (range : AddressRange) (places : List ℕ) → ((a : ℕ) → IsBetween range.after range.last a → IsSome (table_at bytes a) → Contains places a) → (jumps : List TableJump) → AreTablesAmong bytes places jumps → AreTablesIn bytes range jumps
+  among-in range places complete jumps among = record {
     tables = among.tables;
-    complete = λ j inside has. among.complete j (complete j (is_between stretch.after stretch.last j inside.0 inside.1) (ap (λ o. is_some o) has.at_jump)) has;
+    complete = λ j inside has. among.complete j (complete j (is_between range.after range.last j inside.0 inside.1) (ap (λ o. is_some o) has.at_jump)) has;
   }
 
 -- ---- gap by gap
 
-made_in : (bytes : List ℕ) (stretch : Stretch) (answer : Answered) → IfOk answer (λ jumps. AreTablesIn bytes stretch jumps.items) → AreMade answer → AreTablesIn bytes stretch (jumps_in answer)
-made_in bytes stretch (Ok jumps) are made = are
-made_in bytes stretch (Err e) are made = absurd (cc)
+found_made : (bytes : List ℕ) (range : AddressRange) (answer : Answered TableJump) → IfOk answer (λ jumps. AreTablesIn bytes range jumps.items) → AreMade answer → AreTablesIn bytes range (made_in answer)
+found_made bytes range (Ok jumps) are made = are
+found_made bytes range (Err e) are made = absurd (cc)
 
-module _ (bytes bounds : List ℕ) (answers : List Answered) (gaps : AreTablesByGap bytes bounds answers) where
+module _ (bytes bounds : List ℕ) (answers : List (Answered TableJump)) (gaps : AreTablesByGap bytes bounds answers) where
   module _ (made : All AreMade answers) where
-    found_in : (i : ℕ) (d : Answered) → i < length answers → AreTablesIn bytes (gap bounds i) (jumps_in (get_or answers i d))
-    found_in i d within = made_in bytes (gap bounds i) (get_or answers i d) (gaps.each i d (omega (arith, within, gaps.as_many))) (made i d within)
+    found_in : (i : ℕ) (d : Answered TableJump) → i < length answers → AreTablesIn bytes (gap bounds i) (made_in (get_or answers i d))
+    found_in i d within = found_made bytes (gap bounds i) (get_or answers i d) (gaps.each i d (omega (arith, within, gaps.as_many))) (made i d within)
 
-    gaps-joined : AreAllTables bytes (flat_map jumps_in answers)
+    gaps-joined : AreAllTables bytes (flat_map made_in answers)
     gaps-joined = record {
-      tables = all_joined jumps_in (λ (f : TableJump). table_at bytes f.jump ≡ Some f.table) answers (λ i d within. (found_in i d within).tables);
+      tables = all_joined made_in (λ (f : TableJump). table_at bytes f.jump ≡ Some f.table) answers (λ i d within. (found_in i d within).tables);
       all_jumps = λ j has.
           let at = in_some_gap bounds j in
           let within : at.0 < length answers = omega (arith, at.1, gaps.as_many) in
-          let d : Answered = item_of answers at.0 within in
+          let d : Answered TableJump = item_of answers at.0 within in
           subst (λ (xs : List ℕ). Contains xs j) (sym (addresses_joined answers)) (from_part addresses_in answers at.0 d j within ((found_in at.0 d within).complete j at.2 has));
     }
 
   -- What was found in each gap is, put together, all that there is.
-  pub gaps-all : (joined : Answered) → IfOk joined (λ _. All AreMade answers) → IfOk joined (λ jumps. jumps.items ≡ flat_map jumps_in answers) → IfOk joined (λ jumps. AreAllTables bytes jumps.items)
-  gaps-all (Ok jumps) made is = subst (AreAllTables bytes) (sym is) (gaps-joined made)
-  gaps-all (Err e) made is = tt
+  pub gaps-all : (jumps : List TableJump) → All AreMade answers → jumps ≡ flat_map made_in answers → AreAllTables bytes jumps
+  gaps-all jumps made is = subst (AreAllTables bytes) (sym is) (gaps-joined made)
 
 -- ---- where all are reached
 

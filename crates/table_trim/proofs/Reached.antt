@@ -14,7 +14,7 @@ use Rattle.cfg_model.specs.Builder.State.{BuilderState, IsEntered}
 use Rattle.status_laws.proofs.ClosedLaws.{settled, closed_shows_graph}
 use Rattle.code_view.specs.Program.{program_under}
 use Rattle.table_cuts.specs.Extents.{extent_at}
-use Rattle.table_cuts.specs.Tables.{HasTable}
+use Rattle.code_view.specs.Tables.{HasTable}
 use Rattle.table_trim.specs.Inner.{IsTableJump}
 use Rattle.table_cuts.proofs.Flows.{table-code, table-ends}
 use Rattle.table_cuts.proofs.Counted.{cuts-other, has-table}

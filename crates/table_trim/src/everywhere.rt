@@ -3,36 +3,36 @@
 ghost use Rattle.std.specs.Prelude.{◌↔◌, IfOk, IsTrue, All};
 ghost use Rattle.elf_image.specs.Code.{is_code};
 ghost use Rattle.cfg_model.specs.Builder.State.{IsEntered};
-ghost use Rattle.table_cuts.specs.Tables.{AreAllTables};
+ghost use Rattle.code_view.specs.Tables.{AreAllTables};
 ghost use Rattle.table_trim.specs.Parts.{AreTablesAmong, AreTablesIn};
 
-use code_view::{Code, Memory};
+use code_view::{AllTables, Code, Memory, TableJump};
 use core_state::State;
+use parallel::AddressRange;
 use std::alloc::Global;
-use stretches::Stretch;
-use table_cuts::TableJump;
 
-/// The jumps of `code` that go through a table, reached or not, each with its table. [`Memory`] if
-/// memory ran out.
+/// All tables of `code`, of jumps that are reached or not. [`Memory`] if memory ran out.
 ///
-/// It goes once over the halfwords of the code; the table of each jump through a register is looked
-/// up once.
-pub fn all_tables(alloc: Global, code: &Code<'_>) -> Result<Vec<TableJump>, Memory>
-    ensures { IfOk result (λ jumps. AreAllTables code.now.bytes jumps.items) }
+/// It goes once over the halfwords of the code; the table of each jump through a register is found
+/// once.
+pub fn all_tables(alloc: Global, code: &Code<'_>) -> Result<AllTables, Memory>
+    ensures { IfOk result (AreAllTables code.now.bytes) }
 {
     let places = code.register_jumps(alloc)?;
-    tables_among(alloc, code, &places)
+    let jumps = tables_among(alloc, code, &places)?;
+    Ok(AllTables::new(jumps))
 }
 
-/// Those that lie in a range of addresses. It goes once over the halfwords of the code there.
+/// The jumps in a range of addresses that go through a table, each with its table. It goes once over
+/// the halfwords of the code there.
 pub(crate) fn tables_in(
     alloc: Global,
     code: &Code<'_>,
-    stretch: Stretch,
+    range: AddressRange,
 ) -> Result<Vec<TableJump>, Memory>
-    ensures { IfOk result (λ jumps. AreTablesIn code.now.bytes stretch jumps.items) }
+    ensures { IfOk result (λ jumps. AreTablesIn code.now.bytes range jumps.items) }
 {
-    let places = code.register_jumps_between(alloc, stretch.after, stretch.last)?;
+    let places = code.register_jumps_between(alloc, range.after, range.last)?;
     tables_among(alloc, code, &places)
 }
 

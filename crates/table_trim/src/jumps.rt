@@ -6,16 +6,15 @@ ghost use Rattle.cfg_model.specs.Program.Instructions.{IsLawful};
 ghost use Rattle.cfg_model.specs.Builder.Kept.{IsClosed};
 ghost use Rattle.cfg_model.specs.Builder.State.{IsEntered};
 ghost use Rattle.core_state.specs.Least.{IsAbove, IsLeast};
-ghost use Rattle.stretches.specs.Stretch.{IsUpTo};
+ghost use Rattle.parallel.specs.Ranges.{IsUpTo};
 ghost use Rattle.code_view.specs.FileCode.{program_of};
 ghost use Rattle.table_trim.specs.Parts.{AreJumpsIn};
 
-use code_view::{Code, Memory};
+use code_view::{Code, Memory, TableJump};
 use core_state::State;
 use jump_table::Table;
+use parallel::AddressRange;
 use std::alloc::Global;
-use stretches::Stretch;
-use table_cuts::TableJump;
 
 /// The terminators of the state in a range that jump through a table, in order, each with its
 /// table.
@@ -23,15 +22,15 @@ pub(crate) fn table_jumps(
     alloc: Global,
     code: &Code<'_>,
     state: &State,
-    stretch: Stretch,
+    range: AddressRange,
 ) -> Result<Vec<TableJump>, Memory>
     requires closed { (seeds : List ℕ) × IsClosed (program_of code.now) seeds state.now.maps }
     ensures jumps { IfOk result (λ jumps. AreJumpsIn (program_of code.now) code.now.bytes
-        state.now.maps stretch jumps.items) }
+        state.now.maps range jumps.items) }
 {
     let mut jumps = Vec::new(alloc);
-    let mut at = stretch.after;
-    while let Some(k) = term_up_to(state, at, stretch.last) {
+    let mut at = range.after;
+    while let Some(k) = term_up_to(state, at, range.last) {
         if let Some(table) = table_of(code, k) {
             jumps.push(TableJump { jump: k, table })?;
         }

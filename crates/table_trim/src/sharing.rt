@@ -5,27 +5,26 @@ ghost use Rattle.std.specs.Prelude.{All, IfOk};
 ghost use Rattle.std.specs.List.{flat_map};
 ghost use Rattle.std.specs.List.Sorted.{IsNonDecreasing};
 ghost use Rattle.std.specs.FinMap as map;
-ghost use Rattle.stretches.specs.Gaps.{gap};
+ghost use Rattle.parallel.specs.Gaps.{gap};
 ghost use Rattle.cfg_model.specs.Program.Cuts.{AreCuts};
 ghost use Rattle.cfg_model.specs.Builder.Kept.{IsClosed};
 ghost use Rattle.cfg_model.specs.Program.Reach.{Reached};
 ghost use Rattle.code_view.specs.Cuts.{cut_of, CutsFit};
 ghost use Rattle.code_view.specs.FileCode.{program_of};
 ghost use Rattle.table_cuts.specs.Extents.{extent_at};
-ghost use Rattle.table_cuts.specs.Tables.{AreAllTables};
-ghost use Rattle.table_trim.specs.Parts.{AreJumpsIn, AreMade, jumps_in};
+ghost use Rattle.code_view.specs.Tables.{AreAllTables};
+ghost use Rattle.table_trim.specs.Parts.{AreJumpsIn};
 ghost use Rattle.table_trim.specs.Parts.{AreTablesIn, AreTablesByGap};
 
 use crate::everywhere::{all_tables, tables_in};
 use crate::jumps::table_jumps;
 use crate::trim::cuts;
-use code_view::{Code, Cuts, Memory};
+use code_view::{AllTables, Code, Cuts, Memory, TableJump};
 use core_state::State;
-use fan_out::map_indices;
+use parallel::{AddressRange, joined_if_made, map_indices};
 use std::alloc::Global;
 use std::thread::Threads;
-use stretches::Stretch;
-use table_cuts::{TableJump, cuts_of};
+use table_cuts::cuts_of;
 
 /// The answer of [`cuts`]. `bounds.len() + 1` threads go over the terminators of the state, each
 /// over those in one gap between the bounds. The bounds may be any addresses that do not fall; they
@@ -50,7 +49,7 @@ pub fn cuts_by<R: Threads + Sync>(
         return cuts(alloc, code, state);
     }
     let parts = jumps_by_gap(rt, alloc, code, state, bounds)?;
-    let jumps = joined(alloc, parts)?;
+    let jumps = joined_if_made(alloc, parts)?;
     cuts_of(alloc, &jumps)
 }
 
@@ -72,28 +71,29 @@ fn jumps_by_gap<R: Threads + Sync>(
         requires { (seeds : List ℕ) × IsClosed (program_of code.now) seeds state.now.maps }
         ensures { IfOk result (λ jumps. AreJumpsIn (program_of code.entry.now)
             code.entry.now.bytes state.entry.now.maps (gap bounds.entry.now i) jumps.items) }
-    { table_jumps(alloc, code, state, Stretch::gap(bounds, i)) };
+    { table_jumps(alloc, code, state, AddressRange::gap(bounds, i)) };
     Ok(map_indices(rt, alloc, bounds.len() + 1, &find)?)
 }
 
 /// The answer of [`all_tables`]. `workers` threads go over the code, each over a range of about the
-/// same size. Each finds the jumps through a register there, and looks up their tables. With one
-/// worker no thread is started. [`Memory`] if memory ran out.
+/// same size. Each finds the jumps through a register there, and their tables. With one worker no
+/// thread is started. [`Memory`] if memory ran out.
 pub fn all_tables_by<R: Threads + Sync>(
     rt: &R,
     alloc: Global,
     code: &Code<'_>,
     workers: u32,
-) -> Result<Vec<TableJump>, Memory>
+) -> Result<AllTables, Memory>
     requires { 1 ≤ workers }
-    ensures { IfOk result (λ jumps. AreAllTables code.now.bytes jumps.items) }
+    ensures { IfOk result (AreAllTables code.now.bytes) }
 {
     if workers == 1 {
         return all_tables(alloc, code);
     }
     let bounds = code.bounds(alloc, workers)?;
     let parts = tables_by_gap(rt, alloc, code, &bounds)?;
-    joined(alloc, parts)
+    let jumps = joined_if_made(alloc, parts)?;
+    Ok(AllTables::new(jumps))
 }
 
 /// The tables of the jumps in each gap, found on a thread of its own, in the order of the gaps.
@@ -108,21 +108,6 @@ fn tables_by_gap<R: Threads + Sync>(
     let look_up = |i: usize| -> Result<Vec<TableJump>, Memory>
         ensures { IfOk result (λ jumps. AreTablesIn code.entry.now.bytes
             (gap bounds.entry.now i) jumps.items) }
-    { tables_in(alloc, code, Stretch::gap(bounds, i)) };
+    { tables_in(alloc, code, AddressRange::gap(bounds, i)) };
     Ok(map_indices(rt, alloc, bounds.len() + 1, &look_up)?)
-}
-
-/// All these jumps, one list after another, or the first of the errors.
-fn joined(
-    alloc: Global,
-    parts: Vec<Result<Vec<TableJump>, Memory>>,
-) -> Result<Vec<TableJump>, Memory>
-    ensures all { IfOk result (λ _. All AreMade parts.items) }
-    ensures jumps { IfOk result (λ jumps. jumps.items ≡ flat_map jumps_in parts.items) }
-{
-    let mut jumps = Vec::new(alloc);
-    for part in parts {
-        jumps.append(&mut part?)?;
-    }
-    Ok(jumps)
 }

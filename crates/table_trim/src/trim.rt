@@ -12,8 +12,8 @@ ghost use Rattle.table_cuts.specs.Extents.{extent_at};
 use crate::jumps::table_jumps;
 use code_view::{Code, Cuts, Memory};
 use core_state::State;
+use parallel::AddressRange;
 use std::alloc::Global;
-use stretches::Stretch;
 use table_cuts::cuts_of;
 
 /// The cuts of the jump tables of `code`, which has no cuts yet, from its closed state: a table is
@@ -30,6 +30,6 @@ pub fn cuts(alloc: Global, code: &Code<'_>, state: &State) -> Result<Cuts, Memor
         → AreCuts (extent_at code.now.bytes) (Reached (program_of code.now) seeds) (cut_of cuts)) }
     ensures fits { IfOk result (λ cuts. CutsFit code.now.bytes (cut_of cuts)) }
 {
-    let jumps = table_jumps(alloc, code, state, Stretch::all())?;
+    let jumps = table_jumps(alloc, code, state, AddressRange::all())?;
     cuts_of(alloc, &jumps)
 }

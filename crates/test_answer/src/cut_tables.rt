@@ -10,7 +10,7 @@ use crate::row_files::file_of;
 use alone::build_alone;
 use cfg_model::{Chains, Flow};
 use chain_index::ChainIndex;
-use code_view::{Code, Cuts};
+use code_view::{AllTables, Code, Cuts};
 use core_state::{Memory, State};
 use elf_image::Image;
 use std::alloc::{AllocFailed, Global};
@@ -18,7 +18,7 @@ use std::marker::Sync;
 use std::process::Abort;
 use std::test::Fail;
 use std::thread::Threads;
-use table_cuts::{TableJump, cuts_of};
+use table_cuts::cuts_of;
 use table_trim::{all_entered, all_tables, all_tables_by, cuts, cuts_by};
 
 /// The jumps of row 15: one through a table of four entries, and one through a table of two that
@@ -162,24 +162,22 @@ fn cuts_by_several_threads(rt: HostRuntime) -> Result<(), Fail> {
 }
 
 /// These are the tables of these two jumps, in this order.
-fn are_tables(rt: &impl Abort, tables: &[TableJump], first: u64, second: u64) {
-    assert_eq!(rt; tables.len(), 2);
-    assert_eq!(rt; tables[0].jump, first);
-    assert_eq!(rt; tables[1].jump, second);
+fn are_tables(rt: &impl Abort, tables: &AllTables, first: u64, second: u64) {
+    let jumps = tables.jumps();
+    assert_eq!(rt; jumps.len(), 2);
+    assert_eq!(rt; jumps[0].jump, first);
+    assert_eq!(rt; jumps[1].jump, second);
 }
 
 /// Several threads find these tables.
 fn are_found_by_threads<R: Threads + Abort + AllocGlobal + Sync>(
     rt: &R,
     code: &Code<'_>,
-    tables: &[TableJump],
+    tables: &AllTables,
 ) -> Result<(), Fail> {
     for workers in [1, 2, 4, 64] {
         let made = all_tables_by(rt, rt.alloc(), code, workers)?;
-        assert_eq!(rt; made.len(), tables.len());
-        for table in tables {
-            assert!(rt; made.contains(table));
-        }
+        assert!(rt; made.jumps() == tables.jumps());
     }
     Ok(())
 }
@@ -188,12 +186,12 @@ fn are_found_by_threads<R: Threads + Abort + AllocGlobal + Sync>(
 fn cuts_all_tables(rt: &(impl Abort + AllocGlobal), code: &Code<'_>) -> Result<(), Fail> {
     let tables = all_tables(rt.alloc(), code)?;
     are_tables(rt, &tables, FIRST, SECOND);
-    let cuts = cuts_of(rt.alloc(), &tables)?;
+    let cuts = cuts_of(rt.alloc(), tables.jumps())?;
     cuts_the_first(rt, &cuts);
     let state = closed_state(rt, rt.alloc(), code)?;
-    assert!(rt; all_entered(&state, &tables));
+    assert!(rt; all_entered(&state, tables.jumps()));
     let nothing = State::new(rt.alloc())?;
-    assert!(rt; !all_entered(&nothing, &tables) && all_entered(&nothing, &[]));
+    assert!(rt; !all_entered(&nothing, tables.jumps()) && all_entered(&nothing, &[]));
     Ok(())
 }
 
@@ -218,6 +216,24 @@ fn tables_of_sections_out_of_order(rt: HostRuntime) -> Result<(), Fail> {
     let none = Cuts::none(rt.alloc());
     let code = Code::new(&image, &index, &none);
     let tables = all_tables(rt.alloc(), &code)?;
-    are_tables(&rt, &tables, SECOND, FIRST);
+    are_tables(&rt, &tables, FIRST, SECOND);
     are_found_by_threads(&rt, &code, &tables)
+}
+
+#[test]
+fn looks_up_known_tables(rt: HostRuntime) -> Result<(), Fail> {
+    let image = Image::parse(rt.alloc(), file_of(&rt, 15, 0)?)?;
+    let index = ChainIndex::new(rt.alloc(), &image)?;
+    let none = Cuts::none(rt.alloc());
+    let uncut = Code::new(&image, &index, &none);
+    let tables = all_tables(rt.alloc(), &uncut)?;
+    let known = uncut.with_tables(&tables);
+    keeps(&rt, &known, FIRST, &[0x10020, 0x10020, 0x1004C, 0x1004C])?;
+    keeps(&rt, &known, SECOND, &[0x10054, 0x10054])?;
+    let cuts = cuts_of_state(&rt, rt.alloc(), &known)?;
+    cuts_the_first(&rt, &cuts);
+    let code = known.under(&cuts);
+    keeps(&rt, &code, FIRST, &[0x10020, 0x10020])?;
+    goes_through(&rt, &code, SECOND, true);
+    Ok(())
 }

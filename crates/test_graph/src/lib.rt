@@ -8,6 +8,7 @@
 //! - `listed_programs`: the worked programs of `test_programs`, asked as the programs that they are.
 //! - `yardstick`: their graphs, as `test_yardstick` builds them.
 //! - `file_code`: the code of a file as a program, against walks that decode each instruction.
+//! - `reached_graphs`: the graphs of the code of files over arrays, against the yardstick.
 //! - `address_maps`: many addresses of a map, of one page and of several, near and far.
 //! - `state_program`: a small program, for the tests of changes and of work that is left.
 //! - `state_changes`: each change of a state on it, one after the other.
@@ -27,6 +28,8 @@ mod file_code;
 mod gaps;
 #[cfg(test)]
 mod listed_programs;
+#[cfg(test)]
+mod reached_graphs;
 #[cfg(test)]
 mod state_changes;
 #[cfg(test)]

@@ -7,9 +7,12 @@ use Rattle.cfg_model.specs.Program.Chain.{IsTerminator, IsTerminatorOf}
 use Rattle.cfg_model.specs.Program.Successors.{IsSuccessor, IsCall, ReturnsByItself}
 use Rattle.cfg_model.specs.Program.Reach.{Reached}
 use Rattle.cfg_model.specs.Program.Status.{Returns}
+use Rattle.reached_terms.specs.declared.sent.Sent.{Sent}
 use Rattle.reached_terms.specs.declared.marks.Way.{Way}
 use Rattle.reached_terms.specs.declared.marks.Marks.{Marks}
 use Rattle.reached_terms.specs.Numbering.{IsNumbering}
+use Rattle.reached_terms.specs.Reached.{AreEachOnce}
+use Rattle.reached_terms.specs.Sent.{IsSent}
 
 -- The mark number n is set.
 abbrev pub IsOn : List Bool → ℕ → Type 0
@@ -45,6 +48,15 @@ pub record IsLast (ways : List Way) (n end at : ℕ) : Type 0 where
   pub none : (j : ℕ) (d : Way) → at ≤ j → j < end → (get_or ways j d).to ≡ n → ⊥
   pub hit : (p : ℕ) (d : Way) → at ≡ suc p → (get_or ways p d).to ≡ n
 
+-- What holds at every moment of the addresses to which control is sent: those that are marked are
+-- listed, each once.
+pub record AreNoted (map : InstructionMap) (number : ℕ → ℕ) (sent : Sent) : Type 0 where
+  pub numbering : IsNumbering map number (length sent.marks.items)
+  pub listed : (a : ℕ) → IsSome (map a) → IsOn sent.marks.items (number a)
+      → Contains sent.list.items a
+  pub marked : All (λ a. IsOn sent.marks.items (number a)) sent.list.items
+  pub once : AreEachOnce sent.list.items
+
 -- What holds of the marks at every moment, whatever the seeds.
 pub record AreKept (map : InstructionMap) (number : ℕ → ℕ) (m : Marks) : Type 0 where
   pub lawful : IsLawful map
@@ -60,13 +72,14 @@ pub record AreKept (map : InstructionMap) (number : ℕ → ℕ) (m : Marks) : T
       → IsLast m.ways.items n (length m.ways.items) (get_or m.waiting.items n d)
   pub before : (i : ℕ) (d : Way) → i < length m.ways.items
       → IsLast m.ways.items (get_or m.ways.items i d).to i (get_or m.ways.items i d).before
+  pub sent : AreNoted map number m.sent
 
 -- The terminator at from returns if that at to does; of a call whose target's terminator is at to,
--- the fall is reached then, and the call returns if the fall does.
+-- control is sent to the fall then, and the call returns if the fall does.
 abbrev pub Leads : InstructionMap → List ℕ → ℕ → ℕ → Option ℕ → Type 0
 Leads map seeds from to None = Returns map to → Returns map from
 Leads map seeds from to (Some fall) =
-    Returns map to → Reached map seeds fall × (Returns map fall → Returns map from)
+    Returns map to → IsSent map seeds fall × (Returns map fall → Returns map from)
 
 -- The same of two numbers.
 abbrev pub LeadsBy : InstructionMap → (ℕ → ℕ) → List ℕ → ℕ → ℕ → Option ℕ → Type 0
@@ -74,10 +87,10 @@ LeadsBy map number seeds n m fall =
     (from to : ℕ) → IsSome (map from) → IsSome (map to) → n ≡ number from → m ≡ number to
     → Leads map seeds from to fall
 
--- The address b is reached, and the instruction with the number n returns if that at b does.
+-- Control is sent to b, and the instruction with the number n returns if that at b does.
 abbrev pub LeadsOn : InstructionMap → (ℕ → ℕ) → List ℕ → ℕ → ℕ → Type 0
 LeadsOn map number seeds n b =
-    Reached map seeds b
+    IsSent map seeds b
     × ((a : ℕ) → IsSome (map a) → n ≡ number a → Returns map b → Returns map a)
 
 -- One of the ways of a branch leads out of the code.
@@ -96,13 +109,15 @@ pub record AreRight (map : InstructionMap) (number : ℕ → ℕ) (seeds : List 
   pub returns : (n : ℕ) → IsOn m.returns.items n → ReturnsBy map number n
   pub ways : All (λ w. LeadsBy map number seeds w.from w.to w.fall) m.ways.items
   pub untold : All (ReturnsBy map number) m.untold.items
+  pub sent : All (IsSent map seeds) m.sent.list.items
 
--- The terminator of b is reached, and n is linked to it.
+-- Control is sent to b, the terminator of b is reached, and n is linked to it.
 pub record IsLed (map : InstructionMap) (number : ℕ → ℕ) (m : Marks) (n b : ℕ) : Type 0 where
   pub end : ℕ
   pub ends : IsTerminatorOf map b end
   pub reached : IsOn m.reached.items (number end)
   pub way : HasWay m.ways.items n (number end) None
+  pub sent : Contains m.sent.list.items b
 
 -- The same of the target of a call, to which the call is linked if it has a fall.
 pub record IsCalled (map : InstructionMap) (number : ℕ → ℕ) (m : Marks) (n target : ℕ)
@@ -111,6 +126,7 @@ pub record IsCalled (map : InstructionMap) (number : ℕ → ℕ) (m : Marks) (n
   pub ends : IsTerminatorOf map target end
   pub reached : IsOn m.reached.items (number end)
   pub way : IfSome fall (λ f. HasWay m.ways.items n (number end) (Some f))
+  pub sent : Contains m.sent.list.items target
 
 -- Whatever the terminator at k leads to is marked and linked.
 pub record IsVisited (map : InstructionMap) (number : ℕ → ℕ) (m : Marks) (k : ℕ) : Type 0 where

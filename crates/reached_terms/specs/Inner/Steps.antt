@@ -1,12 +1,12 @@
 -- How the marks change.
-use Rattle.std.specs.Prelude.{◌≡◌, ℕ, ◌+◌, ◌<◌, ◌≤◌, Bool, true, if◌then◌else◌}
-use Rattle.std.specs.Prelude.{List, [], ◌∷◌, ◌++◌, length, get_or, set, Contains, Option, Some, None, IsSome}
+use Rattle.std.specs.Prelude.{◌≡◌, ℕ, ◌+◌, ◌<◌, ◌≤◌, ◌⊎◌, true, if◌then◌else◌}
+use Rattle.std.specs.Prelude.{List, [], ◌∷◌, ◌++◌, length, get_or, set, Contains, Option}
 use Rattle.cfg_model.specs.Program.Instructions.{InstructionMap}
 use Rattle.cfg_model.specs.Program.Chain.{IsTerminatorOf}
-use Rattle.cfg_model.specs.Program.Reach.{Reached}
+use Rattle.reached_terms.specs.declared.sent.Sent.{Sent}
 use Rattle.reached_terms.specs.declared.marks.Way.{Way}
 use Rattle.reached_terms.specs.declared.marks.Marks.{Marks}
-use Rattle.reached_terms.specs.Inner.Marks.{IsOn, count_off, HasWay, AreKept, AreRight, AreTold}
+use Rattle.reached_terms.specs.Inner.Marks.{IsOn, count_off, AreNoted, AreKept, AreRight, AreTold}
 
 -- How many more may have to be told.
 abbrev pub left_to_tell : Marks → ℕ
@@ -24,6 +24,7 @@ pub record Grow (old new : Marks) : Type 0 where
   pub more : length old.order.items ≤ length new.order.items
   pub same : (i d : ℕ) → i < length old.order.items
       → get_or new.order.items i d ≡ get_or old.order.items i d
+  pub sent : (a : ℕ) → Contains old.sent.list.items a → Contains new.sent.list.items a
 
 -- A change of the marks that keeps what holds of them. They stay right if what is given is so.
 pub record Step (map : InstructionMap) (number : ℕ → ℕ) (Given : List ℕ → Type 0)
@@ -41,6 +42,7 @@ pub record IsMarked (n : ℕ) (old new : Marks) : Type 0 where
   pub waiting : new.waiting ≡ old.waiting
   pub order : new.order ≡ old.order
   pub ways : new.ways ≡ old.ways
+  pub sent : new.sent ≡ old.sent
   pub returns : new.returns.items ≡ set old.returns.items n true
   pub untold : new.untold.items
       ≡ (if get_or old.returns.items n true then old.untold.items else old.untold.items ++ n ∷ [])
@@ -51,11 +53,18 @@ pub record IsLinked (from to : ℕ) (fall : Option ℕ) (old new : Marks) : Type
   pub returns : new.returns ≡ old.returns
   pub order : new.order ≡ old.order
   pub untold : new.untold ≡ old.untold
+  pub sent : new.sent ≡ old.sent
   pub before : ℕ
   pub is_before : (d : ℕ) → to < length old.waiting.items → before ≡ get_or old.waiting.items to d
   pub ways : new.ways.items
       ≡ old.ways.items ++ record { from = from; to = to; fall = fall; before = before } ∷ []
   pub waiting : new.waiting.items ≡ set old.waiting.items to (length old.ways.items + 1)
+
+-- The address a is listed as one to which control is sent, unless it was, and no other is.
+pub record IsNoted (map : InstructionMap) (number : ℕ → ℕ) (a : ℕ) (old new : Sent) : Type 0 where
+  pub kept : AreNoted map number new
+  pub there : Contains new.list.items a
+  pub list : (new.list.items ≡ old.list.items) ⊎ (new.list.items ≡ old.list.items ++ a ∷ [])
 
 -- The terminator of a is marked as reached, and n is its number.
 pub record IsArrived (map : InstructionMap) (number : ℕ → ℕ) (m : Marks) (a n : ℕ) : Type 0 where

@@ -1,7 +1,7 @@
 use Rattle.std.proofs.Common.{◌≡◌, ◌+◌, ◌∷◌, [], ◌++◌, ◌∙◌, take, get_or, false, sym, ap, subst, arith}
 use Rattle.std.proofs.lemmas.List.{take_more, take_all}
 use Rattle.code_view.specs.Cuts.{cut_of}
-use Rattle.table_cuts.specs.declared.jump.TableJump.{TableJump}
+use Rattle.code_view.specs.declared.table_jump.TableJump.{TableJump}
 use Rattle.table_cuts.proofs.Flows.{table-ends}
 use Rattle.reached_cuts.specs.Counted.{AreReachedAmong}
 use Rattle.reached_cuts.proofs.Counting.{counted-none, counted-takes, counted-past}

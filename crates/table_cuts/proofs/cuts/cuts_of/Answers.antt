@@ -1,7 +1,7 @@
 use Rattle.std.proofs.Common.{◌≡◌, ◌∙◌, sym, subst, arith, length, get_or, ◌+◌, false}
 use Rattle.table_cuts.specs.Extents.{extent_of}
 use Rattle.table_cuts.specs.Inner.{CutBy}
-use Rattle.table_cuts.specs.declared.jump.TableJump.{TableJump}
+use Rattle.code_view.specs.declared.table_jump.TableJump.{TableJump}
 use Rattle.table_cuts.proofs.Found.{some_width}
 use Rattle.table_cuts.proofs.Kept.{HaveCuts, cuts-none, cuts-one, cuts-past, cuts-all, cuts-fit}
 use Rattle.table_cuts.proofs.cuts.cuts_of.Goals as goal

@@ -1,10 +1,10 @@
 use Rattle.std.proofs.Common.{◌≡◌, ◌+◌, List, length, sym, ◌∙◌, subst}
 use Rattle.std.specs.List.{Contains}
 use Rattle.cfg_model.specs.Program.Cuts.{AreCuts}
-use Rattle.stretches.specs.Gaps.{whole}
-use Rattle.table_cuts.specs.declared.jump.TableJump.{TableJump}
+use Rattle.parallel.specs.Gaps.{whole}
+use Rattle.code_view.specs.declared.table_jump.TableJump.{TableJump}
 use Rattle.table_cuts.specs.Extents.{extent_at}
-use Rattle.table_cuts.specs.Tables.{AreTablesOf, addresses_of}
+use Rattle.code_view.specs.Tables.{AreTablesOf, addresses_of}
 use Rattle.table_trim.specs.Parts.{AreJumpsIn}
 use Rattle.code_view.specs.Cuts.{cut_of}
 use Rattle.code_view.specs.FileCode.{program_of}
@@ -20,7 +20,7 @@ jumps g c =
     let parts = c.in_ok-parts.parts in
     let long : length parts.items ≡ length c.args.bounds.now + 1 = sym parts.ok.0 ∙ c.in_ok-parts.ensures.as_many in
     jumps_joined (program_of c.args.code.now) c.args.code.now.bytes c.args.state.now.maps c.args.bounds.now parts.items long c.in_ok-parts.ensures.each
-    c.in_ok-jumps.ensures.all c.in_ok-jumps.jumps.items c.in_ok-jumps.ensures.jumps
+    c.in_ok-jumps.ensures.made c.in_ok-jumps.jumps.items c.in_ok-jumps.ensures.joined
 
 tables : (g : Over) (c : After-deref g) → AreTablesOf c.args.code.now.bytes c.deref.result.now
 tables g c = subst (AreTablesOf c.args.code.now.bytes) (sym c.deref.ensures.value) (jumps g c).tables

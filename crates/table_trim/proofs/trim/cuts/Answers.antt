@@ -1,10 +1,10 @@
 use Rattle.std.proofs.Common.{List, sym, subst}
 use Rattle.std.specs.List.{Contains}
 use Rattle.cfg_model.specs.Program.Cuts.{AreCuts}
-use Rattle.stretches.specs.Gaps.{whole}
-use Rattle.table_cuts.specs.declared.jump.TableJump.{TableJump}
+use Rattle.parallel.specs.Gaps.{whole}
+use Rattle.code_view.specs.declared.table_jump.TableJump.{TableJump}
 use Rattle.table_cuts.specs.Extents.{extent_at}
-use Rattle.table_cuts.specs.Tables.{AreTablesOf, addresses_of}
+use Rattle.code_view.specs.Tables.{AreTablesOf, addresses_of}
 use Rattle.table_trim.specs.Parts.{AreJumpsIn}
 use Rattle.code_view.specs.Cuts.{cut_of}
 use Rattle.code_view.specs.FileCode.{program_of}
@@ -15,7 +15,7 @@ use Rattle.table_trim.proofs.trim.cuts.Goals.{After-deref}
 
 -- the jumps that were found are all of the file
 jumps : (c : After-deref) → AreJumpsIn (program_of c.args.code.now) c.args.code.now.bytes c.args.state.now.maps whole c.in_ok-jumps.jumps.items
-jumps c = subst (λ stretch. AreJumpsIn (program_of c.args.code.now) c.args.code.now.bytes c.args.state.now.maps stretch c.in_ok-jumps.jumps.items) c.all.ensures c.in_ok-jumps.ensures.jumps
+jumps c = subst (λ range. AreJumpsIn (program_of c.args.code.now) c.args.code.now.bytes c.args.state.now.maps range c.in_ok-jumps.jumps.items) c.all.ensures c.in_ok-jumps.ensures.jumps
 
 tables : (c : After-deref) → AreTablesOf c.args.code.now.bytes c.deref.result.now
 tables c = subst (AreTablesOf c.args.code.now.bytes) (sym c.deref.ensures.value) (jumps c).tables

@@ -1,10 +1,9 @@
-use Rattle.std.proofs.Common.{◌≡◌, ℕ, List, sym, subst}
+use Rattle.std.proofs.Common.{ℕ, List, sym, subst}
 use Rattle.std.specs.Prelude.{IfSome}
 use Rattle.std.proofs.lemmas.Result.{on_ok_weaker}
-use Rattle.reached_terms.specs.declared.marks.Marks.{Marks}
-use Rattle.reached_terms.specs.Inner.Marks.{AreKept, AreRight, IsCutOff, LeadsOn, ReturnsBy}
+use Rattle.reached_terms.specs.Inner.Marks.{AreKept, IsCutOff, LeadsOn, ReturnsBy}
 use Rattle.reached_terms.specs.Inner.Steps.{Step}
-use Rattle.reached_terms.proofs.Growth.{step-none, step-on, step-given}
+use Rattle.reached_terms.proofs.Growth.{step-none, step-on, step-given, led_any-grow}
 use Rattle.reached_terms.proofs.Changes.{mark-step}
 use Rattle.reached_terms.proofs.marks.Marks.branch.Goals as goal
 use Rattle.reached_terms.proofs.marks.Marks.branch.Goals.{then-is_cut_off+in_ok-mark, else-is_cut_off}
@@ -42,4 +41,9 @@ returns-clause-step g c =
     let second : Step map number All old mid = step-on map number Itself Taken All old marked mid first c.in_ok-lead_any.ensures.step (λ seeds right given. given.2) (λ seeds right given. given.0) in
     on_ok_weaker c.lead_any-2.result
     (λ step. step-on map number All Fall All old mid c.lead_any-2.new.self second step (λ seeds right given. given) (λ seeds right given. given.1))
+    c.lead_any-2.ensures.step
+
+pub returns-clause-taken : goal.returns-clause-taken
+returns-clause-taken g c = on_ok_weaker c.lead_any-2.result
+    (λ step. led_any-grow (g.C.Chains.map c.args.code.now) (g.C.Numbered.number c.args.code.now) c.lead_any.new.self c.lead_any-2.new.self step.grow c.args.n c.args.taken c.in_ok-lead_any.ensures.led)
     c.lead_any-2.ensures.step

@@ -1,4 +1,4 @@
-use Rattle.std.proofs.Common.{◌≡◌, ◌<◌, ℕ, List, length, Some, subst, arith}
+use Rattle.std.proofs.Common.{◌<◌, length, Some, subst, arith}
 use Rattle.std.proofs.lemmas.Result.{on_ok_weaker}
 use Rattle.reached_terms.specs.Inner.Marks.{LeadsOn}
 use Rattle.reached_terms.specs.Inner.Steps.{IsLinked}

@@ -1,4 +1,4 @@
-use Rattle.std.proofs.Common.{◌≡◌, ℕ, List, None, subst}
+use Rattle.std.proofs.Common.{subst}
 use Rattle.std.proofs.lemmas.Result.{on_ok_weaker}
 use Rattle.reached_terms.specs.Inner.Marks.{LeadsBy, ReturnsBy}
 use Rattle.reached_terms.proofs.Changes.{mark-step}

@@ -1,9 +1,8 @@
-use Rattle.std.proofs.Common.{◌≡◌, ◌-◌, ◌<◌, ℕ, suc, length, get_or, sym, ◌∙◌, subst, arith}
+use Rattle.std.proofs.Common.{◌≡◌, ◌-◌, ◌<◌, ℕ, suc, length, sym, ◌∙◌, subst, arith}
 use Rattle.std.proofs.lemmas.List.{get_or_default}
-use Rattle.reached_terms.specs.declared.marks.Way.{Way}
 use Rattle.reached_terms.specs.Inner.Marks.{IsLast}
 use Rattle.reached_terms.proofs.Changes.{number_below}
-use Rattle.reached_terms.proofs.Telling.{telling-begins, telling-on, telling-ends}
+use Rattle.reached_terms.proofs.Telling.{telling-begins, telling-on}
 use Rattle.reached_terms.proofs.marks.Marks.tell.Goals as goal
 
 pub loop-at-init : goal.loop-at-init

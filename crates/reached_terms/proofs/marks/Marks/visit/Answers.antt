@@ -1,15 +1,15 @@
-use Rattle.std.proofs.Common.{◌≡◌, ℕ, List, [], ◌∷◌, ◌++◌, Option, Some, IsSome, get_or, sym, ap, ◌∙◌, subst, inl, inr}
-use Rattle.std.specs.Prelude.{IfSome, All}
+use Rattle.std.proofs.Common.{[], Some, get_or, sym, ap, ◌∙◌, subst, inl, inr}
 use Rattle.std.proofs.lemmas.Result.{on_ok_weaker}
 use Rattle.std.proofs.lemmas.List.Elements.{Contains-get_or}
-use Rattle.cfg_model.specs.declared.flow.Flow.TheVariants.{Branch, Jump, Call, IndirectCall, Table, Return, Unknown}
-use Rattle.cfg_model.specs.Program.Instructions.{flow_at, targets_at}
+use Rattle.cfg_model.specs.declared.flow.Flow.TheVariants.{Branch, Jump, Call, IndirectCall, Table}
+use Rattle.cfg_model.specs.Program.Instructions.{targets_at}
 use Rattle.cfg_model.specs.Program.Successors.{LeavesFunction, ReturnsByItself}
 use Rattle.cfg_model.specs.Program.Reach.{Reached}
 use Rattle.cfg_model.specs.Program.Status.{Returns}
 use Rattle.cfg_model.proofs.Program.Known.{successor_from_flow}
 use Rattle.cfg_model.proofs.Program.Listed.{head_in}
-use Rattle.reached_terms.specs.Inner.Marks.{IsNumberOf, ReturnsBy, LeadsOn}
+use Rattle.reached_terms.specs.Sent.{IsSent}
+use Rattle.reached_terms.specs.Inner.Marks.{ReturnsBy, LeadsOn}
 use Rattle.reached_terms.proofs.Changes.{mark-step}
 use Rattle.reached_terms.proofs.Complete.{ends_stand}
 use Rattle.reached_terms.proofs.Growth.{step-given}
@@ -31,8 +31,8 @@ returns-in-Branch-clause-step g c =
     on_ok_weaker c.branch-self.result
     (λ step. step-given map number _ (λ seeds. Reached map seeds k) c.args.self.now c.branch-self.new.self step
     (λ seeds right reached. (
-      some_of (LeadsOn map number seeds n) taken (λ b is. on_successor map number _ numbering n k has c.number-n.ensures seeds b (successor_from_flow map k (Branch taken fall) flow b (in_first taken fall b is)) reached),
-      some_of (LeadsOn map number seeds n) fall (λ b is. on_successor map number _ numbering n k has c.number-n.ensures seeds b (successor_from_flow map k (Branch taken fall) flow b (in_second taken fall b is)) reached),
+      some_of (LeadsOn map number seeds n) taken (λ b is. on_successor map number _ numbering n k has c.number-n.ensures seeds b (successor_from_flow map k (Branch taken fall) flow b (in_first taken fall b is)) (IsSent.target reached flow (in_one taken b is))),
+      some_of (LeadsOn map number seeds n) fall (λ b is. on_successor map number _ numbering n k has c.number-n.ensures seeds b (successor_from_flow map k (Branch taken fall) flow b (in_second taken fall b is)) (IsSent.fall reached flow is)),
       λ cut. on_itself map number _ numbering n k has c.number-n.ensures (subst LeavesFunction (sym flow) (leaves_so taken fall cut)),
     )))
     c.branch-self.ensures.step
@@ -44,11 +44,11 @@ returns-in-Jump-clause-step g c =
     let k = c.args.k in
     let target = c.in-Jump.target in
     let has = ends_stand (map k) c.requires.ends in
-    on_ok_weaker c.lead-in-Jump.result
-    (λ step. step-given map number _ (λ seeds. Reached map seeds k) c.args.self.now c.lead-in-Jump.new.self step
+    on_ok_weaker c.lead.result
+    (λ step. step-given map number _ (λ seeds. Reached map seeds k) c.args.self.now c.lead.new.self step
     (λ seeds right reached. on_successor map number _ c.requires.kept.numbering c.number-n.result k has c.number-n.ensures seeds target
-    (successor_from_flow map k (Jump target) c.in-Jump.ensures.flow target (head_in target [])) reached))
-    c.lead-in-Jump.ensures.step
+    (successor_from_flow map k (Jump target) c.in-Jump.ensures.flow target (head_in target [])) (IsSent.target reached c.in-Jump.ensures.flow (head_in target []))))
+    c.lead.ensures.step
 
 pub returns-in-Call-clause-step : goal.returns-in-Call-clause-step
 returns-in-Call-clause-step g c =
@@ -63,7 +63,7 @@ returns-in-Call-clause-step g c =
     on_ok_weaker c.call_from.result
     (λ step. step-given map number _ (λ seeds. Reached map seeds k) c.args.self.now c.call_from.new.self step
     (λ seeds right reached. (
-      Reached.called reached call,
+      IsSent.target reached call (head_in target []),
       some_of (λ f. Returns map target → LeadsOn map number seeds n f) fall
           (λ f is returns. on_fall map number _ c.requires.kept.numbering n k has c.number-n.ensures seeds target f (call ∙ ap (λ o. Some (Call target o)) is) reached returns),
     )))
@@ -80,7 +80,7 @@ returns-in-IndirectCall-clause-step g c =
     on_ok_weaker c.lead_any.result
     (λ step. step-given map number _ (λ seeds. Reached map seeds k) c.args.self.now c.lead_any.new.self step
     (λ seeds right reached. some_of (LeadsOn map number seeds n) fall
-    (λ b is. on_successor map number _ c.requires.kept.numbering n k has c.number-n.ensures seeds b (successor_from_flow map k (IndirectCall fall) c.in-IndirectCall.ensures.flow b (in_one fall b is)) reached)))
+    (λ b is. on_successor map number _ c.requires.kept.numbering n k has c.number-n.ensures seeds b (successor_from_flow map k (IndirectCall fall) c.in-IndirectCall.ensures.flow b (in_one fall b is)) (IsSent.fall reached c.in-IndirectCall.ensures.flow is))))
     c.lead_any.ensures.step
 
 pub returns-in-Table-clause-step : goal.returns-in-Table-clause-step
@@ -93,7 +93,8 @@ returns-in-Table-clause-step g c =
     on_ok_weaker c.table.result
     (λ step. step-given map number _ (λ seeds. Reached map seeds k) c.args.self.now c.table.new.self step
     (λ seeds right reached i d below. on_successor map number _ c.requires.kept.numbering n k has c.number-n.ensures seeds (get_or (targets_at map k) i d)
-    (successor_from_flow map k (Table c.in-Table.entries c.in-Table.full c.in-Table.is_open) c.in-Table.ensures.flow (get_or (targets_at map k) i d) (Contains-get_or (targets_at map k) i d below)) reached))
+    (successor_from_flow map k (Table c.in-Table.entries c.in-Table.full c.in-Table.is_open) c.in-Table.ensures.flow (get_or (targets_at map k) i d) (Contains-get_or (targets_at map k) i d below))
+    (IsSent.target reached c.in-Table.ensures.flow (Contains-get_or (targets_at map k) i d below))))
     c.table.ensures.step
 
 pub returns-in-Table-clause-visited : goal.returns-in-Table-clause-visited

@@ -1,6 +1,5 @@
-use Rattle.std.proofs.Common.{◌≡◌, ◌+◌, ◌<◌, ℕ, length, get_or, sym, ◌∙◌, subst, arith}
+use Rattle.std.proofs.Common.{◌≡◌, ◌<◌, length, get_or, ◌∙◌, arith}
 use Rattle.std.proofs.lemmas.List.{get_or_default}
-use Rattle.cfg_model.specs.Program.Chain.{IsTerminator}
 use Rattle.reached_terms.proofs.Closing.{seed-on, closing-begins, closing-on, closed}
 use Rattle.reached_terms.proofs.reached.ReachedTerms.of.Goals as goal
 
@@ -20,7 +19,7 @@ loop-seed-init g c =
 pub loop-seed-preserved : goal.loop-seed-preserved
 loop-seed-preserved g c =
     seed-on (g.C.Chains.map c.args.code.now) (g.C.Numbered.number c.args.code.now) c.args.seeds.now c.loop-seed.seed-index c.loop-seed.marks c.arrive.new.self c.in_ok-arrive.field-0
-    c.loop-seed-test.true c.loop-seed.invariant c.in_ok-arrive.ensures.step c.in_ok-arrive.ensures.there c.in_ok-arrive.ensures.untold
+    c.loop-seed-test.true c.loop-seed.invariant c.in_ok-arrive.ensures.step c.in_ok-arrive.ensures.there c.in_ok-arrive.ensures.sent c.in_ok-arrive.ensures.untold
 
 pub loop-i-init : goal.loop-i-init
 loop-i-init g c = closing-begins (g.C.Chains.map c.args.code.now) (g.C.Numbered.number c.args.code.now) c.args.seeds.now c.loop-seed.seed-index c.loop-seed.marks (omega arith) c.loop-seed.invariant
@@ -39,4 +38,4 @@ loop-i-preserved g c =
     c.in_ok-tell_all.ensures.kept c.in_ok-tell_all.ensures.grow c.in_ok-tell_all.ensures.right c.in_ok-tell_all.ensures.told c.in_ok-tell_all.ensures.none
 
 pub returns : goal.returns
-returns g c = closed (g.C.Chains.map c.args.code.now) (g.C.Numbered.number c.args.code.now) c.args.seeds.now c.loop-i.marks c.loop-i.i (omega arith) c.loop-i.invariant
+returns g c = closed (g.C.Chains.map c.args.code.now) (g.C.Numbered.number c.args.code.now) c.args.seeds.now c.loop-i.marks c.loop-i.i (omega arith) c.loop-i.invariant c.requires

@@ -1,0 +1,60 @@
+use Rattle.std.proofs.Common.{Bool, List, sym, subst}
+use Rattle.cfg_model.specs.Program.Chain.{GoesOnTo, IsTerminator}
+use Rattle.reached_graph.specs.Inner.Marks.{IsMarked}
+use Rattle.reached_graph.specs.Inner.Walks.{IsFresh, IsStopped}
+use Rattle.reached_graph.proofs.Walking.{stopped_keeps, walk_ends, walks_go, walks_stop}
+use Rattle.reached_graph.proofs.walks.Walks.go_on.Goals as goal
+
+pub loop-next-init : goal.loop-next-init
+loop-next-init g c = record {
+  fit = c.requires.fit;
+  kept = λ a on. on;
+  here = c.requires.here;
+  walked = λ seeds sent have. have;
+}
+
+pub loop-next-preserved : goal.loop-next-preserved
+loop-next-preserved g c =
+    let map = g.C.Chains.map c.args.code.now in
+    let number = g.C.Numbered.number c.args.code.now in
+    let old = c.loop-next.self in
+    let new = c.enter.new.self in
+    let at = c.loop-next.at in
+    let next = c.in-Some.next in
+    let goes : GoesOnTo map at next = c.in-Some.ensures in
+    let fresh : IsFresh map number next old new = rw c.if-not-branch.false at c.in_ok-enter.ensures.cases in
+    record {
+      fit = c.in_ok-enter.ensures.fit;
+      kept = λ a on. fresh.begun.walked.kept a (c.loop-next.invariant.kept a on);
+      here = fresh.begun.walked.here;
+      walked = λ seeds sent have. walks_go map number seeds sent old new c.loop-next.invariant.fit.lawful at next goes c.loop-next.invariant.here (c.loop-next.invariant.walked seeds sent have) fresh;
+    }
+
+pub returns-then-not-branch : goal.returns-then-not-branch
+returns-then-not-branch g c =
+    let map = g.C.Chains.map c.args.code.now in
+    let number = g.C.Numbered.number c.args.code.now in
+    let old = c.loop-next.self in
+    let new = c.enter.new.self in
+    let at = c.loop-next.at in
+    let next = c.in-Some.next in
+    let goes : GoesOnTo map at next = c.in-Some.ensures in
+    let stopped : IsStopped map number next old new = rw c.if-not-branch.true at c.in_ok-enter.ensures.cases in
+    record {
+      fit = c.in_ok-enter.ensures.fit;
+      kept = λ a on. subst (λ (xs : List Bool). IsMarked map number xs a) (sym (stopped_keeps map number next old new stopped)) (c.loop-next.invariant.kept a on);
+      walked = λ seeds sent have. walks_stop map number seeds sent old new c.loop-next.invariant.fit.lawful at next goes c.loop-next.invariant.here (c.loop-next.invariant.walked seeds sent have) stopped;
+    }
+
+pub returns : goal.returns
+returns g c =
+    let map = g.C.Chains.map c.args.code.now in
+    let number = g.C.Numbered.number c.args.code.now in
+    let w = c.loop-next.self in
+    let at = c.loop-next.at in
+    let ends : IsTerminator map at = c.in_default.ensures in
+    record {
+      fit = c.loop-next.invariant.fit;
+      kept = c.loop-next.invariant.kept;
+      walked = λ seeds sent have. walk_ends map seeds sent (IsMarked map number w.walked.items) (IsMarked map number w.starts.items) w.leaders.items at ends (c.loop-next.invariant.walked seeds sent have);
+    }

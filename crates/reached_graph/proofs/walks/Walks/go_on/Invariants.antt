@@ -1,0 +1,16 @@
+use Rattle.std.proofs.Common.{ℕ, List, ◌-◌, ◌^◌}
+use Rattle.reached_graph.specs.Inner.Marks.{IsMarked}
+use Rattle.reached_graph.specs.Inner.Walks.{AreFit, At, HaveWalked}
+use Rattle.reached_graph.proofs.walks.Walks.go_on.Given as goal
+
+abbrev pub invariant-loop-next : goal.invariant-loop-next
+invariant-loop-next g l = record {
+  fit : AreFit (g.C.Chains.map l.code) (g.C.Numbered.number l.code) l.self;
+  kept : (a : ℕ) → IsMarked (g.C.Chains.map l.code) (g.C.Numbered.number l.code) l.initial.self.walked.items a → IsMarked (g.C.Chains.map l.code) (g.C.Numbered.number l.code) l.self.walked.items a;
+  here : IsMarked (g.C.Chains.map l.code) (g.C.Numbered.number l.code) l.self.walked.items l.at;
+  walked : (seeds sent : List ℕ) → HaveWalked (g.C.Chains.map l.code) (g.C.Numbered.number l.code) seeds sent l.initial.self (At l.s)
+      → HaveWalked (g.C.Chains.map l.code) (g.C.Numbered.number l.code) seeds sent l.self (At l.at);
+}
+
+abbrev pub decreases-loop-next : goal.decreases-loop-next
+decreases-loop-next g l = 2 ^ 64 - l.at

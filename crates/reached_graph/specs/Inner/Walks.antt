@@ -1,0 +1,108 @@
+-- How far the walks have come, and how they go on.
+use Rattle.std.specs.Prelude.{◌≡◌, ◌≢◌, ◌↔◌, ℕ, ◌⊎◌, List, [], ◌∷◌, ◌++◌, length, All, Contains}
+use Rattle.cfg_model.specs.Program.Instructions.{InstructionMap, IsLawful}
+use Rattle.cfg_model.specs.Program.Chain.{GoesOnTo}
+use Rattle.cfg_model.specs.Program.Reach.{Reached}
+use Rattle.cfg_model.specs.Graph.Leader.{IsLeader}
+use Rattle.reached_terms.specs.Numbering.{IsNumbering}
+use Rattle.reached_graph.specs.declared.walks.Walks.{Walks}
+use Rattle.reached_graph.specs.Inner.Leaders.{AreSent}
+use Rattle.reached_graph.specs.Inner.Marks.{IsMarked, IsAdded}
+
+-- There are marks for each address of the program.
+pub record AreFit (map : InstructionMap) (number : ℕ → ℕ) (w : Walks) : Type 0 where
+  pub lawful : IsLawful map
+  pub numbering : IsNumbering map number (length w.walked.items)
+  pub starts : length w.starts.items ≡ length w.walked.items
+
+-- What holds of the addresses that were walked over and those where blocks start, but for what
+-- comes after an open address, which a walk is at.
+pub record AreWalked (map : InstructionMap) (seeds sent : List ℕ) (IsWalked IsStart : ℕ → Type 0)
+    (leaders : List ℕ) (IsOpen : ℕ → Type 0) : Type 0 where
+  -- What is walked over is reached, and where blocks start are leaders.
+  pub reached : (a : ℕ) → IsWalked a → Reached map seeds a
+  pub leads : All (IsLeader map seeds) leaders
+  pub listed : (a : ℕ) → IsStart a ↔ Contains leaders a
+  pub given : (a : ℕ) → Contains sent a → IsStart a
+  pub begun : (a : ℕ) → IsStart a → IsWalked a ⊎ Contains sent a
+  -- A walk came to each address from a start or from the one before it.
+  pub came : (a : ℕ) → IsWalked a
+      → IsStart a ⊎ ((b : ℕ) × IsWalked b × (¬ IsOpen b) × GoesOnTo map b a)
+  -- It went on from there.
+  pub onward : (a next : ℕ) → IsWalked a → GoesOnTo map a next
+      → IsOpen a ⊎ (IsWalked next ⊎ IsStart next)
+  -- Where two streams join a block starts.
+  pub joined : (a b next : ℕ) → IsWalked a → IsWalked b → a ≢ b → GoesOnTo map a next
+      → GoesOnTo map b next → IsOpen a ⊎ (IsOpen b ⊎ IsStart next)
+
+-- The same of these walks.
+abbrev pub HaveWalked : InstructionMap → (ℕ → ℕ) → List ℕ → List ℕ → Walks → (ℕ → Type 0) → Type 0
+HaveWalked map number seeds sent w IsOpen =
+    AreWalked map seeds sent (IsMarked map number w.walked.items)
+    (IsMarked map number w.starts.items) w.leaders.items IsOpen
+
+-- No address is open.
+abbrev pub Nowhere : ℕ → Type 0
+Nowhere a = ⊥
+
+-- This address alone is.
+abbrev pub At : ℕ → ℕ → Type 0
+At here a = a ≡ here
+
+-- The address a is walked over, for the first time.
+pub record IsBegun (map : InstructionMap) (number : ℕ → ℕ) (a : ℕ) (old new : Walks)
+    : Type 0 where
+  pub off : ¬ IsMarked map number old.walked.items a
+  pub walked : IsAdded (IsMarked map number old.walked.items)
+      (IsMarked map number new.walked.items) a
+  pub starts : new.starts ≡ old.starts
+  pub leaders : new.leaders ≡ old.leaders
+
+-- The same where no block starts.
+pub record IsFresh (map : InstructionMap) (number : ℕ → ℕ) (a : ℕ) (old new : Walks)
+    : Type 0 where
+  pub no_start : ¬ IsMarked map number old.starts.items a
+  pub begun : IsBegun map number a old new
+
+-- A block starts at the address a from now on, which was walked over before.
+pub record IsJoined (map : InstructionMap) (number : ℕ → ℕ) (a : ℕ) (old new : Walks)
+    : Type 0 where
+  pub no_start : ¬ IsMarked map number old.starts.items a
+  pub was_walked : IsMarked map number old.walked.items a
+  pub walked : new.walked ≡ old.walked
+  pub starts : IsAdded (IsMarked map number old.starts.items)
+      (IsMarked map number new.starts.items) a
+  pub leaders : new.leaders.items ≡ old.leaders.items ++ a ∷ []
+
+-- A walk ends that comes to the address a: a block starts there, or does from now on.
+abbrev pub IsStopped : InstructionMap → (ℕ → ℕ) → ℕ → Walks → Walks → Type 0
+IsStopped map number a old new =
+    (IsMarked map number old.starts.items a × (new ≡ old)) ⊎ IsJoined map number a old new
+
+-- A walk goes on from the address s to its end.
+pub record IsWalkOn (map : InstructionMap) (number : ℕ → ℕ) (s : ℕ) (old new : Walks)
+    : Type 0 where
+  pub fit : AreFit map number new
+  pub kept : (a : ℕ) → IsMarked map number old.walked.items a
+      → IsMarked map number new.walked.items a
+  pub walked : (seeds sent : List ℕ) → HaveWalked map number seeds sent old (At s)
+      → HaveWalked map number seeds sent new Nowhere
+
+-- A whole walk from the address s.
+pub record IsWalkFrom (map : InstructionMap) (number : ℕ → ℕ) (s : ℕ) (old new : Walks)
+    : Type 0 where
+  pub fit : AreFit map number new
+  pub begun : IsMarked map number new.walked.items s
+  pub kept : (a : ℕ) → IsMarked map number old.walked.items a
+      → IsMarked map number new.walked.items a
+  pub walked : (seeds sent : List ℕ) → Contains sent s
+      → HaveWalked map number seeds sent old Nowhere
+      → HaveWalked map number seeds sent new Nowhere
+
+-- All walks are done.
+pub record AreDone (map : InstructionMap) (number : ℕ → ℕ) (sent : List ℕ) (w : Walks)
+    : Type 0 where
+  pub fit : AreFit map number w
+  pub begun : (a : ℕ) → Contains sent a → IsMarked map number w.walked.items a
+  pub walked : (seeds : List ℕ) → AreSent map seeds sent
+      → HaveWalked map number seeds sent w Nowhere

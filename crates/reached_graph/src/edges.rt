@@ -1,0 +1,70 @@
+//! The edges of a block, and all edges in the order of a graph.
+
+ghost use Rattle.std.specs.Prelude.{◌≡◌, ◌↔◌, ℕ, List, Contains, IsTrue, OnOk, Some};
+ghost use Rattle.cfg_model.specs.Graph.Edge.{Leaves};
+ghost use Rattle.cfg_model.specs.Graph.Graph.{EdgeBefore};
+ghost use Rattle.cfg_model.specs.Graph.Listing.{Gains, Lists};
+ghost use Rattle.cfg_model.specs.Program.Instructions.{IsLawful, flow_at};
+ghost use Rattle.cfg_model.specs.Program.Reach.{Reached};
+ghost use Rattle.cfg_model.specs.Program.Status.{Returns};
+ghost use Rattle.cfg_model.specs.Program.Successors.{IsCall};
+ghost use Rattle.reached_graph.specs.Inner.Ways.{TellsReached};
+
+use crate::blocks::BlockEnd;
+use cfg_model::{Chains, Edge, Flow, Memory, add_edges_by, edges_in_order};
+
+/// Gains the edges of the block that starts at `s` and has this end.
+pub(crate) fn add_ways<C: Chains, F: Fn(u64) -> bool>(
+    code: &C,
+    returns: &F,
+    s: u64,
+    end: BlockEnd,
+    edges: &mut Vec<Edge>,
+) -> Result<(), Memory>
+    requires lawful { IsLawful (C.map code.now) }
+    requires flow { flow_at (C.map code.now) end.last ≡ Some end.flow }
+    requires returns { (seeds : List ℕ) × Reached (C.map code.now) seeds end.last
+        × TellsReached (C.map code.now) seeds (F.pre returns.now) (F.post returns.now) }
+    ensures { OnOk result (Gains edges.old.items edges.new.items
+        (Leaves (C.map code.now) (Returns (C.map code.now)) s end.last)) }
+{
+    let back = callee_returns(code, returns, end);
+    let before = edges.len();
+    add_edges_by(code, s, end.last, end.flow, back, edges)?;
+    sort_from(edges, before);
+    Ok(())
+}
+
+/// Puts the edges from place `from` on into the order of a graph. Blocks are gone over in that
+/// order, so with those of each block sorted, all are in order, but for double ones.
+fn sort_from(edges: &mut Vec<Edge>, from: usize)
+    ensures { (edge : _) → Contains edges.new.items edge ↔ Contains edges.old.items edge }
+{
+    let from = from.min(edges.len());
+    edges[from..].sort_unstable();
+}
+
+/// If a known address is called at the end of a block: whether it returns.
+fn callee_returns<C: Chains, F: Fn(u64) -> bool>(code: &C, returns: &F, end: BlockEnd) -> bool
+    requires flow { flow_at (C.map code.now) end.last ≡ Some end.flow }
+    requires returns { (seeds : List ℕ) × Reached (C.map code.now) seeds end.last
+        × TellsReached (C.map code.now) seeds (F.pre returns.now) (F.post returns.now) }
+    ensures { (target : _) (fall : _) → IsCall (C.map code.now) end.last target fall
+        → IsTrue result ↔ Returns (C.map code.now) target }
+{
+    let _ = code;
+    match end.flow {
+        Flow::Call { target, .. } => returns(target),
+        _ => false,
+    }
+}
+
+/// The same edges, each once, by the start of the block that they leave, then of the block that
+/// they enter, then by kind. The first sort makes use of the order that they have. If memory for it
+/// is missing, the second one does all.
+pub(crate) fn by_source(mut edges: Vec<Edge>) -> Vec<Edge>
+    ensures { Lists EdgeBefore (Contains edges.items) result.items }
+{
+    let _ = edges.sort();
+    edges_in_order(edges)
+}

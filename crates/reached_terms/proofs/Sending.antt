@@ -1,0 +1,207 @@
+-- Where control is sent: from which instructions, and that it is reached.
+use Rattle.std.proofs.Common.{◌≡◌, ℕ, ◌<◌, ◌⊎◌, Bool, true, false, List, [], ◌∷◌, ◌++◌, length, get_or, set, Option, Some, IsSome, refl, sym, ap, ◌∙◌, subst, arith, inl, inr}
+use Rattle.std.specs.Prelude.{All, Contains, option_to_list}
+use Rattle.std.proofs.lemmas.Option.{none-some}
+use Rattle.std.proofs.lemmas.List.{get_or_append_left, get_or_default, get_or_push, length_push, length-set}
+use Rattle.std.proofs.lemmas.List.Elements.{All-contains, All-push, Contains-append_left, Contains-push}
+use Rattle.std.proofs.lemmas.Bool.{cases_order}
+use Rattle.cfg_model.specs.declared.flow.Flow.{Flow}
+use Rattle.cfg_model.specs.declared.flow.Flow.TheVariants.{Straight, Branch, Jump, Call, IndirectCall, Table, Return, Unknown, Stop}
+use Rattle.cfg_model.specs.Program.Instructions.{InstructionMap, IsLawful, flow_at, targets_at}
+use Rattle.cfg_model.specs.Program.Chain.{IsTerminator, EndsChain}
+use Rattle.cfg_model.specs.Program.Successors.{IsSuccessor, IsCall}
+use Rattle.cfg_model.specs.Program.Reach.{Reached}
+use Rattle.cfg_model.specs.Graph.Leader.{targets_by, fall_by}
+use Rattle.cfg_model.proofs.Program.Known.{successor_from_flow, successor_known, target_known, fall_known}
+use Rattle.cfg_model.proofs.Program.Listed.{none_in, in_cases}
+use Rattle.reached_terms.specs.declared.sent.Sent.{Sent}
+use Rattle.reached_terms.specs.declared.marks.Way.{Way}
+use Rattle.reached_terms.specs.declared.marks.Marks.{Marks}
+use Rattle.reached_terms.specs.Numbering.{IsNumbering}
+use Rattle.reached_terms.specs.Reached.{AreEachOnce}
+use Rattle.reached_terms.specs.Sent.{IsSent}
+use Rattle.reached_terms.specs.Inner.Marks.{IsOn, AreNoted, AreKept, AreRight, AreTold, IsDone}
+use Rattle.reached_terms.specs.Inner.Steps.{Grow, Step, IsNoted}
+use Rattle.reached_terms.proofs.Growth.{done-grow, step-on}
+use Rattle.reached_terms.proofs.Bits.{on_set, on_kept, on_cases, off_read}
+use Rattle.reached_terms.proofs.Visits.{in_second, in_one}
+
+-- an instruction that sends control on ends its chain, and goes on there or calls it
+pub sends : (map : InstructionMap) (k a : ℕ) (flow : Flow) → flow_at map k ≡ Some flow → Contains (targets_by (targets_at map k) flow) a
+    → IsTerminator map k × (IsSuccessor map k a ⊎ ((fall : Option ℕ) × IsCall map k a fall))
+sends map k a (Straight next) at there = absurd (none_in a there)
+sends map k a (Branch taken fall) at there = (
+  subst EndsChain (sym at) tt,
+  inl (successor_from_flow map k (Branch taken fall) at a (Contains-append_left (option_to_list taken) (option_to_list fall) a there)),
+)
+sends map k a (Jump target) at there = (subst EndsChain (sym at) tt, inl (successor_from_flow map k (Jump target) at a there))
+sends map k a (Call target fall) at there = (
+  subst EndsChain (sym at) tt,
+  elim (in_cases target [] a there) [
+    | inl same ↦ inr (fall, subst (λ t. flow_at map k ≡ Some (Call t fall)) same at)
+    | inr none ↦ absurd (none_in a none)
+  ],
+)
+sends map k a (IndirectCall fall) at there = absurd (none_in a there)
+sends map k a (Table entries full is_open) at there = (subst EndsChain (sym at) tt, inl (successor_from_flow map k (Table entries full is_open) at a there))
+sends map k a Return at there = absurd (none_in a there)
+sends map k a Unknown at there = absurd (none_in a there)
+sends map k a Stop at there = absurd (none_in a there)
+
+-- the same of one that falls on
+pub falls : (map : InstructionMap) (k a : ℕ) (flow : Flow) → flow_at map k ≡ Some flow → fall_by flow ≡ Some a → IsTerminator map k × IsSuccessor map k a
+falls map k a (Straight next) at is = absurd (none-some a is)
+falls map k a (Branch taken fall) at is = (subst EndsChain (sym at) tt, successor_from_flow map k (Branch taken fall) at a (in_second taken fall a is))
+falls map k a (Jump target) at is = absurd (none-some a is)
+falls map k a (Call target fall) at is = absurd (none-some a is)
+falls map k a (IndirectCall fall) at is = (subst EndsChain (sym at) tt, successor_from_flow map k (IndirectCall fall) at a (in_one fall a is))
+falls map k a (Table entries full is_open) at is = absurd (none-some a is)
+falls map k a Return at is = absurd (none-some a is)
+falls map k a Unknown at is = absurd (none-some a is)
+falls map k a Stop at is = absurd (none-some a is)
+
+pub sent_reached : (map : InstructionMap) (seeds : List ℕ) (a : ℕ) → IsSent map seeds a → Reached map seeds a
+sent_reached map seeds a (IsSent.seed there) = Reached.seed there
+sent_reached map seeds a (IsSent.target {k = k} {flow = flow} reached at there) = elim (sends map k a flow at there).1 [
+  | inl next ↦ Reached.onward reached next
+  | inr call ↦ Reached.called reached call.1
+]
+sent_reached map seeds a (IsSent.fall {k = k} {flow = flow} reached at is) = Reached.onward reached (falls map k a flow at is).1
+sent_reached map seeds a (IsSent.past_call reached call returns) = Reached.past_call reached call returns
+
+-- what is reached from seeds that stand there does too
+pub reached_stands : {map : InstructionMap} {seeds : List ℕ} {a : ℕ} → IsLawful map → All (λ s. IsSome (map s)) seeds → Reached map seeds a → IsSome (map a)
+reached_stands {map} {seeds} lawful known (Reached.seed {a = a} there) = All-contains (λ s. IsSome (map s)) seeds a known there
+reached_stands {map} lawful known (Reached.onward {a = a} {b = b} from next) = successor_known map lawful a b next
+reached_stands {map} lawful known (Reached.called {a = a} {target = target} from call) = target_known map lawful a target call
+reached_stands {map} lawful known (Reached.past_call {a = a} {target = target} {fall = fall} from call returns) = fall_known map lawful a target fall call
+
+-- ---- an address that is noted
+
+-- one more address, which was not listed
+once_more : (xs : List ℕ) (a : ℕ) → AreEachOnce xs → (Contains xs a → ⊥) → AreEachOnce (xs ++ a ∷ [])
+once_more xs a once other i j d less inside same =
+    let size = length_push xs a in
+    let before : i < length xs = omega arith in
+    let first : get_or (xs ++ a ∷ []) i d ≡ get_or xs i d = get_or_append_left xs (a ∷ []) d i before in
+    elim (cases_order j (length xs)) [
+      | inl last ↦ other (i, before, get_or_default xs i a d before ∙ sym first ∙ same ∙ get_or_push xs a d j (sym last))
+      | inr rest ↦ elim rest [
+        | inl within ↦ once i j d less within (sym first ∙ same ∙ get_or_append_left xs (a ∷ []) d j within)
+        | inr past ↦ absurd (omega arith)
+      ]
+    ]
+
+module _ (map : InstructionMap) (number : ℕ → ℕ) (a : ℕ) (has : IsSome (map a)) (old new : Sent) (kept : AreNoted map number old)
+    (on : Bool) (read : on ≡ get_or old.marks.items (number a) on) (off : on ≡ false)
+    (marks : new.marks.items ≡ set old.marks.items (number a) true) (list : new.list.items ≡ old.list.items ++ a ∷ []) where
+  n_within : number a < length old.marks.items
+  n_within = kept.numbering.below a has
+
+  -- an address that was not marked is listed and marked
+  pub noted-new : IsNoted map number a old new
+  noted-new = record {
+    kept = record {
+      numbering = rw marks (subst (IsNumbering map number) (sym (length-set old.marks.items (number a) true)) kept.numbering);
+      listed = λ b b_has b_on. elim (on_cases old.marks.items (number a) n_within (number b) (rw marks at b_on)) [
+        | inl same ↦
+            let is : b ≡ a = kept.numbering.apart b a b_has has same in
+            rw list (subst (Contains (old.list.items ++ a ∷ [])) (sym is) (Contains-push old.list.items a))
+        | inr before ↦ rw list (Contains-append_left old.list.items (a ∷ []) b (kept.listed b b_has before))
+      ];
+      marked = rw list (All-push (λ b. IsOn new.marks.items (number b)) old.list.items a
+          (λ i d inside. rw marks (on_kept old.marks.items (number a) n_within (number (get_or old.list.items i d)) (kept.marked i d inside)))
+          (rw marks (on_set old.marks.items (number a) n_within)));
+      once = rw list (once_more old.list.items a kept.once
+          (λ there. off_read old.marks.items (number a) on n_within read off (All-contains (λ b. IsOn old.marks.items (number b)) old.list.items a kept.marked there)));
+    };
+    there = rw list (Contains-push old.list.items a);
+    list = inr list;
+  }
+
+module _ (map : InstructionMap) (number : ℕ → ℕ) (a : ℕ) (old new : Marks) (kept : AreKept map number old)
+    (reached : new.reached ≡ old.reached) (returns : new.returns ≡ old.returns) (waiting : new.waiting ≡ old.waiting) (order : new.order ≡ old.order) (ways : new.ways ≡ old.ways) (untold : new.untold ≡ old.untold)
+    (noted : IsNoted map number a old.sent new.sent) where
+  s_reached : new.reached.items ≡ old.reached.items
+  s_reached = ap (λ v. v.items) reached
+
+  s_returns : new.returns.items ≡ old.returns.items
+  s_returns = ap (λ v. v.items) returns
+
+  s_waiting : new.waiting.items ≡ old.waiting.items
+  s_waiting = ap (λ v. v.items) waiting
+
+  s_order : new.order.items ≡ old.order.items
+  s_order = ap (λ v. v.items) order
+
+  s_ways : new.ways.items ≡ old.ways.items
+  s_ways = ap (λ v. v.items) ways
+
+  s_untold : new.untold.items ≡ old.untold.items
+  s_untold = ap (λ v. v.items) untold
+
+  note_kept : AreKept map number new
+  note_kept = record {
+    lawful = kept.lawful;
+    numbering = rw s_reached kept.numbering;
+    returns = rw (s_reached, s_returns) kept.returns;
+    waiting = rw (s_reached, s_waiting) kept.waiting;
+    order = rw (s_reached, s_order) kept.order;
+    listed = rw (s_reached, s_order) kept.listed;
+    counted = rw (s_reached, s_order) kept.counted;
+    ways = rw s_ways kept.ways;
+    untold = rw s_untold kept.untold;
+    last = rw (s_reached, s_ways, s_waiting) kept.last;
+    before = rw s_ways kept.before;
+    sent = noted.kept;
+  }
+
+  note_grow : Grow old new
+  note_grow = record {
+    size = rw s_reached refl;
+    reached = λ m on. rw s_reached on;
+    returns = λ m on. rw s_returns on;
+    ways = λ way there. rw s_ways there;
+    more_ways = rw s_ways (omega arith);
+    same_ways = λ i d inside. rw s_ways refl;
+    more = rw s_order (omega arith);
+    same = λ i d inside. rw s_order refl;
+    sent = λ b there. elim noted.list [
+      | inl same ↦ rw same there
+      | inr more ↦ rw more (Contains-append_left old.sent.list.items (a ∷ []) b there)
+    ];
+  }
+
+  note_right : (seeds : List ℕ) → AreRight map number seeds old → IsSent map seeds a → AreRight map number seeds new
+  note_right seeds right given = record {
+    reached = rw s_reached right.reached;
+    returns = rw s_returns right.returns;
+    ways = rw s_ways right.ways;
+    untold = rw s_untold right.untold;
+    sent = elim noted.list [
+      | inl same ↦ rw same right.sent
+      | inr more ↦ rw more (All-push (IsSent map seeds) old.sent.list.items a right.sent given)
+    ];
+  }
+
+  note_told : (p at : ℕ) → AreTold map number old p at → AreTold map number new p at
+  note_told p at told i d inside on =
+      let is : get_or new.ways.items i d ≡ get_or old.ways.items i d = ap (λ xs. get_or xs i d) s_ways in
+      let w = get_or old.ways.items i d in
+      let was : IsOn old.returns.items w.to = subst (λ (v : Way). IsOn old.returns.items v.to) is (rw s_returns at on) in
+      subst (λ (v : Way). IsDone map number new v ⊎ (Contains new.untold.items v.to ⊎ ((v.to ≡ p) × (i < at)))) (sym is)
+      (elim (told i d (rw s_ways at inside) was) [
+        | inl done ↦ inl (done-grow map number old new note_grow w.from w.fall done)
+        | inr rest ↦ elim rest [
+          | inl there ↦ inr (inl (rw s_untold there))
+          | inr behind ↦ inr (inr behind)
+        ]
+      ])
+
+  pub note-step : Step map number (λ seeds. IsSent map seeds a) old new
+  note-step = record { kept = note_kept; grow = note_grow; right = note_right; told = note_told; left = rw (s_returns, s_untold) (omega arith) }
+
+  -- and its terminator is marked
+  pub note-reach : (last : Marks) → Step map number (λ seeds. Reached map seeds a) new last → Step map number (λ seeds. IsSent map seeds a) old last
+  note-reach last step = step-on map number (λ seeds. IsSent map seeds a) (λ seeds. Reached map seeds a) (λ seeds. IsSent map seeds a) old new last note-step step
+      (λ seeds right given. given) (λ seeds right given. sent_reached map seeds a given)

@@ -1,0 +1,74 @@
+//! Rows 6 to 17: the graph over arrays, against the yardstick. Row 8 has two streams that join.
+
+ghost use Rattle.std.specs.Prelude.{◌≤◌};
+
+use cfg_model::{Chains, Function, Graph};
+use cfg_vectors::row_file;
+use chain_index::ChainIndex;
+use code_view::{Code, Cuts};
+use elf_image::Image;
+use reached_graph::graph_of;
+use std::alloc::Global;
+use std::test::Fail;
+use test_yardstick::plain_graph;
+
+// Where the code of a row's file begins, and the program starts.
+const CODE: u64 = 0x10000;
+
+// Whether two functions are the same.
+fn is_same_function(one: &Function, other: &Function) -> bool {
+    one.entry == other.entry
+        && one.returns == other.returns
+        && one.body.as_slice() == other.body.as_slice()
+}
+
+// Whether two graphs are the same.
+fn is_same(one: &Graph, other: &Graph) -> bool {
+    let functions = one.functions.as_slice();
+    let others = other.functions.as_slice();
+    one.entry == other.entry
+        && one.blocks.as_slice() == other.blocks.as_slice()
+        && one.edges.as_slice() == other.edges.as_slice()
+        && functions.len() == others.len()
+        && functions
+            .iter()
+            .zip(others)
+            .all(|(one, other)| is_same_function(one, other))
+}
+
+// Whether both have the same graph of the code of a row's file, from its start, and how many blocks
+// that has.
+fn blocks_agreed(alloc: Global, row: u32) -> Result<Option<usize>, Fail>
+    requires from { 6 ≤ row }
+    requires to { row ≤ 17 }
+{
+    let image = Image::parse(alloc, row_file(alloc, row, 0)?)?;
+    let index = ChainIndex::new(alloc, &image)?;
+    let none = Cuts::none(alloc);
+    let code = Code::new(&image, &index, &none);
+    if !code.has(CODE) {
+        return Ok(None);
+    }
+    let graph = graph_of(alloc, &code, CODE, &[CODE])?;
+    let plain = plain_graph(alloc, &code, &[CODE], CODE)?;
+    if !is_same(&graph, &plain) {
+        return Ok(None);
+    }
+    Ok(Some(graph.blocks.as_slice().len()))
+}
+
+#[test]
+fn rows_agree(rt: HostRuntime) -> Result<(), Fail> {
+    for row in 6..18 {
+        let blocks = blocks_agreed(rt.alloc(), row)?;
+        assert!(rt; matches!(blocks, Some(n) if n > 0), "row {row}");
+    }
+    Ok(())
+}
+
+// Two streams that join at the fifth byte, as row 8 has them.
+#[test]
+fn streams_join(rt: HostRuntime) -> Result<(), Fail> {
+    assert_eq!(rt; blocks_agreed(rt.alloc(), 8)?, Some(4));
+    Ok(())
+}
