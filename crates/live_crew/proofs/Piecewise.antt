@@ -1,10 +1,10 @@
 -- What is made of each piece of a list is, put together, made of the whole.
 use Rattle.std.proofs.Common.{◌≡◌, ℕ, ◌+◌, ◌<◌, suc, List, [], ◌∷◌, ◌++◌, length, get_or, take, Bor, Ok, Err, sym, subst, arith}
 use Rattle.std.specs.Prelude.{IfOk}
-use Rattle.std.specs.List.{All, AllPairs, AllZip, flat_map}
+use Rattle.std.specs.List.{All, AllZip, flat_map}
 use Rattle.std.proofs.lemmas.List.Concat.{get_or-flat_map}
 use Rattle.std.proofs.lemmas.List.Folds.{length-flat_map-take}
-use Rattle.live_crew.specs.Inner.{Answered, AreMade, made_in}
+use Rattle.parallel.specs.Lists.{Answered, AreMade, made_in}
 
 module _ {X : Type 0} where
   abbrev pub items_of : Bor (List X) → List X
@@ -15,15 +15,6 @@ module _ {X : Type 0} where
   each_piece P pieces all = λ i e lt. λ j d below.
       let fits = length-flat_map-take items_of pieces i e lt in
       subst P (get_or-flat_map items_of pieces i j e d lt below) (all (length (flat_map items_of (take i pieces)) + j) d (omega (arith, fits)))
-
-  -- the items of a piece are in order where all are
-  pub pairs_of_piece : (R : X → X → Type 0) (pieces : List (Bor (List X))) (i : ℕ) (e : Bor (List X)) → i < length pieces → AllPairs R (flat_map items_of pieces) → AllPairs R (get_or pieces i e).now
-  pairs_of_piece R pieces i e lt pairs = λ j k d less below.
-      let start = length (flat_map items_of (take i pieces)) in
-      let fits = length-flat_map-take items_of pieces i e lt in
-      subst (λ y. R y (get_or (get_or pieces i e).now k d)) (get_or-flat_map items_of pieces i j e d lt (omega arith))
-      (subst (R (get_or (flat_map items_of pieces) (start + j) d)) (get_or-flat_map items_of pieces i k e d lt below)
-      (pairs (start + j) (start + k) d (omega arith) (omega (arith, fits))))
 
 zip_append : {A B : Type 0} (R : A → B → Type 0) (xs zs : List A) (ys ws : List B) → AllZip R xs ys → AllZip R zs ws → AllZip R (xs ++ zs) (ys ++ ws)
 zip_append R [] zs [] ws h k = k

@@ -1,36 +1,35 @@
 //! The live registers of all functions, made by several workers.
 
-ghost use Rattle.std.specs.Prelude.{◌≡◌, ℕ, ◌<◌, ◌≤◌, All, Contains, IfOk, List};
+ghost use Rattle.std.specs.Prelude.{◌≡◌, ℕ, ◌*◌, ◌<◌, ◌≤◌, All, Contains, IfOk, List};
 ghost use Rattle.std.specs.Prelude.{length, slice_index_or, vec_len};
-ghost use Rattle.std.specs.List.{AllZip};
 ghost use Rattle.std.specs.List.Sorted.{IsStrictlyIncreasing};
 ghost use Rattle.cfg_model.specs.declared.graph.Function.{Function};
 ghost use Rattle.cfg_model.specs.Graph.Function.{IsFunction};
 ghost use Rattle.cfg_model.specs.Graph.Graph.{IsOutline};
 ghost use Rattle.live_regs.specs.Masks.{AreAllLivesOf};
-ghost use Rattle.live_regs.specs.Noted.{AreInOrder, AreNotesOf, IsNoted, IsNoteOf};
+ghost use Rattle.live_regs.specs.Noted.{AreEffectsFrom, AreInOrder, AreNotesOf, IsNoted};
 ghost use Rattle.live_crew.specs.Inner.{HasRisingBody};
 
-use crate::alone::{all_lives, lives_of};
-use crate::lists::joined;
+use crate::by_one::{all_lives, lives_of, piece_count};
 use crate::pieces::pieces_of;
 use cfg_model::{
     AllLives, Block, Chains, Edge, Function, Functions, Graph, Lives, Memory, Outline,
 };
-use drawn_calls::map_drawn;
 use elf_image::Image;
-use live_regs::{Note, Program, notes_of};
+use live_regs::{Effects, PIECE_BLOCKS, Program, effects_of_piece};
+use parallel::{MOST_WORKERS, joined_if_made, map_drawn};
 use std::alloc::Global;
 use std::thread::Threads;
-
-/// The most workers that live registers are made by.
-pub const MOST_WORKERS: u32 = 64;
 
 /// The answer of [`graph_lives`](crate::graph_lives), made by `workers` workers, from 1 to 64. With
 /// one worker no thread is started. [`Memory`] if memory ran out.
 ///
 /// The workers draw pieces of about 1,000 blocks, one after another: first of all blocks, to find
 /// what each reads and writes, and then of the functions.
+///
+/// Time: that of [`graph_lives`](crate::graph_lives), shared among the workers, and O(functions) on
+/// the caller's thread. Memory: 24 bytes a function more, and for each worker O(blocks + edges) of
+/// the largest function.
 pub fn graph_lives_by<R: Threads + Sync>(
     rt: &R,
     alloc: Global,
@@ -89,7 +88,7 @@ pub fn lives_by<R: Threads + Sync, C: Chains>(
     Ok(AllLives::from_vec(all))
 }
 
-/// The answer of [`all_lives`], made by so many workers.
+/// The answer of [`all_lives`], made by this many workers.
 fn lives_shared<R: Threads + Sync>(
     rt: &R,
     alloc: Global,
@@ -108,11 +107,11 @@ fn lives_shared<R: Threads + Sync>(
         return all_lives(alloc, image, blocks, edges, functions);
     }
     let workers = workers as usize;
-    let notes = notes_shared(rt, alloc, image, blocks, edges, workers)?;
+    let notes = notes_shared(rt, alloc, image, blocks, workers)?;
     let program = Program::new(image, blocks, edges, notes);
     let pieces = pieces_of(alloc, functions)?;
     let lists = lives_by_piece(rt, alloc, &program, &pieces, workers)?;
-    joined(alloc, lists, functions.len())
+    joined_if_made(alloc, lists)
 }
 
 /// The live registers of the functions of each piece, in the order of the pieces.
@@ -140,56 +139,19 @@ fn lives_by_piece<R: Threads + Sync>(
     Ok(map_drawn(rt, alloc, workers, pieces.len(), &make)?)
 }
 
-/// The notes of all blocks, made by so many workers.
+/// What the blocks of each piece read and write, found by this many workers.
 fn notes_shared<R: Threads + Sync>(
     rt: &R,
     alloc: Global,
     image: &Image,
     blocks: &[Block],
-    edges: &[Edge],
     workers: usize,
-) -> Result<Vec<Note>, Memory>
-    requires { AreInOrder blocks.now edges.now }
-    ensures { IfOk result (λ v. AreNotesOf image.now blocks.now edges.now v.items) }
+) -> Result<Vec<Vec<Effects>>, Memory>
+    ensures { IfOk result (λ v. AreNotesOf image.now blocks.now v.items) }
 {
-    let pieces = pieces_of(alloc, blocks)?;
-    let lists = notes_by_piece(rt, alloc, image, &pieces, edges, workers)?;
-    joined(alloc, lists, blocks.len())
-}
-
-/// The notes of the blocks of each piece, in the order of the pieces.
-fn notes_by_piece<R: Threads + Sync>(
-    rt: &R,
-    alloc: Global,
-    image: &Image,
-    pieces: &[&[Block]],
-    edges: &[Edge],
-    workers: usize,
-) -> Result<Vec<Result<Vec<Note>, Memory>>, Memory>
-    requires { All (λ piece. AreInOrder piece.now edges.now) pieces.now }
-    ensures as_many { IfOk result (λ v. vec_len v ≡ length pieces.now) }
-    ensures each { IfOk result (λ v. (i : ℕ) (d : _) (e : _) → i < length pieces.now
-        → IfOk (slice_index_or v.items i e) (λ w. AllZip (IsNoteOf image.now edges.now)
-        (slice_index_or pieces.now i d).now w.items)) }
-{
-    let make = |i: usize| -> Result<Vec<Note>, Memory>
-        requires { i < length pieces.now
-            × All (λ piece. AreInOrder piece.now edges.now) pieces.now }
-        ensures { IfOk result (λ v. (d : _) → AllZip (IsNoteOf image.entry.now edges.entry.now)
-            (slice_index_or pieces.entry.now i d).now v.items) }
-    { zipped_notes(alloc, image, pieces[i], edges) };
-    Ok(map_drawn(rt, alloc, workers, pieces.len(), &make)?)
-}
-
-/// The notes of these blocks, one for each.
-fn zipped_notes(
-    alloc: Global,
-    image: &Image,
-    blocks: &[Block],
-    edges: &[Edge],
-) -> Result<Vec<Note>, Memory>
-    requires { AreInOrder blocks.now edges.now }
-    ensures { IfOk result (λ v. AllZip (IsNoteOf image.now edges.now) blocks.now v.items) }
-{
-    notes_of(alloc, image, blocks, edges)
+    let make = |piece: usize| -> Vec<Effects>
+        ensures { AreEffectsFrom image.entry.now blocks.entry.now (piece * PIECE_BLOCKS)
+            result.items }
+    { effects_of_piece(alloc, image, blocks, piece) };
+    Ok(map_drawn(rt, alloc, workers, piece_count(blocks), &make)?)
 }

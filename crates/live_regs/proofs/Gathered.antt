@@ -11,10 +11,11 @@ use Rattle.cfg_model.specs.declared.graph.Edge.{Edge}
 use Rattle.cfg_model.specs.Graph.Graph.{BlockBefore}
 use Rattle.mask_flow.specs.declared.ways.Way.{Way}
 use Rattle.mask_flow.specs.Reaches.{has_bit}
-use Rattle.live_regs.specs.declared.program.Note.{Note}
+use Rattle.live_regs.specs.declared.effects.Effects.{Effects}
 use Rattle.live_regs.specs.declared.gather.Nodes.{Nodes}
 use Rattle.live_regs.specs.Leaves.{LeadsOn, Leaves, ends_outside}
-use Rattle.live_regs.specs.Noted.{IsNoteOf}
+use Rattle.live_regs.specs.Noted.{AreBetween, AreEffectsOf}
+use Rattle.live_regs.specs.Run.{instructions_of}
 use Rattle.live_regs.specs.Inner.{AddsNode, AddsWays, HasBlockAt, HaveNodes, IsNodeOf, IsNumber}
 use Rattle.live_regs.proofs.Edges.{slice_has}
 use Rattle.live_regs.proofs.Keyed.{one_by_key}
@@ -61,7 +62,8 @@ is_true_or true = inl refl
 is_true_or false = inr (λ h. cc)
 
 module _ (bytes : List ℕ) (blocks : List Block) (edges : List Edge) (body : List ℕ) (place : ℕ) where
-  module _ (order : AllPairs BlockBefore blocks) (number : ℕ) (d : Block) (at : IsNumber blocks (get_or body place 0) number) (note : Note) (is : IsNoteOf bytes edges (get_or blocks number d) note) where
+  module _ (order : AllPairs BlockBefore blocks) (number : ℕ) (d : Block) (at : IsNumber blocks (get_or body place 0) number) (effects : Effects) (is : AreEffectsOf (instructions_of bytes (get_or blocks number d)) effects)
+      (first end : ℕ) (span : AreBetween edges (get_or blocks number d).start first end) where
     here : (get_or blocks number d).start ≡ get_or body place 0
     here = at.starts d
 
@@ -71,10 +73,10 @@ module _ (bytes : List ℕ) (blocks : List Block) (edges : List Edge) (body : Li
     pub has_block : HasBlockAt blocks (get_or body place 0)
     has_block = (get_or blocks number d, listed, here)
 
-    module _ (old new : List Way) (by_edge : Bool) (ways : AddsWays (take (note.end - note.first) (drop note.first edges)) body place old new by_edge) (mask : ℕ)
-        (bits : (r : ℕ) → r < 32 → has_bit mask r ≡ (has_bit note.effects.reads r || ((by_edge || ends_outside (get_or blocks number d).kind) && not (r == 0) && not (has_bit note.effects.writes r)))) where
-      in_slice : (edge : Edge) (t : ℕ) → Contains edges edge → edge.from ≡ (get_or blocks number d).start → Contains (take (note.end - note.first) (drop note.first edges)) edge
-      in_slice edge t c e = (slice_has edges (get_or blocks number d).start note.first note.end is.span edge).1 (c, e)
+    module _ (old new : List Way) (by_edge : Bool) (ways : AddsWays (take (end - first) (drop first edges)) body place old new by_edge) (mask : ℕ)
+        (bits : (r : ℕ) → r < 32 → has_bit mask r ≡ (has_bit effects.reads r || ((by_edge || ends_outside (get_or blocks number d).kind) && not (r == 0) && not (has_bit effects.writes r)))) where
+      in_slice : (edge : Edge) (t : ℕ) → Contains edges edge → edge.from ≡ (get_or blocks number d).start → Contains (take (end - first) (drop first edges)) edge
+      in_slice edge t c e = (slice_has edges (get_or blocks number d).start first end span edge).1 (c, e)
 
       leaving : Leaves edges body (get_or blocks number d) → IsTrue (by_edge || ends_outside (get_or blocks number d).kind)
       leaving (Leaves.by_end h) = or_right by_edge _ h
@@ -87,29 +89,29 @@ module _ (bytes : List ℕ) (blocks : List Block) (edges : List Edge) (body : Li
       left h = ⊎_elim
           (λ yes.
           let a = ways.leaves yes in
-          let in_edges = (slice_has edges (get_or blocks number d).start note.first note.end is.span a.0).0 a.1 in
+          let in_edges = (slice_has edges (get_or blocks number d).start first end span a.0).0 a.1 in
           Leaves.by_edge {t = a.0.to} (record { edge = a.0; listed = in_edges.0; from = in_edges.1; to = refl; no_call = a.2 }) a.3)
-          (λ end. Leaves.by_end end)
+          (λ ends. Leaves.by_end ends)
           (or_tells by_edge (ends_outside (get_or blocks number d).kind) h)
 
-      own : IsNodeOf bytes edges body (get_or blocks number d) note.effects.writes mask
+      own : IsNodeOf bytes edges body (get_or blocks number d) effects.writes mask
       own = record {
-        stops = is.effects.writes;
-        reads = λ r low h. bit_by_reads _ _ (by_edge || ends_outside (get_or blocks number d).kind) (not (r == 0)) (not (has_bit note.effects.writes r)) (bits r low) (is.effects.reads r low ∙ h);
-        leaves = λ r some low leaves none. bit_by_leaving _ _ _ _ _ (bits r low) (leaving leaves) (not_zero r some) (is.effects.writes r low ∙ none);
-        only = λ r low h. ⊎_elim (λ a. inl (sym (is.effects.reads r low) ∙ a)) (λ b. inr (some_number r b.1, left b.0, sym (is.effects.writes r low) ∙ b.2)) (bit_tells _ _ _ _ _ (bits r low) h);
+        stops = is.writes;
+        reads = λ r low h. bit_by_reads _ _ (by_edge || ends_outside (get_or blocks number d).kind) (not (r == 0)) (not (has_bit effects.writes r)) (bits r low) (is.reads r low ∙ h);
+        leaves = λ r some low leaves none. bit_by_leaving _ _ _ _ _ (bits r low) (leaving leaves) (not_zero r some) (is.writes r low ∙ none);
+        only = λ r low h. ⊎_elim (λ a. inl (sym (is.reads r low) ∙ a)) (λ b. inr (some_number r b.1, left b.0, sym (is.writes r low) ∙ b.2)) (bit_tells _ _ _ _ _ (bits r low) h);
       }
 
-      node : (block : Block) → Contains blocks block → block.start ≡ get_or body place 0 → IsNodeOf bytes edges body block note.effects.writes mask
+      node : (block : Block) → Contains blocks block → block.start ≡ get_or body place 0 → IsNodeOf bytes edges body block effects.writes mask
       node block c e =
           let same : get_or blocks number d ≡ block = one_by_key (λ (b : Block). b.start) blocks order (get_or blocks number d) block listed c (here ∙ sym e) in
-          subst (λ b. IsNodeOf bytes edges body b note.effects.writes mask) same own
+          subst (λ b. IsNodeOf bytes edges body b effects.writes mask) same own
 
       pub block_added : (before after : Nodes) → before.ways.items ≡ old → after.ways.items ≡ new
-          → after.stops.items ≡ before.stops.items ++ note.effects.writes ∷ [] → after.masks.items ≡ before.masks.items ++ mask ∷ []
+          → after.stops.items ≡ before.stops.items ++ effects.writes ∷ [] → after.masks.items ≡ before.masks.items ++ mask ∷ []
           → AddsNode bytes blocks edges body place before after
       block_added before after olds news stops masks = record {
-        stop = note.effects.writes;
+        stop = effects.writes;
         mask = mask;
         stops = stops;
         masks = masks;
@@ -119,7 +121,7 @@ module _ (bytes : List ℕ) (blocks : List Block) (edges : List Edge) (body : Li
         only = λ way c. ⊎_elim
             (λ before. inl (subst (λ ws. Contains ws way) (sym olds) before))
             (λ a.
-            let in_edges = (slice_has edges (get_or blocks number d).start note.first note.end is.span a.0).0 a.1 in
+            let in_edges = (slice_has edges (get_or blocks number d).start first end span a.0).0 a.1 in
             inr (a.2.from, has_block, a.2.target.within, record { edge = a.0; listed = in_edges.0; from = in_edges.1 ∙ here; to = sym a.2.target.at; no_call = a.2.no_call }))
             (ways.only way (subst (λ ws. Contains ws way) news c));
         all = λ t block leads inside.

@@ -1,9 +1,11 @@
 pub mod Masks
 mod Keyed
-mod Edges
+-- Edges is cited by proofs of live_crew.
+pub mod Edges
 mod Bits
 mod Runs
 mod Noted
 mod Added
 mod Gathered
 mod Found
+mod Operands

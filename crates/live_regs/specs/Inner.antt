@@ -1,15 +1,37 @@
 -- Words of private functions, which no public contract cites.
 use Rattle.std.specs.Prelude.{◌≡◌, ◌≢◌, ◌⊎◌, ℕ, ◌<◌, ◌≤◌, List, [], ◌∷◌, ◌++◌, length}
-use Rattle.std.specs.Prelude.{Contains, Bool, IsTrue, IsFalse, slice_index, slice_index_or}
+use Rattle.std.specs.Prelude.{Option, Some, None, IsSome, Contains, Bool, IsTrue, IsFalse, slice_index, slice_index_or}
 use Rattle.cfg_model.specs.declared.graph.Block.{Block}
 use Rattle.cfg_model.specs.declared.graph.Edge.{Edge}
 use Rattle.cfg_model.specs.declared.graph.EdgeKind.TheVariants as kinds
 use Rattle.cfg_model.specs.declared.live.Live.{Live}
 use Rattle.mask_flow.specs.declared.ways.Way.{Way}
 use Rattle.mask_flow.specs.Reaches.{has_bit}
+use Rattle.rv_decode.specs.declared.instructions.Insn.{Insn}
+use Rattle.rv_flow.specs.declared.placed.Placed.{Placed}
+use Rattle.live_regs.specs.declared.effects.Effects.{Effects}
+use Rattle.live_regs.specs.declared.effects.PlacedEffects.{PlacedEffects}
+use Rattle.live_regs.specs.Effects.{reads, writes}
 use Rattle.live_regs.specs.declared.gather.Nodes.{Nodes}
 use Rattle.live_regs.specs.Leaves.{LeadsOn, Leaves}
 use Rattle.live_regs.specs.Run.{instructions_of, reads_first, run_writes}
+
+-- What an instruction reads and writes.
+pub record AreInsnEffects (insn : Option Insn) (effects : Effects) : Type 0 where
+  pub some : IsSome insn
+  pub reads : (r : ℕ) → r < 32 → has_bit effects.reads r ≡ reads insn r
+  pub writes : (r : ℕ) → r < 32 → has_bit effects.writes r ≡ writes insn r
+
+-- The same, where what is no instruction has none.
+abbrev pub AreEffectsIf : Option Insn → Option Effects → Type 0
+AreEffectsIf insn None = insn ≡ None
+AreEffectsIf insn (Some effects) = AreInsnEffects insn effects
+
+-- The length of an instruction in its place, and what it reads and writes.
+pub record ArePlacedEffects (placed : Placed) (found : PlacedEffects) : Type 0 where
+  pub length : found.length ≡ placed.length
+  pub reads : (r : ℕ) → r < 32 → has_bit found.effects.reads r ≡ reads placed.insn r
+  pub writes : (r : ℕ) → r < 32 → has_bit found.effects.writes r ≡ writes placed.insn r
 
 -- One of these blocks starts at a.
 abbrev pub HasBlockAt : List Block → ℕ → Type 0

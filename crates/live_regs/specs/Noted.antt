@@ -1,15 +1,16 @@
--- What is noted of the blocks of a program: the registers that a block reads and writes, and where its
--- edges stand in the list of all edges.
-use Rattle.std.specs.Prelude.{◌≡◌, ℕ, ◌<◌, ◌≤◌, List, length, AllPairs, Option, slice_index_or}
+-- What is noted of the blocks of a program: the registers that each reads and writes. And where the
+-- edges of a block stand in the list of all edges.
+use Rattle.std.specs.Prelude.{◌≡◌, ℕ, ◌+◌, ◌*◌, ◌<◌, ◌≤◌, List, Vec, length, AllPairs, Option, slice_index_or}
 use Rattle.std.specs.List.Sorted.{IsNonDecreasingBy}
+use Rattle.std.specs.declared.alloc.Global.{Global}
 use Rattle.cfg_model.specs.declared.graph.Block.{Block}
 use Rattle.cfg_model.specs.declared.graph.Edge.{Edge}
 use Rattle.cfg_model.specs.Graph.Graph.{BlockBefore}
 use Rattle.mask_flow.specs.Reaches.{has_bit}
 use Rattle.rv_decode.specs.declared.instructions.Insn.{Insn}
 use Rattle.live_regs.specs.declared.effects.Effects.{Effects}
-use Rattle.live_regs.specs.declared.program.Note.{Note}
 use Rattle.live_regs.specs.declared.program.Program.{Program}
+use Rattle.live_regs.specs.declared.program.TheConstants.{PIECE_BLOCKS}
 use Rattle.live_regs.specs.Run.{instructions_of, reads_first, run_writes}
 
 -- What these instructions read first, and what they write.
@@ -25,25 +26,24 @@ pub record AreBetween (edges : List Edge) (a first end : ℕ) : Type 0 where
   pub all : (k : ℕ) (d : Edge) → k < length edges → (slice_index_or edges k d).from ≡ a
       → (first ≤ k) × (k < end)
 
--- What is noted of a block is so.
-pub record IsNoteOf (bytes : List ℕ) (edges : List Edge) (block : Block) (note : Note)
-    : Type 0 where
-  pub effects : AreEffectsOf (instructions_of bytes block) note.effects
-  pub span : AreBetween edges block.start note.first note.end
-
 -- Blocks and edges are in order.
 pub record AreInOrder (blocks : List Block) (edges : List Edge) : Type 0 where
   pub by_start : AllPairs BlockBefore blocks
   pub by_from : IsNonDecreasingBy (λ edge. edge.from) edges
 
--- Each note is that of the block of its number.
-abbrev pub AreNotesOf : List ℕ → List Block → List Edge → List Note → Type 0
-AreNotesOf bytes blocks edges notes =
-    (k : ℕ) (b : Block) (n : Note) → k < length notes → k < length blocks
-    → IsNoteOf bytes edges (slice_index_or blocks k b) (slice_index_or notes k n)
+-- These are the effects of the blocks from this number on.
+abbrev pub AreEffectsFrom : List ℕ → List Block → ℕ → List Effects → Type 0
+AreEffectsFrom bytes blocks first all =
+    (k : ℕ) (b : Block) (e : Effects) → k < length all
+    → AreEffectsOf (instructions_of bytes (slice_index_or blocks (first + k) b)) (slice_index_or all k e)
 
--- The notes of a program are those of its blocks.
+-- The notes of each piece are the effects of its blocks.
+abbrev pub AreNotesOf : List ℕ → List Block → List (Vec Effects Global) → Type 0
+AreNotesOf bytes blocks notes =
+    (i : ℕ) (piece : Vec Effects Global) → i < length notes
+    → AreEffectsFrom bytes blocks (i * PIECE_BLOCKS) (slice_index_or notes i piece).items
+
+-- The blocks and edges of a program are in order, and its notes are those of its blocks.
 pub record IsNoted (program : Program) : Type 0 where
   pub order : AreInOrder program.blocks.now program.edges.now
-  pub notes : AreNotesOf program.image.now program.blocks.now program.edges.now
-      program.notes.items
+  pub notes : AreNotesOf program.image.now program.blocks.now program.notes.items

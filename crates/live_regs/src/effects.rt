@@ -6,11 +6,12 @@ ghost use Rattle.rv_flow.specs.Placed as placed;
 ghost use Rattle.live_regs.specs.Effects.{reads, takes_register, writes};
 ghost use Rattle.live_regs.specs.Run.{instructions_of, placed_from};
 ghost use Rattle.live_regs.specs.Noted.{AreEffectsOf};
+ghost use Rattle.live_regs.specs.Inner.{ArePlacedEffects};
 
+use crate::words::{effects_of_half, effects_of_word};
 use cfg_model::Block;
 use elf_image::Image;
 use rv_decode::{CsrKind, Insn};
-use rv_flow::{Placed, insn_at};
 
 /// The mask of the registers x1 to x31.
 pub(crate) const ALL: u32 = !1;
@@ -26,7 +27,7 @@ pub struct Effects {
 
 impl Effects {
     /// Of no instruction.
-    const NONE: Effects = Effects {
+    pub(crate) const NONE: Effects = Effects {
         reads: 0,
         writes: 0,
     };
@@ -44,6 +45,21 @@ impl Effects {
         }
     }
 }
+
+/// What an instruction in its place reads and writes.
+#[derive(Clone, Copy, Debug, PartialEq, Eq)]
+struct PlacedEffects {
+    /// Its length in bytes, 2 or 4.
+    length: u8,
+    /// What it reads and writes.
+    effects: Effects,
+}
+
+/// What is no instruction has two bytes, and neither reads nor writes.
+const NO_INSN: PlacedEffects = PlacedEffects {
+    length: 2,
+    effects: Effects::NONE,
+};
 
 /// Of one instruction; what is no instruction neither reads nor writes.
 pub fn effects_of(insn: Option<Insn>) -> Effects
@@ -73,25 +89,42 @@ fn effects_between(image: &Image, start: u64, end: u64) -> Effects
     let mut effects = Effects::NONE;
     let mut a = start;
     while a < end {
-        let placed = placed_at(image, a);
-        effects = effects.then(effects_of(placed.insn));
+        let placed = effects_at(image, a);
+        effects = effects.then(placed.effects);
         a = a.saturating_add(u64::from(placed.length));
     }
     effects
 }
 
-/// The instruction at an address, which is none outside the code.
-fn placed_at(image: &Image, a: u64) -> Placed
-    ensures placed { result ≡ placed.placed_at image.now a }
-    ensures some { 0 < result.length }
+/// What the instruction at an address reads and writes; outside the code there is none.
+fn effects_at(image: &Image, a: u64) -> PlacedEffects
+    ensures { ArePlacedEffects (placed.placed_at image.now a) result }
 {
-    if image.is_code(a) {
-        insn_at(image, a)
-    } else {
-        Placed {
+    let Some(half) = image.half_at(a) else {
+        return NO_INSN;
+    };
+    if half & 0b11 != 0b11 {
+        PlacedEffects {
             length: 2,
-            insn: None,
+            effects: effects_of_half(half),
         }
+    } else if half >> 2 & 0b111 == 0b111 {
+        NO_INSN
+    } else {
+        effects_of_whole(image.word_at(a))
+    }
+}
+
+/// What the 32-bit instruction that a whole word is reads and writes, if the word is there.
+fn effects_of_whole(word: Option<u32>) -> PlacedEffects
+    ensures { ArePlacedEffects (placed.whole (placed.whole_insn word)) result }
+{
+    let Some(word) = word else {
+        return NO_INSN;
+    };
+    match effects_of_word(word) {
+        None => NO_INSN,
+        Some(effects) => PlacedEffects { length: 4, effects },
     }
 }
 
@@ -168,7 +201,7 @@ pub(crate) fn without(mask: u32, other: u32) -> u32
 }
 
 /// The mask of one register; x0 is in no mask.
-fn register(number: u8) -> u32
+pub(crate) fn register(number: u8) -> u32
     ensures { (r : ℕ) → r < 32 → has_bit result r ≡ (not (r == 0) && r == number) }
 {
     if number > 0 && number < 32 {

@@ -10,7 +10,7 @@ ghost use Rattle.live_regs.specs.Inner.{AddsWays, IsNumber};
 
 use crate::effects::{ALL, Effects, without};
 use crate::program::Program;
-use crate::search::{between, number_near, place_near};
+use crate::search::{between, end_from, first_near, number_near, place_near};
 use cfg_model::{Edge, EdgeKind, EndKind, Memory};
 use mask_flow::Way;
 use std::alloc::Global;
@@ -24,6 +24,10 @@ pub(crate) struct Nodes {
     pub(crate) masks: Vec<u32>,
     /// The edges within the body.
     pub(crate) ways: Vec<Way>,
+    /// Where the next block and its edges most often stand: after the last ones, also if those are
+    /// of another function.
+    near_block: usize,
+    near_edge: usize,
 }
 
 impl Nodes {
@@ -35,6 +39,8 @@ impl Nodes {
             stops: Vec::new(alloc),
             masks: Vec::new(alloc),
             ways: Vec::new(alloc),
+            near_block: 0,
+            near_edge: 0,
         }
     }
 
@@ -48,37 +54,26 @@ impl Nodes {
         self.stops.clear();
         self.masks.clear();
         self.ways.clear();
-        let mut near = 0;
         for place in 0..body.len() {
-            near = self.add(program, body, place, near)?;
+            self.add(program, body, place)?;
         }
         Ok(())
     }
 
-    /// Adds the block at this place, which is looked for at `near` first. Answers where the next one
-    /// is most often. Where no block starts, nothing is live.
-    fn add(
-        &mut self,
-        program: &Program,
-        body: &[u64],
-        place: usize,
-        near: usize,
-    ) -> Result<usize, Memory>
+    /// Adds the block at this place. Where no block starts, nothing is live.
+    fn add(&mut self, program: &Program, body: &[u64], place: usize) -> Result<(), Memory>
         requires noted { IsNoted program.now }
         requires rising { IsStrictlyIncreasing body.now }
         requires place { place < length body.now }
         ensures { OnOk result (AddsNode program.now.image.now program.now.blocks.now
             program.now.edges.now body.now place self.old self.new) }
     {
-        match number_near(program.blocks, near, body[place]) {
-            Some(number) => {
-                self.add_block(program, body, place, number)?;
-                Ok(number + 1)
-            }
+        match number_near(program.blocks, self.near_block, body[place]) {
+            Some(number) => self.add_block(program, body, place, number),
             None => {
                 self.stops.push(0)?;
                 self.masks.push(0)?;
-                Ok(near)
+                Ok(())
             }
         }
     }
@@ -98,12 +93,17 @@ impl Nodes {
         ensures { OnOk result (AddsNode program.now.image.now program.now.blocks.now
             program.now.edges.now body.now place self.old self.new) }
     {
-        let note = program.note(number);
-        let edges = between(program.edges, note.first, note.end);
+        let block = program.blocks[number];
+        let first = first_near(program.edges, self.near_edge, block.start);
+        let end = end_from(program.edges, first, block.start);
+        let edges = between(program.edges, first, end);
         let by_edge = add_ways(edges, body, place, &mut self.ways)?;
-        let leaves = leaves_by(program.blocks[number].kind, by_edge);
-        self.stops.push(note.effects.writes)?;
-        self.masks.push(mask_of(note.effects, leaves))?;
+        let leaves = leaves_by(block.kind, by_edge);
+        let effects = program.effects(number);
+        self.stops.push(effects.writes)?;
+        self.masks.push(mask_of(effects, leaves))?;
+        self.near_block = number + 1;
+        self.near_edge = end;
         Ok(())
     }
 }
@@ -148,7 +148,7 @@ fn is_call(kind: EdgeKind) -> bool
     matches!(kind, EdgeKind::Call)
 }
 
-/// Whether a block leaves its function that ends so, by an edge or by its end.
+/// Whether a block that ends so leaves its function: by an edge, or by its end.
 fn leaves_by(kind: EndKind, by_edge: bool) -> bool
     ensures { result ≡ (by_edge || ends_outside kind) }
 {

@@ -1,50 +1,45 @@
-//! The blocks and edges of a program, with what is noted of each block.
+//! The blocks and edges of a program, with what the blocks read and write.
 
-ghost use Rattle.std.specs.Prelude.{◌≡◌, ◌<◌, ℕ, IfOk, length, slice_index_or};
-ghost use Rattle.std.specs.List.Sorted.{IsNonDecreasingBy};
+ghost use Rattle.std.specs.Prelude.{◌≡◌, ◌<◌, ◌*◌, ℕ, IfSome, length, slice_index_or};
 ghost use Rattle.cfg_model.specs.declared.graph.Block.{Block};
-ghost use Rattle.live_regs.specs.Noted.{AreInOrder, AreNotesOf, IsNoteOf};
+ghost use Rattle.live_regs.specs.Run.{instructions_of};
+ghost use Rattle.live_regs.specs.Noted.{AreEffectsFrom, AreEffectsOf, AreInOrder, AreNotesOf};
 
 use crate::effects::{Effects, effects_of_block};
-use crate::search::{end_from, first_near};
-use cfg_model::{Block, Edge, Memory};
+use cfg_model::{Block, Edge};
 use elf_image::Image;
 use std::alloc::Global;
 
-/// What is noted of a block.
-#[derive(Clone, Copy, Debug, PartialEq, Eq)]
-pub struct Note {
-    /// The registers that its instructions read and write.
-    pub effects: Effects,
-    /// The place of the first edge that leaves it, among all edges.
-    pub first: usize,
-    /// The place behind the last one.
-    pub end: usize,
-}
+/// How many blocks of a program stand in a piece of them; the last piece may have fewer. A worker
+/// notes the effects of a piece in about 0.1 milliseconds, which is long beside the draw.
+pub const PIECE_BLOCKS: usize = 1024;
 
 /// The blocks and edges of a program, and notes of the blocks, which serve all functions.
 #[derive(Drop)]
 pub struct Program<'a> {
-    pub(crate) image: &'a Image,
-    pub(crate) blocks: &'a [Block],
-    pub(crate) edges: &'a [Edge],
-    /// Notes of the first blocks, or of all of them.
-    pub(crate) notes: Vec<Note>,
+    /// The file that the program stands in.
+    pub image: &'a Image,
+    /// All blocks, by their addresses.
+    pub blocks: &'a [Block],
+    /// All edges, by the addresses of the blocks that they leave.
+    pub edges: &'a [Edge],
+    /// What the blocks of each piece read and write. Where memory was missing, some are not noted.
+    pub(crate) notes: Vec<Vec<Effects>>,
 }
 
 impl<'a> Program<'a> {
     ghost use Rattle.live_regs.specs.Noted.{IsNoted};
 
-    /// The program of this image with these blocks and edges. A block without a note is looked at
-    /// whenever it is asked for.
+    /// The program of this image with these blocks and edges, and the notes of the first pieces of
+    /// its blocks, or of all. A block without a note is decoded whenever a function has it.
     pub fn new(
         image: &'a Image,
         blocks: &'a [Block],
         edges: &'a [Edge],
-        notes: Vec<Note>,
+        notes: Vec<Vec<Effects>>,
     ) -> Program<'a>
         requires order { AreInOrder blocks.now edges.now }
-        requires notes { AreNotesOf image.now blocks.now edges.now notes.items }
+        requires notes { AreNotesOf image.now blocks.now notes.items }
         ensures image { result.image.now ≡ image.now }
         ensures blocks { result.blocks.now ≡ blocks.now }
         ensures edges { result.edges.now ≡ edges.now }
@@ -58,54 +53,58 @@ impl<'a> Program<'a> {
         }
     }
 
-    /// The note of a block.
-    pub(crate) fn note(&self, number: usize) -> Note
+    /// What the block of this number reads and writes.
+    pub(crate) fn effects(&self, number: usize) -> Effects
         requires noted { IsNoted self.now }
         requires within { number < length self.now.blocks.now }
-        ensures { (b : Block) → IsNoteOf self.now.image.now self.now.edges.now
-            (slice_index_or self.now.blocks.now number b) result }
+        ensures { (b : Block) → AreEffectsOf (instructions_of self.now.image.now
+            (slice_index_or self.now.blocks.now number b)) result }
     {
-        match self.notes.get(number) {
-            Some(note) => *note,
-            None => note_of(self.image, self.edges, self.blocks[number], 0),
+        match self.note(number) {
+            Some(effects) => effects,
+            None => effects_of_block(self.image, self.blocks[number]),
+        }
+    }
+
+    /// The note of the block of this number, where there is one.
+    fn note(&self, number: usize) -> Option<Effects>
+        requires noted { IsNoted self.now }
+        requires within { number < length self.now.blocks.now }
+        ensures { IfSome result (λ effects. (b : Block)
+            → AreEffectsOf (instructions_of self.now.image.now
+            (slice_index_or self.now.blocks.now number b)) effects) }
+    {
+        let piece = self.notes.get(number / PIECE_BLOCKS)?;
+        match piece.get(number % PIECE_BLOCKS) {
+            Some(effects) => Some(*effects),
+            None => None,
         }
     }
 }
 
-/// The notes of these blocks, in order.
+/// What the blocks of this piece read and write, one after another. If memory is missing, of the
+/// first ones alone.
 ///
-/// Time: O(bytes of the blocks + edges), and a search among the edges for the first block. Memory:
-/// 24 bytes a block.
-pub fn notes_of(
+/// Time: O(bytes of these blocks). Memory: 8 bytes a block.
+pub fn effects_of_piece(
     alloc: Global,
     image: &Image,
     blocks: &[Block],
-    edges: &[Edge],
-) -> Result<Vec<Note>, Memory>
-    requires { AreInOrder blocks.now edges.now }
-    ensures notes { IfOk result (λ v. AreNotesOf image.now blocks.now edges.now v.items) }
-    ensures all { IfOk result (λ v. length v.items ≡ length blocks.now) }
+    piece: usize,
+) -> Vec<Effects>
+    ensures { AreEffectsFrom image.now blocks.now (piece * PIECE_BLOCKS) result.items }
 {
-    let mut notes = Vec::with_capacity(alloc, blocks.len())?;
-    let mut near = 0;
-    for block in blocks {
-        let note = note_of(image, edges, *block, near);
-        near = note.end;
-        notes.push(note)?;
+    let Some(first) = piece.checked_mul(PIECE_BLOCKS) else {
+        return Vec::new(alloc);
+    };
+    let end = first.saturating_add(PIECE_BLOCKS).min(blocks.len());
+    let Ok(mut all) = Vec::with_capacity(alloc, end.saturating_sub(first)) else {
+        return Vec::new(alloc);
+    };
+    for number in first..end {
+        if all.push(effects_of_block(image, blocks[number])).is_err() {
+            return all;
+        }
     }
-    Ok(notes)
-}
-
-/// The note of a block, whose first edge is looked for at `near` first.
-fn note_of(image: &Image, edges: &[Edge], block: Block, near: usize) -> Note
-    requires { IsNonDecreasingBy (λ edge. edge.from) edges.now }
-    ensures { IsNoteOf image.now edges.now block result }
-{
-    let first = first_near(edges, near, block.start);
-    let end = end_from(edges, first, block.start);
-    Note {
-        effects: effects_of_block(image, block),
-        first,
-        end,
-    }
+    all
 }

@@ -61,8 +61,8 @@ fn is_first(edges: &[Edge], place: usize, a: u64) -> bool
         return false;
     }
     let before = ends_before(edges, place, a);
-    let behind = begins_behind(edges, place, a);
-    before && behind
+    let after = begins_after(edges, place, a);
+    before && after
 }
 
 /// Whether the edge before this place leaves a lower address, where there is one.
@@ -75,7 +75,7 @@ fn ends_before(edges: &[Edge], place: usize, a: u64) -> bool
 }
 
 /// Whether the edge at this place leaves `a` or a later address, where there is one.
-fn begins_behind(edges: &[Edge], place: usize, a: u64) -> bool
+fn begins_after(edges: &[Edge], place: usize, a: u64) -> bool
     requires { place ≤ length edges.now }
     ensures { IsTrue result → place < length edges.now
         → (d : Edge) → a ≤ (slice_index_or edges.now place d).from }
@@ -83,7 +83,7 @@ fn begins_behind(edges: &[Edge], place: usize, a: u64) -> bool
     place == edges.len() || edges[place].from >= a
 }
 
-/// The place behind the last of the edges that leave `a`, where they begin at `first`.
+/// The end of the edges that leave `a`: the place after the last one. They begin at `first`.
 pub(crate) fn end_from(edges: &[Edge], first: usize, a: u64) -> usize
     requires in_order { IsNonDecreasingBy (λ edge. edge.from) edges.now }
     requires first { IsFirst edges.now a first }

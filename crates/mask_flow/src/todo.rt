@@ -22,7 +22,7 @@ impl Todo {
         }
     }
 
-    /// All of so many nodes: the one with the greatest number is the next.
+    /// All nodes below the number `nodes`. The greatest one is the next.
     pub(crate) fn begin(&mut self, nodes: usize) -> Result<(), AllocError>
         ensures { OnOk result (length self.new.waits.items ≡ nodes) }
     {

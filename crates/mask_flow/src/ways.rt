@@ -50,7 +50,7 @@ impl Entering {
         }
     }
 
-    /// Takes these ways among so many nodes in place of what was there.
+    /// Takes these ways in place of what was there. They lead among `nodes` nodes.
     pub(crate) fn begin(&mut self, nodes: usize, ways: &[Way]) -> Result<(), AllocError>
         requires { All (IsWithin nodes) ways.now }
         ensures { OnOk result (AreLinked nodes (length ways.now) self.new) }

@@ -15,7 +15,7 @@ pub returns : goal.returns
 returns g c =
     let lists = c.in_ok-lists.lists in
     let program = c.new-program.ensures in
-    answer_of_pieces (λ (f : Function). AreLivesOf c.args.image.now c.args.blocks.now c.args.edges.now f.body) c.args.functions.now c.in_ok-pieces.pieces.items lists.items c.joined.result c.in_ok-pieces.ensures
+    answer_of_pieces (λ (f : Function). AreLivesOf c.args.image.now c.args.blocks.now c.args.edges.now f.body) c.args.functions.now c.in_ok-pieces.pieces.items lists.items c.joined_if_made.result c.in_ok-pieces.ensures
     (sym lists.ok.0 ∙ (rw c.deref.ensures.value at c.in_ok-lists.ensures.as_many))
     (rw (c.deref.ensures.value, program.image, program.blocks, program.edges) at c.in_ok-lists.ensures.each)
-    c.joined.ensures.made c.joined.ensures.joined
+    c.joined_if_made.ensures.made c.joined_if_made.ensures.joined

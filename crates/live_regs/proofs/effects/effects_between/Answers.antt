@@ -1,7 +1,5 @@
-use Rattle.std.proofs.Common.{◌≡◌, ℕ, ◌+◌, ◌<◌, ◌≤◌, ◌^◌, ◌⊎◌, min, refl, ap, ◌∙◌, inl, inr, arith}
+use Rattle.std.proofs.Common.{◌≡◌, ℕ, ◌+◌, ◌<◌, ◌≤◌, ◌^◌, ◌⊎◌, min, refl, ◌∙◌, inl, inr, arith}
 use Rattle.std.proofs.lemmas.Bool.{cases_lt}
-use Rattle.rv_flow.specs.declared.placed.Placed.{Placed}
-use Rattle.live_regs.specs.Effects.{reads, writes}
 use Rattle.live_regs.proofs.Runs.{told_none, told_more, told_all}
 use Rattle.live_regs.proofs.effects.effects_between.Goals as goal
 
@@ -17,12 +15,12 @@ loop-a-init c = told_none _ _ _ _ refl refl
 
 pub loop-a-preserved : goal.loop-a-preserved
 loop-a-preserved c =
-    let same = c.placed_at-placed.ensures.placed in
-    told_more _ _ _ _ _ _ c.effects_of.result _ c.loop-a-test.true
-    (saturated _ _ _ _ _ (omega (arith, c.ranges.end.fits)) (c.from.ensures ∙ ap (λ (p : Placed). p.length) same) c.saturating_add-a.ensures)
+    let found = c.effects_at-placed.ensures in
+    told_more _ _ _ _ _ _ c.effects_at-placed.result.effects _ c.loop-a-test.true
+    (saturated _ _ _ _ _ (omega (arith, c.ranges.end.fits)) (c.from.ensures ∙ found.length) c.saturating_add-a.ensures)
     c.loop-a.invariant
-    (λ r low. c.effects_of.ensures.reads r low ∙ ap (λ (p : Placed). reads p.insn r) same)
-    (λ r low. c.effects_of.ensures.writes r low ∙ ap (λ (p : Placed). writes p.insn r) same)
+    found.reads
+    found.writes
     c.then-effects.ensures.reads c.then-effects.ensures.writes
 
 pub returns : goal.returns

@@ -10,13 +10,13 @@ abbrev no_block : Block
 no_block = record { start = 0; end = 0; kind = ends.Fall }
 
 pub between-edges-requires : goal.between-edges-requires
-between-edges-requires c = let h = c.note-note.ensures no_block in record { ordered = h.span.ordered; within = h.span.within }
+between-edges-requires c = let span = c.end_from-end.ensures in record { ordered = span.ordered; within = span.within }
 
 pub returns : goal.returns
 returns c =
-    let note = c.note-note.result in
+    let effects = c.effects-effects.result in
     let ways = subst (λ es. AddsWays es c.args.body.now c.args.place c.args.self.now.ways.items c.add_ways.new.ways.items c.in_ok-by_edge.by_edge) c.between-edges.ensures c.in_ok-by_edge.ensures in
-    block_added c.args.program.now.image.now _ c.args.program.now.edges.now c.args.body.now c.args.place c.requires.noted.order.by_start c.args.number no_block c.requires.number note (c.note-note.ensures no_block)
-    c.args.self.now.ways.items c.add_ways.new.ways.items c.in_ok-by_edge.by_edge ways c.mask_of.result
-    (λ r low. c.mask_of.ensures r low ∙ ap (λ b. has_bit note.effects.reads r || (b && not (r == 0) && not (has_bit note.effects.writes r))) c.leaves_by-leaves.ensures)
+    block_added c.args.program.now.image.now _ c.args.program.now.edges.now c.args.body.now c.args.place c.requires.noted.order.by_start c.args.number no_block c.requires.number effects (c.effects-effects.ensures no_block)
+    _ _ c.end_from-end.ensures c.args.self.now.ways.items c.add_ways.new.ways.items c.in_ok-by_edge.by_edge ways c.mask_of.result
+    (λ r low. c.mask_of.ensures r low ∙ ap (λ b. has_bit effects.reads r || (b && not (r == 0) && not (has_bit effects.writes r))) c.leaves_by-leaves.ensures)
     _ _ refl refl c.in_ok-push.ensures.items c.in_ok-push-2.ensures.items

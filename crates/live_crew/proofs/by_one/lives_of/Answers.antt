@@ -3,7 +3,7 @@ use Rattle.std.proofs.lemmas.Option.{slice_get_read}
 use Rattle.cfg_model.specs.declared.graph.Function.{Function}
 use Rattle.cfg_model.proofs.Graphs.Lists.{zip_more, zip_all}
 use Rattle.live_regs.specs.Masks.{AreLivesOf}
-use Rattle.live_crew.proofs.alone.lives_of.Goals as goal
+use Rattle.live_crew.proofs.by_one.lives_of.Goals as goal
 
 pub loop-function-preserved : goal.loop-function-preserved
 loop-function-preserved c =

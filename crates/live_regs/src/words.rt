@@ -1,0 +1,133 @@
+//! Which integer registers an instruction reads and writes, by its bits. Most words tell it by
+//! their opcode and the fields below it, and are not decoded.
+
+ghost use Rattle.std.specs.Prelude.{◌≡◌, ℕ, ◌<◌, ◌==◌, ◌&&◌, ◌||◌, not, nat_lt};
+ghost use Rattle.mask_flow.specs.Reaches.{has_bit};
+ghost use Rattle.rv_decode.specs.Fields.{funct3, funct6, funct7};
+ghost use Rattle.rv_flow.specs.Placed.{compressed_insn, expanded, word_insn};
+ghost use Rattle.live_regs.specs.Effects.{reads, writes};
+ghost use Rattle.live_regs.specs.Inner.{AreEffectsIf};
+
+use crate::effects::{Effects, effects_of, register};
+use rv_decode::fields::{funct3, funct6, funct7, opcode, rd, rs1, rs2};
+use rv_decode::{Insn, decode};
+use rv_float::{decode_float, expand_float};
+use rvc_expand::expand;
+
+// The major opcodes, by the ISA manual's names (RISC-V Unprivileged ISA 20240411, "RV32/64G
+// Instruction Set Listings").
+const LOAD: u8 = 0x03;
+
+const OP_IMM: u8 = 0x13;
+
+const AUIPC: u8 = 0x17;
+
+const OP_IMM_32: u8 = 0x1B;
+
+const STORE: u8 = 0x23;
+
+const OP: u8 = 0x33;
+
+const LUI: u8 = 0x37;
+
+const OP_32: u8 = 0x3B;
+
+const BRANCH: u8 = 0x63;
+
+const JALR: u8 = 0x67;
+
+const JAL: u8 = 0x6F;
+
+/// Of the 16-bit instruction that a halfword is; what is none neither reads nor writes.
+pub(crate) fn effects_of_half(half: u16) -> Effects
+    ensures reads { (r : ℕ) → r < 32 → has_bit result.reads r ≡ reads (compressed_insn half) r }
+    ensures writes { (r : ℕ) → r < 32 → has_bit result.writes r ≡ writes (compressed_insn half) r }
+{
+    match expanded(half) {
+        None => Effects::NONE,
+        Some(word) => effects_of_word(word).unwrap_or(Effects::NONE),
+    }
+}
+
+/// Of the instruction that a word is; `None` if it is no instruction.
+pub(crate) fn effects_of_word(word: u32) -> Option<Effects>
+    ensures { AreEffectsIf (word_insn word) result }
+{
+    match opcode(word) {
+        LUI | AUIPC | JAL => Some(effects_by(rd(word), 0, 0)),
+        JALR if funct3(word) == 0 => Some(effects_by(rd(word), rs1(word), 0)),
+        LOAD if funct3(word) != 7 => Some(effects_by(rd(word), rs1(word), 0)),
+        OP_IMM if is_imm(word) => Some(effects_by(rd(word), rs1(word), 0)),
+        OP_IMM_32 if funct3(word) == 0 => Some(effects_by(rd(word), rs1(word), 0)),
+        OP if is_reg(word) => Some(effects_by(rd(word), rs1(word), rs2(word))),
+        OP_32 if funct3(word) == 0 && is_reg(word) => {
+            Some(effects_by(rd(word), rs1(word), rs2(word)))
+        }
+        STORE if funct3(word) < 4 => Some(effects_by(0, rs1(word), rs2(word))),
+        BRANCH if is_branch(word) => Some(effects_by(0, rs1(word), rs2(word))),
+        _ => decoded_effects(word),
+    }
+}
+
+/// Whether a word of OP-IMM is a plain operation, or a logical shift.
+fn is_imm(word: u32) -> bool
+    ensures { result ≡ (not (funct3 word == 1 || funct3 word == 5) || funct6 word == 0) }
+{
+    !matches!(funct3(word), 1 | 5) || funct6(word) == 0
+}
+
+/// Whether a word of OP is a base operation, a multiplication, a division or SUB.
+fn is_reg(word: u32) -> bool
+    ensures { result ≡ (nat_lt (funct7 word) 2 || (funct7 word == 0x20 && funct3 word == 0)) }
+{
+    funct7(word) < 2 || (funct7(word) == 0x20 && funct3(word) == 0)
+}
+
+/// Whether a word of BRANCH is a branch.
+fn is_branch(word: u32) -> bool
+    ensures { result ≡ not (funct3 word == 2 || funct3 word == 3) }
+{
+    !matches!(funct3(word), 2 | 3)
+}
+
+/// Of the instruction that a word is, which is decoded.
+fn decoded_effects(word: u32) -> Option<Effects>
+    ensures { AreEffectsIf (word_insn word) result }
+{
+    match word_insn(word) {
+        None => None,
+        insn => Some(effects_of(insn)),
+    }
+}
+
+/// Of an instruction that writes `rd` and reads the two others; x0 stands for none.
+fn effects_by(rd: u8, rs1: u8, rs2: u8) -> Effects
+    ensures reads { (r : ℕ) → r < 32 → has_bit result.reads r
+        ≡ (not (r == 0) && (r == rs1 || r == rs2)) }
+    ensures writes { (r : ℕ) → r < 32 → has_bit result.writes r ≡ (not (r == 0) && r == rd) }
+{
+    Effects {
+        reads: register(rs1) | register(rs2),
+        writes: register(rd),
+    }
+}
+
+/// The instruction that a word is, by the base table or the float table.
+fn word_insn(word: u32) -> Option<Insn>
+    ensures { result ≡ word_insn word }
+{
+    match decode(word) {
+        None => decode_float(word),
+        insn => insn,
+    }
+}
+
+/// The word that a halfword stands for, by either table of compressed forms.
+fn expanded(half: u16) -> Option<u32>
+    ensures { result ≡ expanded half }
+{
+    match expand(half) {
+        None => expand_float(half),
+        word => word,
+    }
+}
