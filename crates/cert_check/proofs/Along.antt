@@ -3,6 +3,7 @@ use Rattle.std.proofs.Common.{◌≡◌, ℕ, ◌<◌, ◌≤◌, ◌⊎◌, Lis
 use Rattle.std.specs.Prelude.{◌↔◌, Option, Some, None, IsSome}
 use Rattle.std.proofs.lemmas.Bool.{cases_lt}
 use Rattle.std.proofs.lemmas.List.{get_or_past}
+use Rattle.cfg_model.specs.declared.flow.Flow.TheVariants.{Straight}
 use Rattle.cfg_model.specs.Program.Instructions.{InstructionMap, IsLawful}
 use Rattle.cfg_model.specs.Program.Chain.{GoesOnTo, OnChain}
 use Rattle.cfg_model.specs.Graph.Block.{RunsTo, IsLastOf}
@@ -20,7 +21,7 @@ use Rattle.cert_check.specs.Inner.Jumps.{IsForest, LeadsAlong, into_of}
 use Rattle.cert_check.proofs.Jumping.{none_some, same_some}
 
 abbrev pub nowhere : Run
-nowhere = record { last = 0; into = None }
+nowhere = record { last = 0; into = None; flow = Straight 0 }
 
 pub lead_or_not : (leads : List LeadLine) (a : ℕ) → IsLead leads a ⊎ (IsLead leads a → ⊥)
 lead_or_not leads a =

@@ -23,18 +23,18 @@ module _ (map : InstructionMap) (seeds : List ℕ) (part : Part) where
   valid_formed v = record { rising = v.rising; in_code = v.in_code; seeds_lead = v.seeds_lead }
 
   pub valid_ends : IsValid map seeds part → EndsAreRight map part
-  valid_ends v = record { returns_end = v.returns_end; leads_closed = v.leads_closed; returns = v.returns; returns_closed = v.returns_closed }
+  valid_ends v = record { returns_end = v.returns_end; returns = v.returns; returns_closed = v.returns_closed }
 
   pub valid_leaders : IsValid map seeds part → LeadersAreRight map seeds part
-  valid_leaders v = record { apart = v.apart; leads = v.leads }
+  valid_leaders v = record { apart = v.apart; leads = record { closed = v.leads_closed; reasons = v.leads } }
 
   pub valid_by : AreFormed map seeds part → EndsAreRight map part → LeadersAreRight map seeds part → IsValid map seeds part
   valid_by formed ends leaders = record {
     rising = formed.rising;
     in_code = formed.in_code;
     seeds_lead = formed.seeds_lead;
-    leads = leaders.leads;
-    leads_closed = ends.leads_closed;
+    leads = leaders.leads.reasons;
+    leads_closed = leaders.leads.closed;
     apart = leaders.apart;
     returns_end = ends.returns_end;
     returns = ends.returns;

@@ -7,3 +7,4 @@ pub mod Reasoned
 pub mod Searched
 pub mod Decided
 pub mod Outlined
+pub mod Entered

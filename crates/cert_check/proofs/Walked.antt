@@ -3,7 +3,8 @@ use Rattle.std.proofs.Common.{◌≡◌, ℕ, ◌+◌, ◌<◌, ◌≤◌, ◌�
 use Rattle.std.specs.Prelude.{Option, Some, None, IsSome}
 use Rattle.std.proofs.lemmas.Bool.{cases_eq, cases_lt}
 use Rattle.std.proofs.lemmas.List.{get_or_default}
-use Rattle.cfg_model.specs.Program.Instructions.{InstructionMap, IsLawful}
+use Rattle.cfg_model.specs.declared.flow.Flow.{Flow}
+use Rattle.cfg_model.specs.Program.Instructions.{InstructionMap, IsLawful, flow_at}
 use Rattle.cfg_model.specs.Program.Chain.{GoesOnTo}
 use Rattle.cfg_model.specs.Program.Meeting.{IsStop}
 use Rattle.cfg_model.specs.Graph.Block.{RunsTo}
@@ -55,12 +56,14 @@ walk_starts map leads owner i at place owned = record {
 }
 
 -- what the walk of a block ends with
-pub run_from : (map : InstructionMap) (leads : List LeadLine) (owner : Owner) (i at : ℕ) (into : Option ℕ) → IsWalked map leads owner i at → IsStop map (IsLead leads) at → GoesInto map leads at into → IsRun map leads i (record { last = at; into = into })
-run_from map leads owner i at into walked stops goes = record {
+pub run_from : (map : InstructionMap) (leads : List LeadLine) (owner : Owner) (i at : ℕ) (into : Option ℕ) (flow : Flow) → flow_at map at ≡ Some flow → IsWalked map leads owner i at → IsStop map (IsLead leads) at → GoesInto map leads at into
+    → IsRun map leads i (record { last = at; into = into; flow = flow })
+run_from map leads owner i at into flow flows walked stops goes = record {
   start = walked.now.start;
   place = walked.now.place;
   last = record { runs = walked.now.runs; stops = stops };
   into = goes;
+  flow = flows;
 }
 
 module _ (map : InstructionMap) (leads : List LeadLine) (lawful : IsLawful map) (are : AreLeads map leads) where

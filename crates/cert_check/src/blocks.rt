@@ -1,17 +1,18 @@
 //! The blocks of the leaders of a part, and whether they share an address.
 
-ghost use Rattle.std.specs.Prelude.{◌≡◌, ◌↔◌, ◌+◌, ◌<◌, ◌^◌, IfOk, IsSome, IsTrue, MatchOption, length};
-ghost use Rattle.cfg_model.specs.Program.Instructions.{IsLawful};
-ghost use Rattle.cfg_model.specs.Program.Chain.{GoesOnTo, IsTerminator};
+ghost use Rattle.std.specs.Prelude.{◌≡◌, ◌↔◌, ◌+◌, ◌<◌, ◌^◌, IfOk, IsTrue, MatchOption, Some, length};
+ghost use Rattle.cfg_model.specs.declared.flow.Flow.TheVariants.{Straight};
+ghost use Rattle.cfg_model.specs.Program.Chain.{EndsChain};
 ghost use Rattle.reached_terms.specs.Numbering.{IsNumbering};
+ghost use Rattle.cert_laws.specs.Lines.{IsLead};
 ghost use Rattle.cert_laws.specs.Valid.{BlocksAreApart};
 ghost use Rattle.cert_places.specs.Places.{AreLeads, IsPlace};
 ghost use Rattle.cert_check.specs.Inner.Blocks.{AreBlocks, AreOwned, IsRun, owner_by};
 
 use crate::owners::Owners;
 use cert_places::place_from;
-use cert_text::LeadLine;
-use cfg_model::{Chains, Flow, Memory};
+use cert_text::{LeadLine, Part};
+use cfg_model::{Flow, Memory};
 use reached_terms::Numbered;
 use std::alloc::Global;
 
@@ -23,6 +24,8 @@ pub(crate) struct Run {
     /// The place of the leader that stands right after it, if control goes on to that. Otherwise
     /// the last instruction is a terminator.
     pub(crate) into: Option<u32>,
+    /// The flow of its last instruction, which is decoded once.
+    pub(crate) flow: Flow,
 }
 
 /// The blocks of all leaders of a part, by their places, and whose block each address lies in.
@@ -32,10 +35,45 @@ pub(crate) struct Blocks {
     pub(crate) runs: Vec<Run>,
 }
 
+impl Blocks {
+    /// The place of the leader `a`, if the part whose blocks these are lists it: it is then the
+    /// first address of the block that it lies in.
+    /// Time: that of finding the number of the address.
+    pub(crate) fn lead_place<C: Numbered>(&self, code: &C, part: &Part, a: u64) -> Option<usize>
+        requires leads { AreLeads (C.map code.now) part.now.leads }
+        requires blocks { AreBlocks (C.map code.now) (C.number code.now) part.now.leads self.now }
+        ensures { MatchOption result (¬ IsLead part.now.leads a) (λ i. IsPlace part.now.leads i a) }
+    {
+        if !code.has(a) {
+            return None;
+        }
+        let Some(i) = self.owners.of(code, a) else {
+            return None;
+        };
+        if part.leads.as_slice()[i as usize].at != a {
+            return None;
+        }
+        Some(i as usize)
+    }
+
+    /// Whether that part lists the leader `a`.
+    /// Time: that of finding the number of the address.
+    pub(crate) fn is_lead<C: Numbered>(&self, code: &C, part: &Part, a: u64) -> bool
+        requires leads { AreLeads (C.map code.now) part.now.leads }
+        requires blocks { AreBlocks (C.map code.now) (C.number code.now) part.now.leads self.now }
+        ensures { IsTrue result ↔ IsLead part.now.leads a }
+    {
+        match self.lead_place(code, part, a) {
+            Some(_) => true,
+            None => false,
+        }
+    }
+}
+
 /// The blocks of these leaders; `None` exactly if two of them share an address. Each address is
 /// walked once, whatever the leaders are. [`Memory`] too if there are 2^32 leaders or more, which
 /// alone take 160 GiB.
-/// Time: O(leaders + bytes of code). Memory: eight bytes for each halfword of code, and 16 for each
+/// Time: O(leaders + bytes of code). Memory: eight bytes for each halfword of code, and 40 for each
 /// leader.
 pub(crate) fn blocks_of<C: Numbered>(
     alloc: Global,
@@ -81,16 +119,17 @@ fn walk<C: Numbered>(code: &C, leads: &[LeadLine], i: usize, owners: &mut Owners
     let mut at = leads[i].at;
     let mut ahead = i + 1;
     loop {
-        let behind = next_of(code, at);
+        let flow = code.flow(at);
         if !owners.claim(code, at, i as u32) {
             return None;
         }
-        let next = match behind {
+        let next = match next_of(flow) {
             Some(next) => next,
             None => {
                 return Some(Run {
                     last: at,
                     into: None,
+                    flow,
                 });
             }
         };
@@ -99,20 +138,18 @@ fn walk<C: Numbered>(code: &C, leads: &[LeadLine], i: usize, owners: &mut Owners
             return Some(Run {
                 last: at,
                 into: Some(ahead as u32),
+                flow,
             });
         }
         at = next;
     }
 }
 
-/// The address after the instruction at `a`, if control goes straight on to it.
-fn next_of<C: Chains>(code: &C, a: u64) -> Option<u64>
-    requires { IsSome (C.map code.now a) }
-    ensures lawful { IsLawful (C.map code.now) }
-    ensures next { MatchOption result (IsTerminator (C.map code.now) a)
-        (GoesOnTo (C.map code.now) a) }
+/// The address after an instruction of this flow, if control goes straight on to it.
+fn next_of(flow: Flow) -> Option<u64>
+    ensures { MatchOption result (EndsChain (Some flow)) (λ next. flow ≡ Straight next) }
 {
-    match code.flow(a) {
+    match flow {
         Flow::Straight { next } => Some(next),
         _ => None,
     }

@@ -8,64 +8,68 @@ ghost use Rattle.cfg_model.specs.Program.Successors.{IsCall};
 ghost use Rattle.cfg_model.specs.Program.Instructions.{IsLawful, flow_at};
 ghost use Rattle.cert_laws.specs.Lines.{IsReturn};
 ghost use Rattle.cert_laws.specs.Ways.{EndsIn};
-ghost use Rattle.cert_places.specs.Places.{AreLeads, ReturnsRise};
+ghost use Rattle.cert_places.specs.Places.{AreLeads, AreNumbered};
 ghost use Rattle.cert_check.specs.Inner.Blocks.{AreRuns};
 ghost use Rattle.cert_check.specs.Inner.Ways.{AreWays, HasEdge, comes_before};
 
 use crate::blocks::Run;
-use cert_places::is_return;
-use cert_text::{LeadLine, ReturnLine};
-use cfg_model::{Chains, Edge, Flow, Memory, add_edges_by, edges_in_order};
+use cert_places::NumberedReturns;
+use cert_text::LeadLine;
+use cfg_model::{Edge, Flow, Memory, add_edges_by, edges_in_order};
+use reached_terms::Numbered;
 use std::alloc::Global;
 
 /// The edges from the blocks of these leaders, in the order of a graph. A call returns if its target
 /// ends in a listed return. [`Memory`] if memory ran out.
 /// Time: O(edges · log edges). Memory: O(edges).
-pub(crate) fn edges_of<C: Chains>(
+pub(crate) fn edges_of<C: Numbered>(
     alloc: Global,
     code: &C,
     leads: &[LeadLine],
-    returns: &[ReturnLine],
+    returns: &NumberedReturns<'_>,
     runs: &[Run],
 ) -> Result<Vec<Edge>, Memory>
+    requires lawful { IsLawful (C.map code.now) }
     requires leads { AreLeads (C.map code.now) leads.now }
-    requires returns { ReturnsRise returns.now }
+    requires returns { AreNumbered (C.map code.now) (C.number code.now) returns.now }
     requires runs { AreRuns (C.map code.now) leads.now runs.now }
-    ensures { IfOk result (λ v. AreWays (C.map code.now) leads.now returns.now v.items) }
+    ensures { IfOk result (λ v. AreWays (C.map code.now) leads.now returns.now.lines.now v.items) }
 {
     let mut edges = Vec::new(alloc);
     for (i, run) in runs.iter().enumerate() {
-        add_ways(code, returns, leads[i].at, run.last, &mut edges)?;
+        add_ways(code, returns, leads[i].at, run.last, run.flow, &mut edges)?;
     }
     Ok(edges_in_order(edges))
 }
 
-/// Adds the edges of the block that starts at `s` and whose last instruction stands at `k`.
-fn add_ways<C: Chains>(
+/// Adds the edges of the block that starts at `s` and whose last instruction, of this flow, stands at
+/// `k`.
+fn add_ways<C: Numbered>(
     code: &C,
-    returns: &[ReturnLine],
+    returns: &NumberedReturns<'_>,
     s: u64,
     k: u64,
+    flow: Flow,
     edges: &mut Vec<Edge>,
 ) -> Result<(), Memory>
-    requires returns { ReturnsRise returns.now }
-    requires stands { IsSome (C.map code.now k) }
+    requires lawful { IsLawful (C.map code.now) }
+    requires returns { AreNumbered (C.map code.now) (C.number code.now) returns.now }
+    requires flow { flow_at (C.map code.now) k ≡ Some flow }
     ensures { OnOk result (Gains edges.old.items edges.new.items
-        (Leaves (C.map code.now) (EndsIn (C.map code.now) (IsReturn returns.now)) s k)) }
+        (Leaves (C.map code.now) (EndsIn (C.map code.now) (IsReturn returns.now.lines.now)) s k)) }
 {
-    let flow = code.flow(k);
     let back = callee_returns(code, returns, k, flow);
     add_edges_by(code, s, k, flow, back, edges)?;
     Ok(())
 }
 
 /// If a known address is called at `k`, where this is the flow: whether it ends in a listed return.
-fn callee_returns<C: Chains>(code: &C, returns: &[ReturnLine], k: u64, flow: Flow) -> bool
-    requires returns { ReturnsRise returns.now }
+fn callee_returns<C: Numbered>(code: &C, returns: &NumberedReturns<'_>, k: u64, flow: Flow) -> bool
+    requires returns { AreNumbered (C.map code.now) (C.number code.now) returns.now }
     requires lawful { IsLawful (C.map code.now) }
     requires flow { flow_at (C.map code.now) k ≡ Some flow }
     ensures { (target : _) (fall : _) → IsCall (C.map code.now) k target fall → IsTrue result
-        ↔ EndsIn (C.map code.now) (IsReturn returns.now) target }
+        ↔ EndsIn (C.map code.now) (IsReturn returns.now.lines.now) target }
 {
     match flow {
         Flow::Call { target, .. } => ends_in_return(code, returns, target),
@@ -74,12 +78,12 @@ fn callee_returns<C: Chains>(code: &C, returns: &[ReturnLine], k: u64, flow: Flo
 }
 
 /// Whether the chain of `a` ends in a listed return.
-pub(crate) fn ends_in_return<C: Chains>(code: &C, returns: &[ReturnLine], a: u64) -> bool
-    requires returns { ReturnsRise returns.now }
+fn ends_in_return<C: Numbered>(code: &C, returns: &NumberedReturns<'_>, a: u64) -> bool
+    requires returns { AreNumbered (C.map code.now) (C.number code.now) returns.now }
     requires stands { IsSome (C.map code.now a) }
-    ensures { IsTrue result ↔ EndsIn (C.map code.now) (IsReturn returns.now) a }
+    ensures { IsTrue result ↔ EndsIn (C.map code.now) (IsReturn returns.now.lines.now) a }
 {
-    is_return(returns, code.term(a))
+    returns.has(code, code.term(a))
 }
 
 /// Whether one of these edges leads from `from` to `to`.

@@ -10,9 +10,9 @@ ghost use Rattle.cert_laws.specs.Ways.{EndsIn};
 ghost use Rattle.cert_laws.specs.Valid.{IsValid};
 ghost use Rattle.cert_places.specs.Places.{ReturnsRise};
 
-use crate::edges::ends_in_return;
 use crate::part::{know_laws, outline_of_part};
-use cert_text::Part;
+use cert_places::is_return;
+use cert_text::{Part, ReturnLine};
 use cfg_model::{Chains, Functions, Graph, Memory, Outline};
 use outline_funcs::{functions_among, mark_tails};
 use reached_terms::Numbered;
@@ -91,8 +91,16 @@ fn functions_of<C: Chains>(
         requires { ReturnsRise part.now.returns × IsSome (C.map code.now a) }
         ensures { IsTrue result ↔ EndsIn (C.map code.entry.now) (IsReturn part.entry.now.returns) a }
     { ends_in_return(code, part.returns.as_slice(), a) };
-    match functions_among(alloc, code, seeds, outline, &returns) {
-        Ok(functions) => Ok(functions),
-        Err(_) => Err(Memory),
-    }
+    functions_among(alloc, code, seeds, outline, &returns)
+}
+
+/// Whether the chain of `a` ends in a listed return. It is asked of few addresses, so it is looked
+/// for by halves.
+/// Time: O(log n) for n returns.
+fn ends_in_return<C: Chains>(code: &C, returns: &[ReturnLine], a: u64) -> bool
+    requires returns { ReturnsRise returns.now }
+    requires stands { IsSome (C.map code.now a) }
+    ensures { IsTrue result ↔ EndsIn (C.map code.now) (IsReturn returns.now) a }
+{
+    is_return(returns, code.term(a))
 }

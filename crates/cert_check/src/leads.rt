@@ -4,14 +4,13 @@ ghost use Rattle.std.specs.Prelude.{◌≡◌, ◌↔◌, ◌⊎◌, All, IsTrue
 ghost use Rattle.std.specs.List.Sorted.{IsStrictlyIncreasing};
 ghost use Rattle.cfg_model.specs.Program.Instructions.{IsLawful};
 ghost use Rattle.cfg_model.specs.Program.Chain.{GoesOnTo};
-ghost use Rattle.cert_laws.specs.Lines.{IsLead};
+ghost use Rattle.cert_laws.specs.Lines.{IsLead, IsLeadBelow};
 ghost use Rattle.cert_laws.specs.Valid.{ComesFrom, GoesOnFrom, JoinsAt, LeadsBy};
 ghost use Rattle.cert_check.specs.Inner.Reasons.{AreReasons};
 
 use crate::blocks::Blocks;
 use crate::edges::has_edge;
 use crate::jumps::{Jump, leads_along};
-use cert_places::{is_lead_below, place_of};
 use cert_text::{LeadLine, LeadWhy, Part};
 use cfg_model::{Edge, Flow};
 use reached_terms::Numbered;
@@ -68,15 +67,26 @@ fn is_listed(addresses: &[u64], a: u64) -> bool
     addresses.binary_search(&a).is_ok()
 }
 
+/// Whether `lead` is a leader of a rank below `rank`.
+fn is_lead_below<C: Numbered>(code: &C, reasons: &Reasons, rank: u64, lead: u64) -> bool
+    requires { AreReasons (C.map code.now) (C.number code.now) reasons.now }
+    ensures { IsTrue result ↔ IsLeadBelow reasons.now.part.now.leads rank lead }
+{
+    match reasons.blocks.lead_place(code, reasons.part, lead) {
+        Some(i) => reasons.part.leads.as_slice()[i].rank < rank,
+        None => false,
+    }
+}
+
 /// Whether `lead` is a leader of a rank below `rank` that ends in a terminator which leads to `a`.
 fn comes_from<C: Numbered>(code: &C, reasons: &Reasons, rank: u64, lead: u64, a: u64) -> bool
     requires { AreReasons (C.map code.now) (C.number code.now) reasons.now }
     ensures { IsTrue result ↔ ComesFrom (C.map code.now) reasons.now.part.now rank lead a }
 {
-    let leads = reasons.part.leads.as_slice();
-    if !is_lead_below(leads, rank, lead) {
+    if !is_lead_below(code, reasons, rank, lead) {
         return false;
     }
+    let leads = reasons.part.leads.as_slice();
     match reasons.blocks.owners.of(code, code.term(lead)) {
         Some(i) => has_edge(reasons.edges, leads[i as usize].at, a),
         None => false,
@@ -96,9 +106,8 @@ fn joins_at<C: Numbered>(
     ensures { IsTrue result
         ↔ JoinsAt (C.map code.now) reasons.now.part.now rank first second a }
 {
-    let leads = reasons.part.leads.as_slice();
-    is_lead_below(leads, rank, first)
-        && is_lead_below(leads, rank, second)
+    is_lead_below(code, reasons, rank, first)
+        && is_lead_below(code, reasons, rank, second)
         && goes_on_from(code, reasons, 2, first, a)
         && goes_on_from(code, reasons, 4, second, a)
 }
@@ -111,7 +120,7 @@ fn goes_on_from<C: Numbered>(code: &C, reasons: &Reasons, bytes: u64, lead: u64,
     ensures { IsTrue result ↔ (IsLead reasons.now.part.now.leads lead
         × GoesOnFrom (C.map code.now) bytes lead a) }
 {
-    let Some(place) = place_of(reasons.part.leads.as_slice(), lead) else {
+    let Some(place) = reasons.blocks.lead_place(code, reasons.part, lead) else {
         return false;
     };
     if a < bytes {

@@ -6,11 +6,13 @@
 //! - [`known`]: whether an instruction stands at each line, and whether each seed is a leader.
 //! - `owners`, `blocks`: the blocks of the leaders, walked once, and whether they share an address.
 //! - `edges`, `outline`: what the blocks lead to, and the blocks as those of a graph.
+//! - `closed`: whether a leader is missing that a block leads to.
 //! - `jumps`: which blocks come after which.
 //! - `leads`: the reasons of the leaders.
 #![tactic(auto)]
 
 mod blocks;
+mod closed;
 mod edges;
 pub mod graph;
 mod jumps;

@@ -7,7 +7,7 @@ ghost use Rattle.cert_check.specs.Inner.Outlined.{AreMade};
 
 use crate::blocks::Run;
 use cert_text::LeadLine;
-use cfg_model::{Block, Chains, Memory, block_of};
+use cfg_model::{Block, Chains, Memory, block_by};
 use std::alloc::Global;
 
 /// The blocks of these leaders, in their order.
@@ -25,7 +25,7 @@ pub(crate) fn blocks_made<C: Chains>(
 {
     let mut blocks = Vec::with_capacity(alloc, leads.len())?;
     for (i, run) in runs.iter().enumerate() {
-        blocks.push(block_of(code, leads[i].at, run.last))?;
+        blocks.push(block_by(code, leads[i].at, run.last, run.flow))?;
     }
     Ok(blocks)
 }

@@ -1,24 +1,26 @@
 //! Whether a part of a certificate is valid for a program.
 
-ghost use Rattle.std.specs.Prelude.{◌↔◌, ℕ, All, Contains, IfOk, IsTrue, MatchOption};
+ghost use Rattle.std.specs.Prelude.{◌≡◌, ◌↔◌, ℕ, All, Contains, IfOk, IsTrue, MatchOption};
 ghost use Rattle.std.specs.List.Sorted.{IsStrictlyIncreasing};
 ghost use Rattle.cfg_model.specs.Program.Instructions.{IsLawful};
 ghost use Rattle.cert_laws.specs.Valid.{AreInCode, BlocksAreApart, IsValid, LeadsBy};
-ghost use Rattle.cert_places.specs.Places.{AreLeads, LeadsRise, ReturnsRise};
+ghost use Rattle.cert_places.specs.Places.{AreLeads, AreNumbered, LeadsRise, ReturnsRise};
 ghost use Rattle.cert_check.specs.Inner.Blocks.{AreBlocks};
-ghost use Rattle.cert_check.specs.Inner.Right.{AreFormed, EndsAreRight, HaveReasons, LeadersAreRight};
+ghost use Rattle.cert_check.specs.Inner.Right.{AreFormed, EndsAreRight, HaveReasons};
+ghost use Rattle.cert_check.specs.Inner.Right.{LeadersAreRight, LeadsAreRight};
 ghost use Rattle.cert_check.specs.Inner.Outlined.{AreOutlined};
 ghost use Rattle.cert_check.specs.Inner.Ways.{AreWays};
 ghost use Rattle.cfg_model.specs.Graph.Graph.{IsOutline};
 
 use crate::blocks::{Blocks, blocks_of};
+use crate::closed::leads_are_closed;
 use crate::edges::edges_of;
 use crate::jumps::jumps_of;
 use crate::known::{are_in_code, seeds_lead};
 use crate::leads::{Reasons, leads_have_reasons};
 use crate::outline::blocks_made;
-use cert_ends::{ends_of, leads_are_closed, returns_are_closed, returns_end, returns_have_reasons};
-use cert_places::part_rises;
+use cert_ends::{ends_of, returns_are_closed, returns_end, returns_have_reasons};
+use cert_places::{NumberedReturns, part_rises};
 use cert_text::Part;
 use cfg_model::{Chains, Edge, Edges, Memory, Outline};
 use reached_terms::Numbered;
@@ -64,10 +66,11 @@ pub fn outline_of_part<C: Numbered>(
     if !is_formed(code, seeds, part) {
         return Ok(None);
     }
-    if !ends_are_right(alloc, code, part)? {
+    let returns = NumberedReturns::new(alloc, code, part.returns.as_slice())?;
+    if !ends_are_right(alloc, code, part, &returns)? {
         return Ok(None);
     }
-    let found = leaders_outlined(alloc, code, seeds, part)?;
+    let found = leaders_outlined(alloc, code, seeds, part, &returns)?;
     Ok(found)
 }
 
@@ -86,11 +89,15 @@ fn is_formed<C: Chains>(code: &C, seeds: &[u64], part: &Part) -> bool
     seeds_lead(part.leads.as_slice(), seeds)
 }
 
-/// Whether the part is right about the ends of its leaders' chains: what they lead to, and which of
-/// them return and why.
-fn ends_are_right<C: Chains>(alloc: Global, code: &C, part: &Part) -> Result<bool, Memory>
-    requires leads { LeadsRise part.now.leads }
-    requires returns { ReturnsRise part.now.returns }
+/// Whether the part is right about the ends of its leaders' chains: which of them return, and why.
+fn ends_are_right<C: Numbered>(
+    alloc: Global,
+    code: &C,
+    part: &Part,
+    returns: &NumberedReturns<'_>,
+) -> Result<bool, Memory>
+    requires numbered { AreNumbered (C.map code.now) (C.number code.now) returns.now }
+    requires returns { returns.now.lines.now ≡ part.now.returns }
     requires in_code { AreInCode (C.map code.now) part.now }
     ensures { IfOk result (λ b. IsTrue b ↔ EndsAreRight (C.map code.now) part.now) }
 {
@@ -98,26 +105,25 @@ fn ends_are_right<C: Chains>(alloc: Global, code: &C, part: &Part) -> Result<boo
     if !returns_end(code, part, ends.as_slice()) {
         return Ok(false);
     }
-    if !leads_are_closed(alloc, code, part, ends.as_slice())? {
+    if !returns_have_reasons(alloc, code, part, returns)? {
         return Ok(false);
     }
-    if !returns_have_reasons(alloc, code, part)? {
-        return Ok(false);
-    }
-    let closed = returns_are_closed(alloc, code, part, ends.as_slice())?;
+    let closed = returns_are_closed(alloc, code, part, returns, ends.as_slice())?;
     Ok(closed)
 }
 
-/// The blocks of the leaders and the edges from them, if the blocks share no address and the reason
-/// of each leader holds.
+/// The blocks of the leaders and the edges from them, if the blocks share no address, no leader is
+/// missing, and the reason of each holds.
 fn leaders_outlined<C: Numbered>(
     alloc: Global,
     code: &C,
     seeds: &[u64],
     part: &Part,
+    returns: &NumberedReturns<'_>,
 ) -> Result<Option<Outline>, Memory>
     requires leads { AreLeads (C.map code.now) part.now.leads }
-    requires returns { ReturnsRise part.now.returns }
+    requires numbered { AreNumbered (C.map code.now) (C.number code.now) returns.now }
+    requires returns { returns.now.lines.now ≡ part.now.returns }
     ensures { IfOk result (λ found. MatchOption found
         (¬ LeadersAreRight (C.map code.now) seeds.now part.now)
         (λ outline. LeadersAreRight (C.map code.now) seeds.now part.now
@@ -125,32 +131,38 @@ fn leaders_outlined<C: Numbered>(
 {
     match blocks_of(alloc, code, part.leads.as_slice())? {
         Some(blocks) => {
-            let found = outline_by(alloc, code, seeds, part, &blocks)?;
+            let found = outline_by(alloc, code, seeds, part, returns, &blocks)?;
             Ok(found)
         }
         None => Ok(None),
     }
 }
 
-/// The same, where the blocks are walked and share no address.
+/// The same, of blocks that are walked and share no address.
 fn outline_by<C: Numbered>(
     alloc: Global,
     code: &C,
     seeds: &[u64],
     part: &Part,
+    returns: &NumberedReturns<'_>,
     blocks: &Blocks,
 ) -> Result<Option<Outline>, Memory>
     requires leads { AreLeads (C.map code.now) part.now.leads }
-    requires returns { ReturnsRise part.now.returns }
+    requires numbered { AreNumbered (C.map code.now) (C.number code.now) returns.now }
+    requires returns { returns.now.lines.now ≡ part.now.returns }
     requires blocks { AreBlocks (C.map code.now) (C.number code.now) part.now.leads blocks.now }
     ensures { IfOk result (λ found. MatchOption found
-        (¬ HaveReasons (C.map code.now) seeds.now part.now)
-        (λ outline. HaveReasons (C.map code.now) seeds.now part.now
+        (¬ LeadsAreRight (C.map code.now) seeds.now part.now)
+        (λ outline. LeadsAreRight (C.map code.now) seeds.now part.now
         × AreOutlined (C.map code.now) part.now outline)) }
 {
+    know_laws(code);
     let leads = part.leads.as_slice();
     let runs = blocks.runs.as_slice();
-    let edges = edges_of(alloc, code, leads, part.returns.as_slice(), runs)?;
+    let edges = edges_of(alloc, code, leads, returns, runs)?;
+    if !leads_are_closed(code, part, blocks, edges.as_slice()) {
+        return Ok(None);
+    }
     if !leaders_have_reasons(alloc, code, seeds, part, blocks, edges.as_slice())? {
         return Ok(None);
     }

@@ -13,9 +13,9 @@ use Rattle.cfg_model.proofs.Graphs.Lists.{Contains-none}
 use Rattle.cert_text.specs.declared.lines.LeadLine.{LeadLine}
 use Rattle.cert_text.specs.declared.lines.ReturnLine.{ReturnLine}
 use Rattle.cert_text.specs.declared.certificate.Part.{Part}
-use Rattle.cert_laws.specs.Valid.{IsListedEnd, LeadsAreClosed, ReturnsAreClosed}
+use Rattle.cert_laws.specs.Valid.{IsListedEnd, ReturnsAreClosed}
 use Rattle.cert_ends.specs.Ends.{AreEnds}
-use Rattle.cert_ends.specs.Inner.{EndsOne, LeadsOnlyToLeads, ReturnIsListed}
+use Rattle.cert_ends.specs.Inner.{EndsOne, ReturnIsListed}
 use Rattle.cert_ends.proofs.OneByOne.{denied, all_found}
 
 -- an address is added that ends the chain of another, the one that does
@@ -57,26 +57,6 @@ pub all_ends : (map : InstructionMap) (leads : List LeadLine) (ends : List ℕ) 
 all_ends map leads ends are P all k end = All-contains P ends k all ((are.exact k).1 end)
 
 -- What is decided end by end.
-module _ (map : InstructionMap) (part : Part) (ends : List ℕ) (are : AreEnds map part.leads ends)
-    (leads : List LeadLine) (returns : List ReturnLine) (same_leads : leads ≡ part.leads) (same_returns : returns ≡ part.returns) where
-  pub not_closed : (i : ℕ) → i < length ends → (LeadsOnlyToLeads map leads returns (get_or ends i 0) → ⊥) → IsTrue false ↔ LeadsAreClosed map part
-  not_closed i lt none =
-      denied (LeadsAreClosed map part)
-      (λ closed.
-      let k = get_or ends i 0 in
-      let only : LeadsOnlyToLeads map part.leads part.returns k = λ to h. closed k to (end_at map part.leads ends are i 0 lt) h in
-      let here : LeadsOnlyToLeads map part.leads returns k = subst (λ (r : List ReturnLine). LeadsOnlyToLeads map part.leads r k) (sym same_returns) only in
-      none (subst (λ (l : List LeadLine). LeadsOnlyToLeads map l returns k) (sym same_leads) here))
-
-  pub closed : (n : ℕ) → length ends ≤ n → All (LeadsOnlyToLeads map leads returns) (take n ends) → IsTrue true ↔ LeadsAreClosed map part
-  closed n long so_far = (
-    λ t. λ k to end h.
-        let only : LeadsOnlyToLeads map leads returns k = all_ends map part.leads ends are (LeadsOnlyToLeads map leads returns) (all_found (LeadsOnlyToLeads map leads returns) ends n long so_far) k end in
-        let here : LeadsOnlyToLeads map part.leads returns k = subst (λ (l : List LeadLine). LeadsOnlyToLeads map l returns k) same_leads only in
-        subst (λ (r : List ReturnLine). LeadsOnlyToLeads map part.leads r k) same_returns here to h,
-    λ all. refl,
-  )
-
 module _ (map : InstructionMap) (part : Part) (ends : List ℕ) (are : AreEnds map part.leads ends)
     (returns : List ReturnLine) (same_returns : returns ≡ part.returns) where
   pub return_missed : (i : ℕ) → i < length ends → (ReturnIsListed map returns (get_or ends i 0) → ⊥) → IsTrue false ↔ ReturnsAreClosed map part

@@ -1,18 +1,19 @@
 //! Whether a return is missing, and whether one is listed that is no end.
 
-ghost use Rattle.std.specs.Prelude.{◌↔◌, All, Contains, IfOk, IsSome, IsTrue};
+ghost use Rattle.std.specs.Prelude.{◌≡◌, ◌↔◌, All, Contains, IfOk, IsSome, IsTrue};
 ghost use Rattle.std.specs.List.Sorted.{IsStrictlyIncreasing};
 ghost use Rattle.cert_laws.specs.Lines.{IsReturn};
 ghost use Rattle.cert_laws.specs.Valid.{ReturnsAreClosed};
 ghost use Rattle.cert_laws.specs.Ways.{EndsIn};
-ghost use Rattle.cert_places.specs.Places.{ReturnsRise};
+ghost use Rattle.cert_places.specs.Places.{AreNumbered};
 ghost use Rattle.cert_ends.specs.Ends.{AreEnds, ReturnsEnd};
 ghost use Rattle.cert_ends.specs.Inner.{ReturnIsListed};
 
 use crate::ways::{ends_in, find_successors, returns_by_both, returns_by_itself};
-use cert_places::is_return;
-use cert_text::{Part, ReturnLine};
+use cert_places::NumberedReturns;
+use cert_text::Part;
 use cfg_model::{Chains, Memory};
+use reached_terms::Numbered;
 use std::alloc::Global;
 
 /// Whether each listed return is one of the ends of the listed leaders. The program itself is not
@@ -44,17 +45,18 @@ fn is_end(ends: &[u64], k: u64) -> bool
 ///
 /// Time: a look-up or two for each of these ends, and for each address to which an unlisted one
 /// leads. Memory: the targets of one jump table.
-pub fn returns_are_closed<C: Chains>(
+pub fn returns_are_closed<C: Numbered>(
     alloc: Global,
     code: &C,
     part: &Part,
+    returns: &NumberedReturns<'_>,
     ends: &[u64],
 ) -> Result<bool, Memory>
-    requires rising { ReturnsRise part.now.returns }
+    requires numbered { AreNumbered (C.map code.now) (C.number code.now) returns.now }
+    requires returns { returns.now.lines.now ≡ part.now.returns }
     requires ends { AreEnds (C.map code.now) part.now.leads ends.now }
     ensures { IfOk result (λ b. IsTrue b ↔ ReturnsAreClosed (C.map code.now) part.now) }
 {
-    let returns = part.returns.as_slice();
     let mut successors = Vec::new(alloc);
     for k in ends {
         if !is_listed_if_it_returns(code, returns, *k, &mut successors)? {
@@ -65,17 +67,17 @@ pub fn returns_are_closed<C: Chains>(
 }
 
 /// Whether the instruction at `k` is among these returns, or has no reason to return by them.
-fn is_listed_if_it_returns<C: Chains>(
+fn is_listed_if_it_returns<C: Numbered>(
     code: &C,
-    returns: &[ReturnLine],
+    returns: &NumberedReturns<'_>,
     k: u64,
     successors: &mut Vec<u64>,
 ) -> Result<bool, Memory>
     requires stands { IsSome (C.map code.now k) }
-    requires rising { ReturnsRise returns.now }
-    ensures { IfOk result (λ b. IsTrue b ↔ ReturnIsListed (C.map code.now) returns.now k) }
+    requires numbered { AreNumbered (C.map code.now) (C.number code.now) returns.now }
+    ensures { IfOk result (λ b. IsTrue b ↔ ReturnIsListed (C.map code.now) returns.now.lines.now k) }
 {
-    if is_return(returns, k) {
+    if returns.has(code, k) {
         return Ok(true);
     }
     let flow = code.flow(k);
@@ -87,11 +89,11 @@ fn is_listed_if_it_returns<C: Chains>(
 }
 
 /// Whether the chain of none of these addresses ends in one of these returns.
-fn none_ends_in<C: Chains>(code: &C, returns: &[ReturnLine], addresses: &[u64]) -> bool
+fn none_ends_in<C: Numbered>(code: &C, returns: &NumberedReturns<'_>, addresses: &[u64]) -> bool
     requires stand { All (λ a. IsSome (C.map code.now a)) addresses.now }
-    requires rising { ReturnsRise returns.now }
+    requires numbered { AreNumbered (C.map code.now) (C.number code.now) returns.now }
     ensures { IsTrue result
-        ↔ All (λ a. ¬ EndsIn (C.map code.now) (IsReturn returns.now) a) addresses.now }
+        ↔ All (λ a. ¬ EndsIn (C.map code.now) (IsReturn returns.now.lines.now) a) addresses.now }
 {
     for a in addresses {
         if ends_in(code, returns, None, *a) {

@@ -4,16 +4,16 @@ ghost use Rattle.std.specs.Prelude.{◌≡◌, ◌↔◌, ◌++◌, IsSome, IsTr
 ghost use Rattle.cfg_model.specs.Program.Instructions.{IsLawful, flow_at};
 ghost use Rattle.cfg_model.specs.Program.Successors.{LeavesFunction, successors_of};
 ghost use Rattle.cert_laws.specs.Ways.{EndsIn, ReturnsByBoth};
-ghost use Rattle.cert_places.specs.Places.{ReturnsRise};
+ghost use Rattle.cert_places.specs.Places.{AreNumbered};
 ghost use Rattle.cert_ends.specs.Inner.{IsReturnUnder};
 
-use cert_places::{is_return, is_return_below};
-use cert_text::ReturnLine;
+use cert_places::NumberedReturns;
 use cfg_model::{Chains, Flow, Memory};
+use reached_terms::Numbered;
 
 /// Puts the successors of the instruction at `k`, whose flow this is, in place of the items of
 /// `successors`.
-pub(crate) fn find_successors<C: Chains>(
+pub fn find_successors<C: Chains>(
     code: &C,
     k: u64,
     flow: Flow,
@@ -57,7 +57,7 @@ fn add(address: Option<u64>, list: &mut Vec<u64>) -> Result<(), Memory>
 }
 
 /// Whether an instruction of this flow returns by itself.
-pub(crate) fn returns_by_itself(flow: Flow) -> bool
+pub fn returns_by_itself(flow: Flow) -> bool
     ensures { IsTrue result ↔ LeavesFunction (Some flow) }
 {
     match flow {
@@ -69,45 +69,52 @@ pub(crate) fn returns_by_itself(flow: Flow) -> bool
 
 /// Whether the terminator at `k` is listed as one that returns, with a rank below this one, if one
 /// is given.
-pub(crate) fn is_return_under(returns: &[ReturnLine], below: Option<u64>, k: u64) -> bool
-    requires { ReturnsRise returns.now }
-    ensures { IsTrue result ↔ IsReturnUnder returns.now below k }
+pub(crate) fn is_return_under<C: Numbered>(
+    code: &C,
+    returns: &NumberedReturns<'_>,
+    below: Option<u64>,
+    k: u64,
+) -> bool
+    requires numbered { AreNumbered (C.map code.now) (C.number code.now) returns.now }
+    requires stands { IsSome (C.map code.now k) }
+    ensures { IsTrue result ↔ IsReturnUnder returns.now.lines.now below k }
 {
     match below {
-        Some(rank) => is_return_below(returns, rank, k),
-        None => is_return(returns, k),
+        Some(rank) => returns.has_below(code, rank, k),
+        None => returns.has(code, k),
     }
 }
 
 /// Whether the chain of `a` ends in one of these returns, with a rank below this one, if one is
 /// given.
-pub(crate) fn ends_in<C: Chains>(
+pub(crate) fn ends_in<C: Numbered>(
     code: &C,
-    returns: &[ReturnLine],
+    returns: &NumberedReturns<'_>,
     below: Option<u64>,
     a: u64,
 ) -> bool
     requires stands { IsSome (C.map code.now a) }
-    requires rising { ReturnsRise returns.now }
-    ensures { IsTrue result ↔ EndsIn (C.map code.now) (IsReturnUnder returns.now below) a }
+    requires numbered { AreNumbered (C.map code.now) (C.number code.now) returns.now }
+    ensures { IsTrue result
+        ↔ EndsIn (C.map code.now) (IsReturnUnder returns.now.lines.now below) a }
 {
-    is_return_under(returns, below, code.term(a))
+    is_return_under(code, returns, below, code.term(a))
 }
 
 /// Whether the instruction at `k`, whose flow this is, is a call that returns through both its
 /// target and its fall: both end in these returns, with ranks below this one, if one is given.
-pub(crate) fn returns_by_both<C: Chains>(
+pub(crate) fn returns_by_both<C: Numbered>(
     code: &C,
     k: u64,
     flow: Flow,
-    returns: &[ReturnLine],
+    returns: &NumberedReturns<'_>,
     below: Option<u64>,
 ) -> bool
     requires flow { flow_at (C.map code.now) k ≡ Some flow }
     requires lawful { IsLawful (C.map code.now) }
-    requires rising { ReturnsRise returns.now }
+    requires numbered { AreNumbered (C.map code.now) (C.number code.now) returns.now }
     ensures { IsTrue result
-        ↔ ReturnsByBoth (C.map code.now) (IsReturnUnder returns.now below) k }
+        ↔ ReturnsByBoth (C.map code.now) (IsReturnUnder returns.now.lines.now below) k }
 {
     match flow {
         Flow::Call {

@@ -6,8 +6,8 @@ use Rattle.std.proofs.lemmas.List.Elements.{All-push, All-nil, Contains-append_l
 use Rattle.std.proofs.lemmas.Option.{none-some}
 use Rattle.jump_table.specs.declared.table.Table.{Table}
 use Rattle.jump_table.specs.Table.{table_at}
-use Rattle.table_cuts.specs.declared.jump.TableJump.{TableJump}
-use Rattle.table_cuts.specs.Tables.{AreTablesOf, addresses_of}
+use Rattle.code_view.specs.declared.table_jump.TableJump.{TableJump}
+use Rattle.code_view.specs.Tables.{AreTablesOf, addresses_of}
 use Rattle.std.proofs.Common.{IsSome, IsTrue, get_or, refl}
 use Rattle.std.specs.Prelude.{All}
 use Rattle.std.specs.Option.{option_map}

@@ -3,8 +3,8 @@ use Rattle.std.specs.Prelude.{ℕ, List, Contains}
 use Rattle.std.specs.Option.{MatchOption}
 use Rattle.std.specs.declared.option.Option.{Option}
 use Rattle.cfg_model.specs.Program.Instructions.{InstructionMap}
-use Rattle.table_cuts.specs.declared.jump.TableJump.{TableJump}
-use Rattle.table_cuts.specs.Tables.{HasTable, AreTablesOf, addresses_of}
+use Rattle.code_view.specs.declared.table_jump.TableJump.{TableJump}
+use Rattle.code_view.specs.Tables.{HasTable, AreTablesOf, addresses_of}
 use Rattle.cert_text.specs.declared.certificate.Part.{Part}
 use Rattle.cert_laws.specs.Valid.{IsValid}
 

@@ -9,7 +9,6 @@
 mod checker;
 mod error;
 mod last_part;
-mod memory;
 mod tables;
 
 pub use checker::check;

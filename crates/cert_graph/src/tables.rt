@@ -10,13 +10,13 @@ ghost use Rattle.table_cuts.specs.Extents.{extent_at};
 ghost use Rattle.cert_laws.specs.Valid.{AreInCode, IsListedEnd};
 ghost use Rattle.cert_graph.specs.Inner.{AreTablesAt};
 
-use crate::memory::Memory;
 use cert_ends::ends_of;
 use cert_text::Part;
-use code_view::{Code, Cuts};
+use cfg_model::Memory;
+use code_view::{Code, Cuts, TableJump};
 use jump_table::Table;
 use std::alloc::Global;
-use table_cuts::{TableJump, cuts_of};
+use table_cuts::cuts_of;
 
 /// The cuts of jump tables if those count whose jumps are ends of the listed leaders.
 /// Time: O(leaders) and sorting their ends, and looking up the table of each jump through a register
@@ -34,11 +34,7 @@ pub(crate) fn cuts_at_ends(alloc: Global, code: &Code<'_>, part: &Part) -> Resul
 }
 
 /// Those of these code addresses that have a jump table, each with its table.
-fn tables_at(
-    alloc: Global,
-    code: &Code<'_>,
-    places: &[u64],
-) -> Result<Vec<TableJump>, code_view::Memory>
+fn tables_at(alloc: Global, code: &Code<'_>, places: &[u64]) -> Result<Vec<TableJump>, Memory>
     requires { All (λ a. IsTrue (is_code code.now.bytes a)) places.now }
     ensures { IfOk result (λ jumps. AreTablesAt code.now.bytes places.now jumps.items) }
 {

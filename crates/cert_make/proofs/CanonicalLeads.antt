@@ -19,8 +19,8 @@ use Rattle.cert_places.specs.Places.{LeadsRise}
 use Rattle.cert_places.proofs.Adjacent.{rise_on}
 use Rattle.cert_places.proofs.Placed.{no_lead}
 use Rattle.cert_make.specs.Canonical.{IsLeadLine, ListsLines, ReturnsReached}
-use Rattle.cert_make.specs.Offers.{TellCall, TellCalls}
-use Rattle.cert_make.specs.Settled.{AreLeadsSettledBy}
+use Rattle.cert_make.specs.Inner.Offers.{TellCall, TellCalls}
+use Rattle.cert_make.specs.Inner.Settled.{AreLeadsSettledBy}
 use Rattle.cert_make.proofs.RankedReturns.{ranked_returns, return_has_rank}
 use Rattle.cert_make.proofs.ExactLeads.{lead_at_of, right_leads}
 
@@ -39,7 +39,7 @@ at_listed lines l listed =
     let long : length (map lead_at_of lines) ≡ length lines = length-map lines lead_at_of in
     (listed.0, let lt = listed.1 in omega arith, get_or_default (map lead_at_of lines) listed.0 l.at l.at (let lt = listed.1 in omega arith) ∙ get_or-map lead_at_of lines listed.0 l ∙ ap lead_at_of listed.2)
 
-listed_at : (lines : List LeadLine) (k : ℕ) → Contains (map lead_at_of lines) k → IsLead lines k
+pub listed_at : (lines : List LeadLine) (k : ℕ) → Contains (map lead_at_of lines) k → IsLead lines k
 listed_at lines k listed =
     let long : length (map lead_at_of lines) ≡ length lines = length-map lines lead_at_of in
     let lt = listed.1 in

@@ -13,7 +13,7 @@ use Rattle.cert_places.specs.Places.{ReturnsRise}
 use Rattle.cert_places.proofs.Adjacent.{rise_on}
 use Rattle.cert_places.proofs.Placed.{no_return}
 use Rattle.cert_make.specs.Canonical.{IsReturnLine, ListsLines, ReturnsReached}
-use Rattle.cert_make.specs.Inner.{AreSettledBy}
+use Rattle.cert_make.specs.Inner.Returns.{AreSettledBy}
 use Rattle.cert_make.proofs.Rows.{at_of}
 use Rattle.cert_make.proofs.ExactReturns.{right}
 

@@ -12,7 +12,7 @@ use Rattle.cert_places.specs.Places.{LeadsRise}
 use Rattle.cert_make.specs.Reason.{LeadsFor}
 use Rattle.cert_make.specs.Rank.{LeadsBelow}
 use Rattle.cert_make.specs.Canonical.{IsLeadLine}
-use Rattle.cert_make.specs.Settled.{IsSettledLead}
+use Rattle.cert_make.specs.Inner.Settled.{IsSettledLead}
 use Rattle.cert_make.proofs.Ranks.{leads_weaker}
 use Rattle.cert_make.proofs.RankedLeads.{ranked_leads}
 

@@ -17,7 +17,7 @@ use Rattle.cert_places.specs.Places.{ReturnsRise}
 use Rattle.cert_make.specs.Reason.{EndCounts, ReturnsFor}
 use Rattle.cert_make.specs.Rank.{ReturnsBelow}
 use Rattle.cert_make.specs.Canonical.{IsReturnLine, ReturnsReached}
-use Rattle.cert_make.specs.Inner.{IsSettledReturn}
+use Rattle.cert_make.specs.Inner.Returns.{IsSettledReturn}
 use Rattle.cert_make.proofs.Ranks.{returns_weaker}
 use Rattle.cert_make.proofs.RankedReturns.{ranked_returns}
 use Rattle.cert_make.proofs.Rows.{at_of}

@@ -9,7 +9,7 @@ use Rattle.cfg_model.specs.Program.Instructions.{InstructionMap}
 use Rattle.cert_places.specs.Places.{LeadsRise}
 use Rattle.cert_places.proofs.Adjacent.{rise_on, rise_next}
 use Rattle.cert_places.proofs.Placed.{no_lead}
-use Rattle.cert_make.specs.Settled.{IsSettledLead, IsSettledLeadFor, AreLeadsSettledBy, LeadsHaveSameRanks}
+use Rattle.cert_make.specs.Inner.Settled.{IsSettledLead, IsSettledLeadFor, AreLeadsSettledBy, LeadsHaveSameRanks}
 use Rattle.cert_make.proofs.ExactLeads.{lead_at_of}
 use Rattle.cert_make.proofs.Ranks.{leads_weaker}
 use Rattle.cert_laws.specs.Lines.{IsLeadBelow}

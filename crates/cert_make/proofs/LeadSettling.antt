@@ -11,11 +11,12 @@ use Rattle.cert_text.specs.declared.lines.LeadWhy.TheVariants.{Seed, From, Join}
 use Rattle.cert_laws.specs.Lines.{IsLeadBelow}
 use Rattle.cert_places.specs.Places.{IsPlace}
 use Rattle.cert_make.specs.declared.offers.Offer.{Offer}
+use Rattle.cert_make.specs.declared.joins.Meeting.{Meeting}
 use Rattle.cert_make.specs.Reason.{LeadsFor, MeetsBy}
 use Rattle.cert_make.specs.First.{LeadWhyBefore}
-use Rattle.cert_make.specs.Inner.{IsNotAfter}
-use Rattle.cert_make.specs.Offers.{IsOfferFrom, AreOffers, FirstOffer, IsFirstOffer, AreFirstOffers, IsLeastOffer, NoneOffers, LeadsTo, Crosses, IsCrossing}
-use Rattle.cert_make.specs.Settled.{IsSettledLead, IsSettledLeadFor, IsNearestLead, NoneLeads, AreNearestLeads, IsLeastLead, IsFirstJoin, NoneJoin}
+use Rattle.cert_make.specs.Inner.Returns.{IsNotAfter}
+use Rattle.cert_make.specs.Inner.Offers.{IsOfferFrom, AreOffers, FirstOffer, IsFirstOffer, AreFirstOffers, LeadsTo}
+use Rattle.cert_make.specs.Inner.Settled.{IsSettledLead, IsSettledLeadFor, IsNearestLead, NoneLeads, AreNearestLeads, IsFirstJoin, NoneJoin, AreJoins, IsJoinAt}
 
 -- ---- leaders by their offers
 
@@ -64,59 +65,6 @@ module _ (lines : List LeadLine) (Way : ℕ → ℕ → Type 0) (offers : List O
 
   pub are_nearest : (firsts : List (Option Offer)) → AreFirstOffers lines offers firsts → AreNearestLeads lines Way firsts
   are_nearest firsts first = record { long = first.long; each = λ i a d place. nearest_or_none a (get_or firsts i d) (first.each i a d place) }
-
--- ---- joins
-
-module _ (code : InstructionMap) (lines : List LeadLine) (bytes : ℕ) (offers : List Offer) (are : AreOffers lines (Crosses code bytes) offers) (a : ℕ) where
-  -- up to this rank, of those that meet a crossing
-  least_of : (rank lead : ℕ) → IsCrossing code a → IsLeastOffer offers a rank lead → IsLeastLead lines (λ p. MeetsBy code bytes p a) rank lead
-  least_of rank lead crossing least =
-      let o = least.offer in
-      let low : o.rank ≤ rank = least.low in
-      record {
-        listed = subst (IsLeadBelow lines (rank + 1)) least.is (offer_below lines (Crosses code bytes) offers are o (rank + 1) (omega arith) least.listed);
-        leads = subst (λ (p : ℕ). MeetsBy code bytes p a) least.is (subst (λ (x : ℕ). MeetsBy code bytes o.lead x) least.there (offer_way lines (Crosses code bytes) offers are o least.listed).0);
-        least = λ p below meets.
-            let x = offer_of a below.line.rank below.line.at in
-            let lt : below.line.rank < rank + 1 = below.lower in
-            let at : below.line.at ≡ p = below.address in
-            let le : lead ≤ below.line.at = All-contains (λ (y : Offer). y.to ≡ a → y.rank ≤ rank → lead ≤ y.lead) offers x least.least (made lines (Crosses code bytes) offers are (rank + 1) p a below (meets, crossing)) refl (omega arith) in
-            omega arith;
-      }
-
-  crossing_at : (o : Offer) → IsFirstOffer offers a o → IsCrossing code a
-  crossing_at o first = subst (IsCrossing code) first.there (offer_way lines (Crosses code bytes) offers are o first.listed).1
-
-  above_first : (o : Offer) → IsFirstOffer offers a o → (rank p : ℕ) → IsLeadBelow lines rank p → MeetsBy code bytes p a → o.rank < rank
-  above_first o first rank p below meets = ((nearest_lead lines (Crosses code bytes) offers are a o first).first rank p below (meets, crossing_at o first)).0
-
-  none_meets : IsCrossing code a → FirstOffer offers a None → (rank p : ℕ) → IsLeadBelow lines rank p → MeetsBy code bytes p a → ⊥
-  none_meets crossing none rank p below meets = none_leads lines (Crosses code bytes) offers are a none rank p below (meets, crossing)
-
-  -- the first is one of those up to a rank above
-  pub not_none : (o : Offer) (rank : ℕ) → IsFirstOffer offers a o → o.rank ≤ rank → NoneOffers offers a rank → ⊥
-  not_none o rank first le none = All-contains (λ (x : Offer). x.to ≡ a → ¬ (x.rank ≤ rank)) offers o none first.listed first.there le
-
--- both meet a, so it is a crossing
-crossing_of : (code : InstructionMap) (p q a : ℕ) → MeetsBy code 2 p a → MeetsBy code 4 q a → IsCrossing code a
-crossing_of code p q a one other = ((one.0, one.2, one.3), (other.0, other.2, other.3))
-
-pub no_short : (code : InstructionMap) (lines : List LeadLine) (a : ℕ) (shorts : List Offer) → AreOffers lines (Crosses code 2) shorts → FirstOffer shorts a None → NoneJoin code lines a
-no_short code lines a shorts are none rank p q below other one two = none_meets code lines 2 shorts are a (crossing_of code p q a one two) none rank p below one
-
-pub no_long : (code : InstructionMap) (lines : List LeadLine) (a : ℕ) (longs : List Offer) → AreOffers lines (Crosses code 4) longs → FirstOffer longs a None → NoneJoin code lines a
-no_long code lines a longs are none rank p q below other one two = none_meets code lines 4 longs are a (crossing_of code p q a one two) none rank q other two
-
-pub first_join : (code : InstructionMap) (lines : List LeadLine) (a rank first second : ℕ) (shorts longs : List Offer) (one other : Offer) → AreOffers lines (Crosses code 2) shorts → AreOffers lines (Crosses code 4) longs
-    → IsFirstOffer shorts a one → IsFirstOffer longs a other → ((more : ℕ) → one.rank < more → other.rank < more → rank < more) → IsLeastOffer shorts a rank first → IsLeastOffer longs a rank second → IsFirstJoin code lines a rank first second
-first_join code lines a rank first second shorts longs one other are also is_one is_other least short long =
-    let crossing = crossing_at code lines 2 shorts are a one is_one in
-    record {
-      first_least = least_of code lines 2 shorts are a rank first crossing short;
-      second_least = least_of code lines 4 longs also a rank second crossing long;
-      below = λ more p q below_p below_q meets_p meets_q.
-          least more (above_first code lines 2 shorts are a one is_one more p below_p meets_p) (above_first code lines 4 longs also a other is_other more q below_q meets_q);
-    }
 
 -- ---- lines
 
@@ -177,58 +125,6 @@ module _ (code : InstructionMap) (seeds : List ℕ) (lines : List LeadLine) (a :
       least = λ more why lt reason. let above : rank < more = join_above more why reason in omega arith;
     }
 
--- ---- the least of some offers
-
-abbrev pub Least : List Offer → ℕ → ℕ → Option ℕ → Type 0
-Least xs a rank o = MatchOption o (NoneOffers xs a rank) (IsLeastOffer xs a rank)
-
-pub least_skip : (xs : List Offer) (a rank : ℕ) (o : Option ℕ) (x : Offer) → Least xs a rank o → (x.to ≡ a → x.rank ≤ rank → ⊥) → Least (xs ++ x ∷ []) a rank o
-least_skip xs a rank None x least other = All-push (λ (y : Offer). y.to ≡ a → ¬ (y.rank ≤ rank)) xs x least other
-least_skip xs a rank (Some l) x least other = record {
-  offer = least.offer;
-  listed = Contains-append_left xs (x ∷ []) least.offer least.listed;
-  there = least.there;
-  low = least.low;
-  is = least.is;
-  least = All-push (λ (y : Offer). y.to ≡ a → y.rank ≤ rank → l ≤ y.lead) xs x least.least (λ e le. absurd (other e le));
-}
-
-pub least_take : (xs : List Offer) (a rank : ℕ) (o : Option ℕ) (x : Offer) (l : ℕ) → Least xs a rank o → x.to ≡ a → x.rank ≤ rank → (l ≡ x.lead) ⊎ (o ≡ Some l) → l ≤ x.lead → IfSome o (λ p. l ≤ p) → IsLeastOffer (xs ++ x ∷ []) a rank l
-least_take xs a rank None x l none at low (inl same) le all = record {
-  offer = x;
-  listed = Contains-push xs x;
-  there = at;
-  low = low;
-  is = sym same;
-  least = All-push (λ (y : Offer). y.to ≡ a → y.rank ≤ rank → l ≤ y.lead) xs x (λ i d lt e below. absurd (none i d lt e below)) (λ e below. le);
-}
-least_take xs a rank None x l none at low (inr same) le all = absurd cc
-least_take xs a rank (Some p) x l least at low (inl same) le all = record {
-  offer = x;
-  listed = Contains-push xs x;
-  there = at;
-  low = low;
-  is = sym same;
-  least = All-push (λ (y : Offer). y.to ≡ a → y.rank ≤ rank → l ≤ y.lead) xs x (λ i d lt e below. let m : p ≤ (get_or xs i d).lead = least.least i d lt e below in omega arith) (λ e below. le);
-}
-least_take xs a rank (Some p) x l least at low (inr same) le all =
-    let is : p ≡ l = cc in
-    let known : IsLeastOffer xs a rank l = subst (IsLeastOffer xs a rank) is least in
-    record {
-      offer = known.offer;
-      listed = Contains-append_left xs (x ∷ []) known.offer known.listed;
-      there = known.there;
-      low = known.low;
-      is = known.is;
-      least = All-push (λ (y : Offer). y.to ≡ a → y.rank ≤ rank → l ≤ y.lead) xs x known.least (λ e below. le);
-    }
-
-pub least_on : (xs : List Offer) (i a rank : ℕ) (o : Option ℕ) → i < length xs → Least (take i xs ++ get_or xs i (offer_of 0 0 0) ∷ []) a rank o → Least (take (i + 1) xs) a rank o
-least_on xs i a rank o lt least = subst (λ (ys : List Offer). Least ys a rank o) (sym (take_more xs i (offer_of 0 0 0) lt)) least
-
-pub least_end : (xs : List Offer) (i a rank : ℕ) (o : Option ℕ) → length xs ≤ i → Least (take i xs) a rank o → Least xs a rank o
-least_end xs i a rank o long least = subst (λ (ys : List Offer). Least ys a rank o) (take_all i xs long) least
-
 -- ---- the line that is chosen
 
 abbrev pub NearOr : InstructionMap → List LeadLine → ℕ → Option Offer → Type 0
@@ -279,10 +175,5 @@ unmatched o N P is m = subst (λ p. MatchOption p N P) is m
 pub near_read : (code : InstructionMap) (lines : List LeadLine) (firsts : List (Option Offer)) (i a : ℕ) (o : Option Offer) → AreNearestLeads lines (LeadsTo code) firsts → IsPlace lines i a → o ≡ get_or firsts i o → NearOr code lines a o
 near_read code lines firsts i a o are place is = subst (NearOr code lines a) (sym is) (are.each i a o place)
 
-pub offers_read : (lines : List LeadLine) (Way : ℕ → ℕ → Type 0) (offers slice : List Offer) → AreOffers lines Way offers → slice ≡ offers → AreOffers lines Way slice
-offers_read lines Way offers slice are is = subst (AreOffers lines Way) (sym is) are
-
-pub first_read : (lines : List LeadLine) (offers slice other : List Offer) (firsts : List (Option Offer)) (i a : ℕ) (o : Option Offer) → AreFirstOffers lines slice firsts → slice ≡ offers → other ≡ offers → IsPlace lines i a → o ≡ get_or firsts i o → FirstOffer other a o
-first_read lines offers slice other firsts i a o are is also place at =
-    let first : FirstOffer slice a o = subst (FirstOffer slice a) (sym at) (are.each i a o place) in
-    subst (λ (xs : List Offer). FirstOffer xs a o) (is ∙ sym also) first
+pub join_read : (code : InstructionMap) (lines : List LeadLine) (joins : List (Option Meeting)) (i : ℕ) (o : Option Meeting) → AreJoins code lines joins → i < length lines → o ≡ get_or joins i o → IsJoinAt code lines i o
+join_read code lines joins i o are lt is = subst (IsJoinAt code lines i) (sym is) (are.each i o lt)

@@ -17,3 +17,7 @@ pub mod LeadRows
 pub mod CanonicalLeads
 pub mod Parts
 pub mod ValidCanonical
+pub mod Walked
+pub mod Along
+pub mod Sources
+pub mod Falling

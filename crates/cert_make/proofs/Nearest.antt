@@ -6,7 +6,7 @@ use Rattle.std.proofs.lemmas.List.Elements.{All-push}
 use Rattle.cert_text.specs.declared.lines.ReturnLine.{ReturnLine}
 use Rattle.cfg_model.specs.Program.Instructions.{InstructionMap}
 use Rattle.cert_make.specs.declared.returns.Way.{Way}
-use Rattle.cert_make.specs.Inner.{EndHasRank, EndHasNone, IsNotAfter, IsNearest}
+use Rattle.cert_make.specs.Inner.Returns.{EndHasRank, EndHasNone, IsNotAfter, IsNearest}
 use Rattle.cert_make.proofs.Settling.{nearest_still, nearest_first, nearest_new, nearest_old}
 
 -- the nearest so far

@@ -5,19 +5,18 @@ use Rattle.std.proofs.lemmas.List.{take_more}
 use Rattle.std.proofs.lemmas.List.Elements.{Contains-append_left, Contains-push, Contains-push_cases}
 use Rattle.cert_text.specs.declared.lines.LeadLine.{LeadLine}
 use Rattle.cfg_model.specs.declared.flow.Flow.{Flow}
-use Rattle.cfg_model.specs.declared.flow.Flow.TheVariants.{Straight, Call}
+use Rattle.cfg_model.specs.declared.flow.Flow.TheVariants.{Call}
 use Rattle.cfg_model.specs.Graph.Listing.{Gains}
-use Rattle.cfg_model.specs.Program.Instructions.{InstructionMap, flow_at, length_at}
-use Rattle.cfg_model.specs.Program.Chain.{GoesOnTo, EndsChain, IsTerminator, OnChain, IsTerminatorOf}
+use Rattle.cfg_model.specs.Program.Instructions.{InstructionMap, flow_at}
+use Rattle.cfg_model.specs.Program.Chain.{IsTerminatorOf}
 use Rattle.cfg_model.specs.Program.Successors.{IsCall, successors_of}
 use Rattle.cfg_model.specs.Program.Status.{Returns}
 use Rattle.cfg_model.specs.Builder.Waits.{IsTarget}
 use Rattle.cfg_model.proofs.Graphs.Gaining.{Gains-then, Gains-same, Gains-pushed}
 use Rattle.cfg_model.proofs.Program.ChainEnds.{one_end}
-use Rattle.cfg_model.proofs.Program.ChainFacts.{chain_cases, one_next}
 use Rattle.cert_make.specs.declared.offers.Offer.{Offer}
-use Rattle.cert_make.specs.Reason.{GoesTo, MeetsBy}
-use Rattle.cert_make.specs.Offers.{IsOfferFrom, LeadsTo, IsCrossing, Crosses}
+use Rattle.cert_make.specs.Reason.{GoesTo}
+use Rattle.cert_make.specs.Inner.Offers.{IsOfferFrom, LeadsTo}
 
 -- ---- a call
 
@@ -101,71 +100,3 @@ end_offered map line k targets old new ends are =
     (λ o from. other_among line (LeadsTo map line.at) (Contains targets) o
     (λ way. (are o.to).1 (subst (λ (j : ℕ). GoesTo map j o.to) (one_end map line.at way.0 k way.1 ends) way.2))
     from)
-
--- ---- offers to crossings
-
-abbrev pub AtNext : InstructionMap → ℕ → ℕ → ℕ → ℕ → Type 0
-AtNext map bytes k next a = (a ≡ next) × (length_at map k ≡ Some bytes) × IsCrossing map next
-
-pub crossing_added : (map : InstructionMap) (bytes k next : ℕ) (line : LeadLine) (old new : List Offer) → length_at map k ≡ Some bytes → IsCrossing map next → new ≡ old ++ offer_of next line.rank line.at ∷ [] → Gains old new (IsOfferFrom line (AtNext map bytes k next))
-crossing_added map bytes k next line old new size crossing is =
-    Gains-same old new (λ o. o ≡ offer_of next line.rank line.at) (IsOfferFrom line (AtNext map bytes k next))
-    (λ o same. offer_is line (AtNext map bytes k next) next o (refl, size, crossing) same)
-    (λ o from. is_offer line (AtNext map bytes k next) o next from from.among.0)
-    (Gains-pushed old new (offer_of next line.rank line.at) is)
-
--- what is listed as the chain of the leader is walked, up to k
-pub record Walked (map : InstructionMap) (bytes : ℕ) (line : LeadLine) (old new : List Offer) (k : ℕ) : Type 0 where
-  pub reaches : OnChain map line.at k
-  pub kept : (o : Offer) → Contains old o → Contains new o
-  pub sound : (o : Offer) → Contains new o → Contains old o ⊎ IsOfferFrom line (Crosses map bytes line.at) o
-  pub rest : (o : Offer) → IsOfferFrom line (Crosses map bytes line.at) o → Contains new o ⊎ MeetsBy map bytes k o.to
-
-pub walk_start : (map : InstructionMap) (bytes : ℕ) (line : LeadLine) (old : List Offer) → Walked map bytes line old old line.at
-walk_start map bytes line old = record {
-  reaches = OnChain.here;
-  kept = λ o h. h;
-  sound = λ o h. inl h;
-  rest = λ o from. inr from.among.0;
-}
-
-pub walk_on : (map : InstructionMap) (bytes : ℕ) (line : LeadLine) (old mid new : List Offer) (k next : ℕ) → Walked map bytes line old mid k → GoesOnTo map k next → OnChain map line.at next → Gains mid new (IsOfferFrom line (AtNext map bytes k next)) → Walked map bytes line old new next
-walk_on map bytes line old mid new k next walked goes reaches gains = record {
-  reaches = reaches;
-  kept = λ o h. gains.kept o (walked.kept o h);
-  sound = λ o h. ⊎_elim
-      (λ before. walked.sound o before)
-      (λ from. inr (other_among line (AtNext map bytes k next) (Crosses map bytes line.at) o
-      (λ at. ((k, walked.reaches, subst (λ (x : ℕ). GoesOnTo map k x) (sym at.0) goes, at.1), subst (IsCrossing map) (sym at.0) at.2))
-      from))
-      (gains.nothing_else o h);
-  rest = λ o from. ⊎_elim
-      (λ listed. inl (gains.kept o listed))
-      (λ meets. ⊎_elim
-      (λ here.
-      let goes_here : GoesOnTo map k o.to = subst (λ (x : ℕ). GoesOnTo map x o.to) (sym here) meets.2 in
-      let at : o.to ≡ next = one_next map k o.to next goes_here goes in
-      let size : length_at map k ≡ Some bytes = subst (λ (x : ℕ). length_at map x ≡ Some bytes) (sym here) meets.3 in
-      inl (gains.added o (record { lead = from.lead; rank = from.rank; among = (at, size, subst (IsCrossing map) at from.among.1) })))
-      (λ on.
-      let same : on.0 ≡ next = one_next map k on.0 next on.1 goes in
-      inr (meets.0, subst (λ (x : ℕ). OnChain map x meets.0) same on.2, meets.2, meets.3))
-      (chain_cases meets.1))
-      (walked.rest o from);
-}
-
-not_on : (o : Option Flow) (next : ℕ) → EndsChain o → o ≡ Some (Straight next) → ⊥
-not_on o next ends is = subst EndsChain is ends
-
-pub walk_end : (map : InstructionMap) (bytes : ℕ) (line : LeadLine) (old new : List Offer) (k : ℕ) → Walked map bytes line old new k → IsTerminator map k → Gains old new (IsOfferFrom line (Crosses map bytes line.at))
-walk_end map bytes line old new k walked ends = record {
-  kept = walked.kept;
-  nothing_else = walked.sound;
-  added = λ o from. ⊎_elim
-      (λ listed. listed)
-      (λ meets. ⊎_elim
-      (λ here. absurd (not_on (flow_at map k) o.to ends (subst (λ (x : ℕ). GoesOnTo map x o.to) (sym here) meets.2)))
-      (λ on. absurd (not_on (flow_at map k) on.0 ends on.1))
-      (chain_cases meets.1))
-      (walked.rest o from);
-}

@@ -10,8 +10,8 @@ use Rattle.cert_laws.specs.Lines.{IsLead}
 use Rattle.cert_places.specs.Places.{IsPlace, LeadsRise}
 use Rattle.cert_places.proofs.Placed.{lead_at, one_place, one_address}
 use Rattle.cert_make.specs.declared.offers.Offer.{Offer}
-use Rattle.cert_make.specs.Inner.{IsNotAfter}
-use Rattle.cert_make.specs.Offers.{IsFirstOffer, FirstOffer, AreFirstOffers}
+use Rattle.cert_make.specs.Inner.Returns.{IsNotAfter}
+use Rattle.cert_make.specs.Inner.Offers.{IsFirstOffer, FirstOffer, AreFirstOffers}
 
 abbrev pub no_offer : Offer
 no_offer = record { to = 0; rank = 0; lead = 0 }

@@ -9,7 +9,7 @@ use Rattle.cfg_model.specs.Program.Instructions.{InstructionMap}
 use Rattle.cert_places.specs.Places.{ReturnsRise}
 use Rattle.cert_places.proofs.Adjacent.{rise_on, rise_next}
 use Rattle.cert_places.proofs.Placed.{no_return}
-use Rattle.cert_make.specs.Inner.{IsSettledReturn, IsSettledFor, AreSettledBy, HaveSameRanks}
+use Rattle.cert_make.specs.Inner.Returns.{IsSettledReturn, IsSettledFor, AreSettledBy, HaveSameRanks}
 use Rattle.cert_make.proofs.Ranks.{returns_weaker}
 use Rattle.cert_laws.specs.Lines.{IsReturnBelow}
 

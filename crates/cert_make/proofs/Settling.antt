@@ -17,7 +17,7 @@ use Rattle.cert_laws.specs.Lines.{IsReturn, IsReturnBelow}
 use Rattle.cert_places.specs.Places.{ReturnsRise}
 use Rattle.cert_make.specs.Reason.{ReturnsFor}
 use Rattle.cert_make.specs.First.{ReturnWhyBefore}
-use Rattle.cert_make.specs.Inner.{EndIsBelow, EndHasRank, EndHasNone, ComesAfter, IsNotAfter, IsNearest, IsSettledReturn}
+use Rattle.cert_make.specs.Inner.Returns.{EndIsBelow, EndHasRank, EndHasNone, ComesAfter, IsNotAfter, IsNearest, IsSettledReturn}
 
 -- ---- the rank at the end of a chain
 

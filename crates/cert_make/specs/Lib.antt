@@ -3,7 +3,5 @@ pub mod Rank
 pub mod First
 pub mod Canonical
 pub mod Ranked
-pub mod Inner
-pub mod Offers
-pub mod Settled
 pub mod Validity
+pub mod Inner

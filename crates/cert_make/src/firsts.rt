@@ -2,8 +2,8 @@
 
 ghost use Rattle.std.specs.Prelude.{◌≡◌, ◌⊎◌, IfOk, IfSome, Some};
 ghost use Rattle.cert_places.specs.Places.{LeadsRise};
-ghost use Rattle.cert_make.specs.Inner.{IsNotAfter};
-ghost use Rattle.cert_make.specs.Offers.{AreFirstOffers};
+ghost use Rattle.cert_make.specs.Inner.Returns.{IsNotAfter};
+ghost use Rattle.cert_make.specs.Inner.Offers.{AreFirstOffers};
 
 use crate::offers::Offer;
 use cert_places::place_of;

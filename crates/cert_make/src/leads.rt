@@ -3,49 +3,40 @@
 //! As with the terminators that return, a table of all leaders that is settled by itself has the
 //! canonical ranks and reasons, whatever it was before.
 
-ghost use Rattle.std.specs.Prelude.{◌≡◌, ◌+◌, ◌++◌, ◌∷◌, [], ◌≤◌, ◌<◌, ◌⊎◌, ◌↔◌, ℕ, List, All};
-ghost use Rattle.std.specs.Prelude.{Contains, IfOk, IfSome, IsSome, IsTrue, MatchOption, Some};
-ghost use Rattle.std.specs.Prelude.{length, map};
+ghost use Rattle.std.specs.Prelude.{◌≡◌, ◌+◌, ◌≤◌, ◌↔◌, ℕ, List, All, Contains, IfOk, IfSome, IsSome};
+ghost use Rattle.std.specs.Prelude.{IsTrue, MatchOption, length, map};
 ghost use Rattle.std.specs.List.Sorted.{IsStrictlyIncreasing};
 ghost use Rattle.cfg_model.specs.Program.Chain.{IsTerminatorOf};
 ghost use Rattle.cfg_model.specs.Graph.Leader.{IsLeader};
 ghost use Rattle.cfg_model.specs.Program.Instructions.{InstructionMap};
 ghost use Rattle.cert_text.specs.declared.lines.LeadWhy.TheVariants.{From, Join};
-ghost use Rattle.cert_laws.specs.Lines.{IsLeadBelow, IsReturn};
+ghost use Rattle.cert_laws.specs.Lines.{IsReturn};
 ghost use Rattle.cert_places.specs.Places.{LeadsRise, ReturnsRise};
 ghost use Rattle.cert_text.specs.declared.lines.LeadLine.{LeadLine};
-ghost use Rattle.cert_make.specs.declared.offers.Offer.{Offer};
-ghost use Rattle.cert_make.specs.Reason.{MeetsBy};
 ghost use Rattle.cert_make.specs.Canonical.{IsLeadLine, ListsLines, ReturnsReached};
-ghost use Rattle.cert_make.specs.Offers.{AreOffers, Crosses, FirstOffer, IsFirstOffer};
-ghost use Rattle.cert_make.specs.Offers.{IsLeastOffer, LeadsTo, NoneOffers, TellCall, TellCalls};
-ghost use Rattle.cert_make.specs.Settled.{AreLeadsSettledBy, AreNearestLeads, IsFirstJoin};
-ghost use Rattle.cert_make.specs.Settled.{IsLeastLead, IsNearestLead, IsSettledLeadFor};
-ghost use Rattle.cert_make.specs.Settled.{LeadsHaveSameRanks, NoneJoin, NoneLeads};
+ghost use Rattle.cert_make.specs.Inner.Offers.{LeadsTo, TellCall, TellCalls};
+ghost use Rattle.cert_make.specs.Inner.Settled.{AreLeadsSettledBy, AreNearestLeads, IsFirstJoin};
+ghost use Rattle.cert_make.specs.Inner.Settled.{IsNearestLead, IsSettledLeadFor};
+ghost use Rattle.cert_make.specs.Inner.Settled.{LeadsHaveSameRanks, NoneJoin, NoneLeads};
 
 use crate::firsts::first_offers;
-use crate::offers::{Offer, crossing_offers, end_offers};
+use crate::joins::{Meeting, joins_of};
+use crate::lead_ranks::lead_ranks;
+use crate::levels::Levels;
+use crate::offers::{Offer, end_offers};
+use crate::runs::{know_laws, runs_of};
 use cert_text::{LeadLine, LeadWhy, ReturnLine};
 use cfg_model::{Chains, Memory};
 use std::alloc::Global;
-
-/// Two leaders whose chains join.
-#[derive(Clone, Copy)]
-struct Meeting {
-    /// The greater of their ranks.
-    rank: u64,
-    /// The one whose chain has the instruction of two bytes.
-    first: u64,
-    /// The one whose chain has the instruction of four bytes.
-    second: u64,
-}
 
 /// The lines of these leaders. If they are all of the program from these seeds, these are the lines
 /// of the canonical part. [`Memory`] if memory ran out.
 ///
 /// `returns` are the lines of the terminators that return: they tell which calls come back.
-/// Time: for each rank, the chains of all these leaders and the targets of their ends, and for each
-/// two streams that join the leaders that meet joins. Memory: 24 bytes for each of these targets.
+/// Time: the instructions of all blocks, a look-up for each target of each leader's end, and where
+/// streams join that of sorting their fronts; all this twice, and once more for each rank that the
+/// table does not begin with rightly.
+/// Memory: 40 bytes for each leader, twice, 24 for each of these targets, and 200 for each leader.
 pub fn lead_lines<C: Chains>(
     alloc: Global,
     code: &C,
@@ -63,7 +54,8 @@ pub fn lead_lines<C: Chains>(
     ensures { IfOk result (λ v. ListsLines (λ l. l.at) (IsLeader (C.map code.now) seeds.now)
         (IsLeadLine (C.map code.now) seeds.now) v.items) }
 {
-    let start = first_lead_lines(alloc, leaders)?;
+    let plain = first_lead_lines(alloc, leaders)?;
+    let start = with_ranks(alloc, code, seeds, returns, plain.as_slice())?;
     let lines = settled_leads(alloc, code, seeds, returns, start)?;
     Ok(lines)
 }
@@ -81,6 +73,43 @@ fn first_lead_lines(alloc: Global, leaders: &[u64]) -> Result<Vec<LeadLine>, Mem
         })?;
     }
     Ok(lines)
+}
+
+/// The same lines with ranks by levels, which are meant to be the right ones.
+fn with_ranks<C: Chains>(
+    alloc: Global,
+    code: &C,
+    seeds: &[u64],
+    returns: &[ReturnLine],
+    lines: &[LeadLine],
+) -> Result<Vec<LeadLine>, Memory>
+    requires rise { LeadsRise lines.now }
+    requires stand { All (λ l. IsSome (C.map code.now l.at)) lines.now }
+    requires rising { ReturnsRise returns.now }
+    requires tell { TellCalls (C.map code.now) lines.now returns.now }
+    ensures { IfOk result (λ v. map (λ (l : LeadLine). l.at) v.items
+        ≡ map (λ (l : LeadLine). l.at) lines.now) }
+{
+    let offers = end_offers(alloc, code, returns, lines)?;
+    let runs = runs_of(alloc, code, lines)?;
+    let ranks = lead_ranks(alloc, seeds, lines, runs.as_slice(), offers.as_slice())?;
+    ranked(alloc, lines, &ranks)
+}
+
+/// The same lines with these ranks.
+fn ranked(alloc: Global, lines: &[LeadLine], ranks: &Levels) -> Result<Vec<LeadLine>, Memory>
+    ensures { IfOk result (λ v. map (λ (l : LeadLine). l.at) v.items
+        ≡ map (λ (l : LeadLine). l.at) lines.now) }
+{
+    let mut next = Vec::new(alloc);
+    for (i, line) in lines.iter().enumerate() {
+        next.push(LeadLine {
+            at: line.at,
+            rank: ranks.rank(i),
+            why: line.why,
+        })?;
+    }
+    Ok(next)
 }
 
 /// The settled table of these leaders, which have to be all of the program. [`Memory`] if memory
@@ -142,21 +171,13 @@ fn lead_step<C: Chains>(
     ensures { IfOk result
         (λ v. AreLeadsSettledBy (C.map code.now) seeds.now lines.now lines.now v.items) }
 {
+    know_laws(code);
     let ends = nearest_by_end(alloc, code, returns, lines)?;
-    let shorts = crossing_offers(alloc, code, 2, lines)?;
-    let longs = crossing_offers(alloc, code, 4, lines)?;
-    let first_shorts = first_offers(alloc, lines, shorts.as_slice())?;
-    let first_longs = first_offers(alloc, lines, longs.as_slice())?;
+    let runs = runs_of(alloc, code, lines)?;
+    let joins = joins_of(alloc, code, lines, runs.as_slice())?;
     let mut next = Vec::new(alloc);
     for (i, line) in lines.iter().enumerate() {
-        let join = join_at(
-            line.at,
-            first_shorts[i],
-            first_longs[i],
-            shorts.as_slice(),
-            longs.as_slice(),
-        );
-        match lead_line(seeds, line.at, ends[i], join) {
+        match lead_line(seeds, line.at, ends[i], joins[i]) {
             Some(line) => next.push(line)?,
             // Not met: each of them is a leader, so that it has a reason by the others.
             None => return Err(Memory),
@@ -181,91 +202,6 @@ fn nearest_by_end<C: Chains>(
     let offers = end_offers(alloc, code, returns, lines)?;
     let nearest = first_offers(alloc, lines, offers.as_slice())?;
     Ok(nearest)
-}
-
-/// The least leader that offers a way to `a`, of those up to this rank.
-fn least_lead(offers: &[Offer], a: u64, rank: u64) -> Option<u64>
-    ensures { MatchOption result (NoneOffers offers.now a rank)
-        (λ lead. IsLeastOffer offers.now a rank lead) }
-{
-    let mut least: Option<u64> = None;
-    for offer in offers {
-        least = with_offer(least, *offer, a, rank);
-    }
-    least
-}
-
-/// The least leader that offers a way to `a`, of those up to this rank, with one more offer.
-fn with_offer(least: Option<u64>, offer: Offer, a: u64, rank: u64) -> Option<u64>
-    ensures { (xs : List Offer)
-        → MatchOption least (NoneOffers xs a rank) (λ lead. IsLeastOffer xs a rank lead)
-        → MatchOption result (NoneOffers (xs ++ offer ∷ []) a rank)
-        (λ lead. IsLeastOffer (xs ++ offer ∷ []) a rank lead) }
-{
-    if offer.to != a {
-        return least;
-    }
-    if offer.rank > rank {
-        return least;
-    }
-    Some(lower(least, offer.lead))
-}
-
-/// The lower of two leaders.
-fn lower(one: Option<u64>, other: u64) -> u64
-    ensures one_of_both { (result ≡ other) ⊎ (one ≡ Some result) }
-    ensures other { result ≤ other }
-    ensures one { IfSome one (λ lead. result ≤ lead) }
-{
-    match one {
-        Some(one) if one <= other => one,
-        _ => other,
-    }
-}
-
-/// The join at `a` of the least rank, by the first offers of both kinds and all of them.
-fn join_at(
-    a: u64,
-    short: Option<Offer>,
-    long: Option<Offer>,
-    shorts: &[Offer],
-    longs: &[Offer],
-) -> Option<Meeting>
-    ensures { (code : InstructionMap) (lines : List LeadLine)
-        → AreOffers lines (Crosses code 2) shorts.now → AreOffers lines (Crosses code 4) longs.now
-        → FirstOffer shorts.now a short → FirstOffer longs.now a long
-        → MatchOption result (NoneJoin code lines a)
-        (λ j. IsFirstJoin code lines a j.rank j.first j.second) }
-{
-    match short {
-        Some(one) => match long {
-            Some(other) => join_of(a, one, other, shorts, longs),
-            None => None,
-        },
-        None => None,
-    }
-}
-
-/// The same, for first offers of both kinds.
-fn join_of(a: u64, one: Offer, other: Offer, shorts: &[Offer], longs: &[Offer]) -> Option<Meeting>
-    ensures { (code : InstructionMap) (lines : List LeadLine)
-        → AreOffers lines (Crosses code 2) shorts.now → AreOffers lines (Crosses code 4) longs.now
-        → IsFirstOffer shorts.now a one → IsFirstOffer longs.now a other
-        → MatchOption result (NoneJoin code lines a)
-        (λ j. IsFirstJoin code lines a j.rank j.first j.second) }
-{
-    let rank = one.rank.max(other.rank);
-    match least_lead(shorts, a, rank) {
-        Some(first) => match least_lead(longs, a, rank) {
-            Some(second) => Some(Meeting {
-                rank,
-                first,
-                second,
-            }),
-            None => None,
-        },
-        None => None,
-    }
 }
 
 /// The line of the leader `a`, if it is a seed or there is a reason by the leaders that are found.

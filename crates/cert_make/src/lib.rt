@@ -6,25 +6,32 @@
 //! - [`laws`]: laws of these definitions.
 //! - [`part`]: the canonical part, from the leaders and the terminators that return.
 //! - [`returns`], [`leads`]: the lines of either kind, in steps over all of them.
-//! - [`offers`], [`firsts`]: what the leaders offer each other, and the first offer to each.
-//! - [`ways`]: where a terminator leads.
-//! - `specs/Inner`, `specs/Offers`, `specs/Settled`: what one step finds.
+//! - [`levels`], [`return_ranks`], [`lead_ranks`]: the ranks that these begin with.
+//! - [`offers`], [`firsts`]: what the ends of chains lead to, and the first leader to lead there.
+//! - [`runs`], [`fronts`], [`joins`]: the blocks of the leaders, what lies upstream of them, and the
+//!   first join to each leader.
+//! - `specs/Inner`: what one step finds.
 //!
 //! A table of lines is settled if each line has the least rank and the first reason that the table
 //! itself allows. There is one settled table of all lines, and it is the canonical one. A step takes
-//! a table to another, and the maker stops at one that a step leaves as it is.
+//! a table to another, and the maker stops at one whose ranks a step leaves as they are.
 //!
-//! A step settles one rank at least, so there are as many steps as ranks, and each goes over all
-//! lines. That is fast where ranks are low, and slow on long chains of calls.
+//! The table begins with ranks that are handed out by levels. They are meant to be the right ones,
+//! so that one step is enough, but nothing rests on that: a step settles one rank at least.
 #![tactic(auto)]
 
 mod firsts;
+mod fronts;
+mod joins;
 mod laws;
+mod lead_ranks;
 mod leads;
+mod levels;
 mod offers;
 mod part;
+mod return_ranks;
 mod returns;
-mod ways;
+mod runs;
 
 pub use laws::{a_canonical_part_is_valid, leaders_have_ranks, one_part, returns_have_ranks};
 pub use leads::lead_lines;

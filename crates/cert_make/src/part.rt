@@ -2,13 +2,13 @@
 
 ghost use Rattle.std.specs.Prelude.{◌↔◌, ℕ, Contains, IfOk};
 ghost use Rattle.std.specs.List.Sorted.{IsStrictlyIncreasing};
-ghost use Rattle.cfg_model.specs.Program.Instructions.{IsLawful};
 ghost use Rattle.cfg_model.specs.Program.Reach.{AreSeeds};
 ghost use Rattle.cfg_model.specs.Graph.Leader.{IsLeader};
 ghost use Rattle.cert_make.specs.Canonical.{IsCanonical, ReturnsReached};
 
 use crate::leads::lead_lines;
 use crate::returns::return_lines;
+use crate::runs::know_laws;
 use cert_text::{LeadLines, Part, ReturnLines};
 use cfg_model::{Chains, Memory};
 use std::alloc::Global;
@@ -16,9 +16,8 @@ use std::alloc::Global;
 /// The canonical part of a certificate of this program, of all its leaders and all its reached
 /// terminators that return. [`Memory`] if memory ran out.
 ///
-/// Time: for each rank, the chains of all leaders and the targets of their ends, and for each two
-/// streams that join the leaders that meet joins. Memory: 40 bytes for each line, twice, and 24 bytes
-/// for each target.
+/// Time: that of [`return_lines`] and [`lead_lines`], which do not walk a chain twice.
+/// Memory: 40 bytes for each line, twice, and what those two use.
 pub fn canonical_part<C: Chains>(
     alloc: Global,
     code: &C,
@@ -41,11 +40,4 @@ pub fn canonical_part<C: Chains>(
         returns: ReturnLines::from_vec(returns),
         leads: LeadLines::from_vec(leads),
     })
-}
-
-/// A program is lawful: asking it about any address says so.
-fn know_laws<C: Chains>(code: &C)
-    ensures { IsLawful (C.map code.now) }
-{
-    code.has(0);
 }

@@ -14,11 +14,13 @@ ghost use Rattle.cfg_model.specs.Program.Successors.{IsCall, LeavesFunction, suc
 ghost use Rattle.cert_places.specs.Places.{ReturnsRise};
 ghost use Rattle.cert_text.specs.declared.lines.ReturnLine.{ReturnLine};
 ghost use Rattle.cert_make.specs.Canonical.{IsReturnLine, ListsLines, ReturnsReached};
-ghost use Rattle.cert_make.specs.Inner.{EndHasRank, EndHasNone, IsNearest, IsNotAfter};
-ghost use Rattle.cert_make.specs.Inner.{IsSettledReturn, IsSettledFor, AreSettledBy};
-ghost use Rattle.cert_make.specs.Inner.{HaveSameRanks};
+ghost use Rattle.cert_make.specs.Inner.Returns.{EndHasRank, EndHasNone, IsNearest, IsNotAfter};
+ghost use Rattle.cert_make.specs.Inner.Returns.{IsSettledReturn, IsSettledFor, AreSettledBy};
+ghost use Rattle.cert_make.specs.Inner.Returns.{HaveSameRanks};
 
-use crate::ways::{find_successors, returns_by_itself};
+use crate::levels::Levels;
+use crate::return_ranks::return_ranks;
+use cert_ends::{find_successors, returns_by_itself};
 use cert_places::return_at;
 use cert_text::{ReturnLine, ReturnWhy};
 use cfg_model::{Chains, Flow, Memory};
@@ -36,7 +38,9 @@ struct Way {
 /// The lines of these terminators. If they are all that return, these are the lines of the canonical
 /// part. [`Memory`] if memory ran out.
 ///
-/// Time: for each rank, the successors of all these terminators. Memory: 40 bytes for each terminator, twice.
+/// Time: a look-up for each successor of each of these terminators, and that of sorting these; and the
+/// look-ups again for each rank that the table does not begin with rightly.
+/// Memory: 40 bytes for each terminator, twice, and 16 for each of these successors.
 pub fn return_lines<C: Chains>(
     alloc: Global,
     code: &C,
@@ -48,20 +52,21 @@ pub fn return_lines<C: Chains>(
         → ((k : ℕ) → Contains returns.now k ↔ ReturnsReached (C.map code.now) seeds k)
         → ListsLines (λ l. l.at) (ReturnsReached (C.map code.now) seeds) (IsReturnLine (C.map code.now)) v.items) }
 {
-    let start = first_lines(alloc, returns)?;
+    let ranks = return_ranks(alloc, code, returns)?;
+    let start = first_lines(alloc, returns, &ranks)?;
     let lines = settled_returns(alloc, code, start)?;
     Ok(lines)
 }
 
-/// A line for each of these terminators, to begin with.
-fn first_lines(alloc: Global, returns: &[u64]) -> Result<Vec<ReturnLine>, Memory>
+/// A line for each of these terminators, of these ranks.
+fn first_lines(alloc: Global, returns: &[u64], ranks: &Levels) -> Result<Vec<ReturnLine>, Memory>
     ensures { IfOk result (λ v. map (λ (l : ReturnLine). l.at) v.items ≡ returns.now) }
 {
     let mut lines = Vec::new(alloc);
-    for k in returns {
+    for (i, k) in returns.iter().enumerate() {
         lines.push(ReturnLine {
             at: *k,
-            rank: 0,
+            rank: ranks.rank(i),
             why: ReturnWhy::Itself,
         })?;
     }
@@ -71,7 +76,7 @@ fn first_lines(alloc: Global, returns: &[u64]) -> Result<Vec<ReturnLine>, Memory
 /// The settled table of these terminators, which have to be all that return. [`Memory`] if memory
 /// ran out.
 ///
-/// `start` is the table that it begins with: the settled one at best, which takes two steps.
+/// `start` is the table that it begins with: the settled one at best, which takes one step.
 /// Time: the targets of all these terminators, for each step.
 /// Memory: 40 bytes for each terminator, twice.
 fn settled_returns<C: Chains>(

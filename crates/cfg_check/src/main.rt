@@ -1,5 +1,6 @@
-//! `cfg_check test FILE CERT`: the report of the control-flow graph of a RISC-V executable, if the
-//! certificate is valid for it. What a run does is `check_run`.
+//! `cfg_check make FILE`: the canonical certificate of the control-flow graph of a RISC-V executable.
+//! `cfg_check test FILE CERT`: the report of the graph, if the certificate is valid for the file.
+//! What a run does is `check_run`.
 #![tactic(auto)]
 
 use cfg_io::{FileInput, StdSink};

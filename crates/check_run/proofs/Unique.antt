@@ -1,18 +1,22 @@
 -- A run has one answer.
-use Rattle.std.proofs.Common.{◌≡◌, ℕ, List, Option, Some, refl, sym, ap, subst, ◌∙◌}
+use Rattle.std.proofs.Common.{◌≡◌, ℕ, List, Option, Some, None, refl, sym, ap, subst, ◌∙◌}
 use Rattle.std.specs.Prelude.{◌↔◌}
 use Rattle.std.proofs.lemmas.Option.{same_Some, none-some}
 use Rattle.elf_image.specs.declared.fault.Fault.{Fault}
+use Rattle.elf_image.specs.Faults.{first_fault}
 use Rattle.cfg_model.specs.declared.graph.Graph.{Graph}
 use Rattle.file_program.proofs.Unique.{graph-unique}
 use Rattle.cert_text.specs.declared.certificate.Certificate.{Certificate}
 use Rattle.cert_text.proofs.Parts.{certificates_same}
+use Rattle.cert_text.specs.Text.{certificate_text}
+use Rattle.certify.proofs.FileLaws.{canonical-unique}
 use Rattle.cert_files.specs.FileCertificate.{IsCertificateOf}
 use Rattle.check_run.specs.declared.refusal.Refusal.TheVariants as refusals
 use Rattle.check_run.specs.declared.status.CheckStatus.TheVariants as statuses
-use Rattle.check_run.specs.Words.{Asked}
+use Rattle.check_run.specs.Words.{Asked, of_make, of_test}
 use Rattle.check_run.specs.Evidence.{HasNoText, HasFalse, HasValid}
-use Rattle.check_run.specs.Answer.{Answer, IsAnswer, refused_with, report_answer, report_of}
+use Rattle.check_run.specs.Run.{Judges}
+use Rattle.check_run.specs.Answer.{Answer, IsAnswer, refused_with, text_answer, report_of}
 use Rattle.check_run.specs.Laws.{CheckAnswerIsUnique}
 
 -- A text holds one certificate, which is valid or not.
@@ -29,9 +33,13 @@ false-valid {bytes} {text} f v =
 two-answers : {bytes text : List ℕ} {asked : Option Asked} {one other : Answer} → IsAnswer bytes text asked one → IsAnswer bytes text asked other → one ≡ other
 two-answers IsAnswer.usage IsAnswer.usage = refl
 two-answers (IsAnswer.malformed {fault = f} x) (IsAnswer.malformed {fault = g} y) = ap (λ (fault : Fault). refused_with (refusals.Malformed fault)) (same_Some f g (sym x ∙ y))
+two-answers (IsAnswer.malformed {fault = f} x) (IsAnswer.made y _) = absurd (none-some f (sym y ∙ x))
 two-answers (IsAnswer.malformed {fault = f} x) (IsAnswer.no_text y) = absurd (none-some f (sym y.accepted ∙ x))
 two-answers (IsAnswer.malformed {fault = f} x) (IsAnswer.refused y) = absurd (none-some f (sym y.accepted ∙ x))
 two-answers (IsAnswer.malformed {fault = f} x) (IsAnswer.done y _) = absurd (none-some f (sym y.accepted ∙ x))
+two-answers (IsAnswer.made x _) (IsAnswer.malformed {fault = g} y) = absurd (none-some g (sym x ∙ y))
+two-answers {bytes} (IsAnswer.made {canonical = c} _ z) (IsAnswer.made {canonical = d} _ w) =
+    ap (λ (canonical : Certificate). text_answer (certificate_text canonical)) (canonical-unique bytes c d z w)
 two-answers (IsAnswer.no_text x) (IsAnswer.malformed {fault = g} y) = absurd (none-some g (sym x.accepted ∙ y))
 two-answers (IsAnswer.no_text x) (IsAnswer.no_text y) = refl
 two-answers (IsAnswer.no_text x) (IsAnswer.refused y) = absurd (none-held x y)
@@ -44,26 +52,34 @@ two-answers (IsAnswer.done x _) (IsAnswer.malformed {fault = g} y) = absurd (non
 two-answers (IsAnswer.done x _) (IsAnswer.no_text y) = absurd (none-valid y x)
 two-answers (IsAnswer.done x _) (IsAnswer.refused y) = absurd (false-valid y x)
 two-answers {bytes} (IsAnswer.done {graph = g} _ z) (IsAnswer.done {graph = h} _ w) =
-    ap (λ (graph : Graph). report_answer (report_of bytes graph)) (graph-unique bytes g h z w)
+    ap (λ (graph : Graph). text_answer (report_of bytes graph)) (graph-unique bytes g h z w)
 
 pub answer-unique : CheckAnswerIsUnique
 answer-unique bytes text asked one other is are = two-answers is are
 
--- Which status an answer has tells what the certificate is.
-pub tells-no-text : {bytes text : List ℕ} {a : Asked} {answer : Answer} → IsAnswer bytes text (Some a) answer → (answer.status ≡ statuses.NoText) ↔ HasNoText bytes text
-tells-no-text (IsAnswer.malformed {fault = f} x) = (λ no. absurd (cc), λ n. absurd (none-some f (sym n.accepted ∙ x)))
+-- A certificate is made exactly of a file that has no fault.
+pub tells-made : {bytes text path : List ℕ} {answer : Answer} → IsAnswer bytes text (Some (of_make path)) answer → (answer.status ≡ statuses.Done) ↔ (first_fault bytes ≡ None)
+tells-made (IsAnswer.malformed {fault = f} x) = (λ is. absurd (cc), λ accepted. absurd (none-some f (sym accepted ∙ x)))
+tells-made (IsAnswer.made x _) = (λ _. x, λ _. refl)
+
+-- Which status the answer to a test has tells what the certificate is.
+tells-no-text : {bytes text path other : List ℕ} {answer : Answer} → IsAnswer bytes text (Some (of_test path other)) answer → (answer.status ≡ statuses.NoText) ↔ HasNoText bytes text
+tells-no-text (IsAnswer.malformed {fault = f} x) = (λ is. absurd (cc), λ n. absurd (none-some f (sym n.accepted ∙ x)))
 tells-no-text (IsAnswer.no_text x) = (λ _. x, λ _. refl)
-tells-no-text (IsAnswer.refused x) = (λ no. absurd (cc), λ n. absurd (none-held n x))
-tells-no-text (IsAnswer.done x _) = (λ no. absurd (cc), λ n. absurd (none-valid n x))
+tells-no-text (IsAnswer.refused x) = (λ is. absurd (cc), λ n. absurd (none-held n x))
+tells-no-text (IsAnswer.done x _) = (λ is. absurd (cc), λ n. absurd (none-valid n x))
 
-pub tells-refused : {bytes text : List ℕ} {a : Asked} {answer : Answer} → IsAnswer bytes text (Some a) answer → (answer.status ≡ statuses.Refused) ↔ HasFalse bytes text
-tells-refused (IsAnswer.malformed {fault = f} x) = (λ no. absurd (cc), λ n. absurd (none-some f (sym n.accepted ∙ x)))
-tells-refused (IsAnswer.no_text x) = (λ no. absurd (cc), λ n. absurd (none-held x n))
+tells-refused : {bytes text path other : List ℕ} {answer : Answer} → IsAnswer bytes text (Some (of_test path other)) answer → (answer.status ≡ statuses.Refused) ↔ HasFalse bytes text
+tells-refused (IsAnswer.malformed {fault = f} x) = (λ is. absurd (cc), λ n. absurd (none-some f (sym n.accepted ∙ x)))
+tells-refused (IsAnswer.no_text x) = (λ is. absurd (cc), λ n. absurd (none-held x n))
 tells-refused (IsAnswer.refused x) = (λ _. x, λ _. refl)
-tells-refused (IsAnswer.done x _) = (λ no. absurd (cc), λ n. absurd (false-valid n x))
+tells-refused (IsAnswer.done x _) = (λ is. absurd (cc), λ n. absurd (false-valid n x))
 
-pub tells-done : {bytes text : List ℕ} {a : Asked} {answer : Answer} → IsAnswer bytes text (Some a) answer → (answer.status ≡ statuses.Done) ↔ HasValid bytes text
-tells-done (IsAnswer.malformed {fault = f} x) = (λ no. absurd (cc), λ n. absurd (none-some f (sym n.accepted ∙ x)))
-tells-done (IsAnswer.no_text x) = (λ no. absurd (cc), λ n. absurd (none-valid x n))
-tells-done (IsAnswer.refused x) = (λ no. absurd (cc), λ n. absurd (false-valid x n))
+tells-done : {bytes text path other : List ℕ} {answer : Answer} → IsAnswer bytes text (Some (of_test path other)) answer → (answer.status ≡ statuses.Done) ↔ HasValid bytes text
+tells-done (IsAnswer.malformed {fault = f} x) = (λ is. absurd (cc), λ n. absurd (none-some f (sym n.accepted ∙ x)))
+tells-done (IsAnswer.no_text x) = (λ is. absurd (cc), λ n. absurd (none-valid x n))
+tells-done (IsAnswer.refused x) = (λ is. absurd (cc), λ n. absurd (false-valid x n))
 tells-done (IsAnswer.done x _) = (λ _. x, λ _. refl)
+
+pub judges : {bytes text path other : List ℕ} {answer : Answer} → IsAnswer bytes text (Some (of_test path other)) answer → Judges bytes text answer.status
+judges is = record { no_text = tells-no-text is; refused = tells-refused is; done = tells-done is }

@@ -4,10 +4,11 @@ use Rattle.elf_image.specs.Faults.{first_fault}
 use Rattle.cert_text.specs.declared.certificate.Certificate.{Certificate}
 use Rattle.cert_text.specs.Text.{IsTextOf}
 use Rattle.cert_files.specs.FileCertificate.{IsCertificateOf}
+use Rattle.check_run.specs.declared.reading.TheConstants.{CERTIFICATE_LIMIT}
 
--- These bytes, at most 1 GiB of them, are the text of this certificate.
+-- These bytes, no more of them than are read, are the text of this certificate.
 pub record Holds (text : List ℕ) (certificate : Certificate) : Type 0 where
-  pub size : length text ≤ 1073741824
+  pub size : length text ≤ CERTIFICATE_LIMIT
   pub is_text : IsTextOf text certificate
 
 -- The file has no fault, and the bytes hold no certificate.

@@ -4,6 +4,8 @@ pub mod Refusal
 pub mod Lines
 pub mod Evidence
 pub mod Answer
+pub mod Text
 pub mod Run
+pub mod Inputs
 pub mod Laws
 pub mod Inner

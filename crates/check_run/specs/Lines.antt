@@ -9,7 +9,7 @@ use Rattle.check_run.specs.declared.refusal.Refusal.TheVariants.{Refused}
 
 -- What the line says after the program's name.
 abbrev pub text_of : Refusal → List ℕ
-text_of Usage = codes "usage: cfg_check test FILE CERT"
+text_of Usage = codes "usage: cfg_check make FILE | cfg_check test FILE CERT"
 text_of (Malformed fault) = codes "malformed: "
 text_of ReadFault = codes "read fault"
 text_of WriteFault = codes "write fault"

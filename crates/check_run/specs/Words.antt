@@ -3,25 +3,41 @@ use Rattle.std.specs.Prelude.{ℕ, List, [], ◌∷◌, Option, Some, None, Stri
 use Rattle.std.specs.Prelude.{codes, if◌then◌else◌}
 use Rattle.std.specs.Str.{bytes_eq}
 
--- What is asked for: a test of the file at one path by the certificate at another.
+-- What is asked for: the certificate of the file at one path, or a test of it by the certificate at
+-- another.
 pub data Asked : Type 0 where
+  of_make : List ℕ → Asked
   of_test : List ℕ → List ℕ → Asked
 
--- The test of four words: the program's name, `test`, FILE and CERT. Other words ask for nothing.
-abbrev pub test_by : List (List ℕ) → Option Asked
-test_by [] = None
-test_by (program ∷ []) = None
-test_by (program ∷ command ∷ []) = None
-test_by (program ∷ command ∷ file ∷ []) = None
-test_by (program ∷ command ∷ file ∷ certificate ∷ []) =
+-- Three words ask for a certificate: the program's name, `make` and FILE. Four ask for a test: the
+-- program's name, `test`, FILE and CERT. Other words ask for nothing.
+abbrev pub request_by : List (List ℕ) → Option Asked
+request_by [] = None
+request_by (program ∷ []) = None
+request_by (program ∷ command ∷ []) = None
+request_by (program ∷ command ∷ file ∷ []) =
+    if bytes_eq command (codes "make") then Some (of_make file) else None
+request_by (program ∷ command ∷ file ∷ certificate ∷ []) =
     if bytes_eq command (codes "test") then Some (of_test file certificate) else None
-test_by (program ∷ command ∷ file ∷ certificate ∷ word ∷ words) = None
+request_by (program ∷ command ∷ file ∷ certificate ∷ word ∷ words) = None
 
 -- What the words ask for; nothing if they are refused.
 abbrev pub asked_by : {A : Type 0} → List (String A) → Option Asked
-asked_by words = test_by (map (λ w. string_bytes w) words)
+asked_by words = request_by (map (λ w. string_bytes w) words)
 
--- A test is asked for.
+-- A file is asked for, by either form of the words.
+abbrev pub AsksFile : Option Asked → Type 0
+AsksFile None = ⊥
+AsksFile (Some asked) = Unit {0}
+
+-- A certificate is asked for.
+abbrev pub AsksMake : Option Asked → Type 0
+AsksMake None = ⊥
+AsksMake (Some (of_make file)) = Unit {0}
+AsksMake (Some (of_test file certificate)) = ⊥
+
+-- A test by a certificate is asked for.
 abbrev pub AsksTest : Option Asked → Type 0
 AsksTest None = ⊥
-AsksTest (Some asked) = Unit {0}
+AsksTest (Some (of_make file)) = ⊥
+AsksTest (Some (of_test file certificate)) = Unit {0}

@@ -1,7 +1,8 @@
-//! Why a run wrote no whole report, and the line that tells it.
+//! Why a run wrote no whole text, and the line that tells it.
 
 ghost use Rattle.std.specs.Prelude.{◌≡◌};
 ghost use Rattle.cfg_io.specs.Fault.{Rose};
+ghost use Rattle.check_run.specs.declared.refusal.Refusal.TheVariants as refusals;
 ghost use Rattle.check_run.specs.Refusal.{status_of, refusal_of, refusal_of_file};
 ghost use Rattle.check_run.specs.Refusal.{refusal_of_certificate, refusal_of_text};
 ghost use Rattle.check_run.specs.Refusal.{refusal_of_check};
@@ -15,7 +16,7 @@ use cfg_io::Sink;
 use elf_image::{ElfError, Fault};
 use run_ends::{Unread, tell};
 
-/// Why a run wrote no whole report.
+/// Why a run wrote no whole text.
 #[derive(Clone, Copy, Debug, PartialEq, Eq)]
 pub enum Refusal {
     Usage,
@@ -35,6 +36,14 @@ impl From<ElfError> for Refusal {
             ElfError::Malformed(fault) => Refusal::Malformed(fault),
             ElfError::Memory => Refusal::Memory,
         }
+    }
+}
+
+impl From<cfg_model::Memory> for Refusal {
+    ghost from_gives = { λ _ r. r ≡ refusals.Memory };
+
+    fn from(_: cfg_model::Memory) -> Self {
+        Refusal::Memory
     }
 }
 
@@ -103,7 +112,7 @@ impl Refusal {
         ensures { result.now ≡ text_of self.now }
     {
         match self {
-            Refusal::Usage => "usage: cfg_check test FILE CERT",
+            Refusal::Usage => "usage: cfg_check make FILE | cfg_check test FILE CERT",
             Refusal::Malformed(_) => "malformed: ",
             Refusal::ReadFault => "read fault",
             Refusal::WriteFault => "write fault",

@@ -4,12 +4,14 @@ ghost use Rattle.std.specs.Prelude.{◌≡◌, Some, None, IfOk, IfErr, OnOk};
 ghost use Rattle.elf_image.specs.Faults.{first_fault};
 ghost use Rattle.elf_image.specs.Outcome.{IfMalformed};
 ghost use Rattle.cert_files.specs.FileCertificate.{IsCertificateOf};
-ghost use Rattle.check_run.specs.Inner.{IsReportOf, IsTrueOfCheck};
+ghost use Rattle.check_run.specs.Inner.{IsTrueOfCheck};
+ghost use Rattle.check_run.specs.Text.{IsCanonicalText, IsReportOf};
 
 use crate::refusal::Refusal;
 use crate::report::GraphReport;
 use cert_graph::check;
-use cert_text::Certificate;
+use cert_text::{Certificate, print};
+use certify::file_certificate;
 use elf_image::{ElfError, Image};
 use elf_symbols::{Seeds, seeds};
 use std::alloc::Global;
@@ -46,6 +48,17 @@ impl SeededFile {
         let image = Image::parse(alloc, bytes)?;
         let seeds = seeds(alloc, &image)?;
         Ok(SeededFile { image, seeds })
+    }
+
+    /// The text of the file's canonical certificate.
+    ///
+    /// No refusal comes but [`Refusal::Memory`].
+    pub fn canonical(&self, alloc: Global) -> Result<Vec<u8>, Refusal>
+        ensures text { IfOk result (λ text. IsCanonicalText self.now text.items) }
+        ensures memory { IfErr result (λ refusal. refusal ≡ Refusal.Memory) }
+    {
+        let certificate = file_certificate(alloc, &self.image, &self.seeds)?;
+        Ok(print(alloc, &certificate)?)
     }
 
     /// The report of the file's graph, if the certificate is valid for the file.

@@ -6,7 +6,8 @@ ghost use Rattle.check_run.specs.Status.{number_of};
 /// How a run ends. Its number is the program's exit status.
 #[derive(Clone, Copy, Debug, PartialEq, Eq)]
 pub enum CheckStatus {
-    /// The certificate is valid, and the report of the file's graph was written whole.
+    /// The certificate of the file was written whole; or the one that was tested is valid, and the
+    /// report of the file's graph was written whole.
     Done,
     /// The words were not understood.
     Usage,
@@ -14,7 +15,7 @@ pub enum CheckStatus {
     Malformed,
     /// The file or the certificate could not be opened, or reading it failed.
     ReadFault,
-    /// Writing the report failed.
+    /// Writing the certificate or the report failed.
     WriteFault,
     /// Memory ran out.
     Memory,

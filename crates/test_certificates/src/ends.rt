@@ -2,18 +2,19 @@
 
 ghost use Rattle.std.specs.Prelude.{All, IsSome, IsTrue};
 
-use cert_ends::{ends_of, leads_are_closed, returns_are_closed, returns_end, returns_have_reasons};
-use cert_places::part_rises;
+use crate::numbered::{ByAddress, by_address};
+use cert_ends::{ends_of, returns_are_closed, returns_end, returns_have_reasons};
+use cert_places::{NumberedReturns, part_rises};
 use cert_text::{LeadLine, LeadLines, LeadWhy, Part, ReturnLine, ReturnLines, ReturnWhy};
 use cfg_model::{Chains, Flow, Memory};
+use reached_terms::Numbered;
 use std::alloc::Global;
 use std::process::Abort;
 use test_programs::{Sample, row_8, row_10, table_jump};
 
-/// What the four deciders say of a part.
+/// What the three deciders say of a part.
 #[derive(Clone, Copy, Debug, PartialEq, Eq)]
 struct Says {
-    leads_closed: bool,
     returns_end: bool,
     reasons: bool,
     returns_closed: bool,
@@ -21,7 +22,6 @@ struct Says {
 
 /// A part in which nothing is wrong.
 const RIGHT: Says = Says {
-    leads_closed: true,
     returns_end: true,
     reasons: true,
     returns_closed: true,
@@ -92,25 +92,25 @@ fn leads_stand<C: Chains>(code: &C, leads: &[LeadLine]) -> bool
 }
 
 /// What the deciders say of a part that rises and whose addresses are code; nothing of another one.
-fn asked<C: Chains>(alloc: Global, code: &C, part: &Part) -> Result<Option<Says>, Memory> {
+fn asked<C: Numbered>(alloc: Global, code: &C, part: &Part) -> Result<Option<Says>, Memory> {
     let stands = returns_stand(code, part.returns.as_slice())
         && leads_stand(code, part.leads.as_slice());
     if !part_rises(part) || !stands {
         return Ok(None);
     }
+    let returns = NumberedReturns::new(alloc, code, part.returns.as_slice())?;
     let ends = ends_of(alloc, code, part.leads.as_slice())?;
     Ok(Some(Says {
-        leads_closed: leads_are_closed(alloc, code, part, ends.as_slice())?,
         returns_end: returns_end(code, part, ends.as_slice()),
-        reasons: returns_have_reasons(alloc, code, part)?,
-        returns_closed: returns_are_closed(alloc, code, part, ends.as_slice())?,
+        reasons: returns_have_reasons(alloc, code, part, &returns)?,
+        returns_closed: returns_are_closed(alloc, code, part, &returns, ends.as_slice())?,
     }))
 }
 
 /// Compares what the deciders say of the part of these leaders and returns.
 fn expect(
     rt: &(impl Abort + AllocGlobal),
-    code: &Sample,
+    code: &ByAddress,
     leads: &[u64],
     returns: &[ReturnLine],
     wanted: Says,
@@ -124,12 +124,13 @@ fn expect(
 /// Row 38, a return alone, and what is wrong without its line.
 #[test]
 fn one_return(rt: HostRuntime) -> Result<(), Memory> {
-    let code = Sample {
+    let sample = Sample {
         alloc: rt.alloc(),
         slots: &[Some((4, Flow::Return))],
         targets: &[],
         seeds: &[0],
     };
+    let code = by_address(&rt, sample);
     expect(&rt, &code, &[0], &[itself(0)], RIGHT)?;
     let missed = Says {
         returns_closed: false,
@@ -146,25 +147,19 @@ fn one_return(rt: HostRuntime) -> Result<(), Memory> {
 /// Row 39, two streams that join before a branch.
 #[test]
 fn joining_streams(rt: HostRuntime) -> Result<(), Memory> {
-    let code = row_8(rt.alloc());
+    let code = by_address(&rt, row_8(rt.alloc()));
     let returns = [to(4, 1, 8), itself(8)];
     expect(&rt, &code, &[0, 2, 4, 8], &returns, RIGHT)?;
     // The line of the join is not missed here: its block ends as the others do.
     expect(&rt, &code, &[0, 2, 8], &returns, RIGHT)
 }
 
-/// Row 39 with one leader less, where a branch leads to it.
+/// Row 39 with one leader less, whose chain alone ends in a return.
 #[test]
-fn leaders_missed(rt: HostRuntime) -> Result<(), Memory> {
-    let code = row_8(rt.alloc());
+fn leader_missed(rt: HostRuntime) -> Result<(), Memory> {
+    let code = by_address(&rt, row_8(rt.alloc()));
     let returns = [to(4, 1, 8), itself(8)];
-    let missed = Says {
-        leads_closed: false,
-        ..RIGHT
-    };
-    expect(&rt, &code, &[0, 4, 8], &returns, missed)?;
     let no_end = Says {
-        leads_closed: false,
         returns_end: false,
         ..RIGHT
     };
@@ -174,7 +169,7 @@ fn leaders_missed(rt: HostRuntime) -> Result<(), Memory> {
 /// Row 39 with other returns.
 #[test]
 fn returns_spoilt(rt: HostRuntime) -> Result<(), Memory> {
-    let code = row_8(rt.alloc());
+    let code = by_address(&rt, row_8(rt.alloc()));
     let leads = [0, 2, 4, 8];
     let reasonless = Says {
         reasons: false,
@@ -206,7 +201,7 @@ fn returns_spoilt(rt: HostRuntime) -> Result<(), Memory> {
 /// a listed return.
 #[test]
 fn calls(rt: HostRuntime) -> Result<(), Memory> {
-    let code = row_10(rt.alloc());
+    let code = by_address(&rt, row_10(rt.alloc()));
     let leads = [0, 4, 8, 12, 16];
     let returns = [
         to(0, 1, 8),
@@ -217,7 +212,6 @@ fn calls(rt: HostRuntime) -> Result<(), Memory> {
     ];
     expect(&rt, &code, &leads, &returns, RIGHT)?;
     let no_fall = Says {
-        leads_closed: false,
         returns_end: false,
         ..RIGHT
     };
@@ -242,17 +236,12 @@ fn calls(rt: HostRuntime) -> Result<(), Memory> {
     expect(&rt, &code, &leads, &too_low, reasonless)
 }
 
-/// A table jump: each of its targets is asked for.
+/// A table jump: it returns through one of its targets.
 #[test]
 fn table_targets(rt: HostRuntime) -> Result<(), Memory> {
-    let code = table_jump(rt.alloc());
+    let code = by_address(&rt, table_jump(rt.alloc()));
     let returns = [to(0, 1, 2), itself(2)];
     expect(&rt, &code, &[0, 2, 4], &returns, RIGHT)?;
-    let missed = Says {
-        leads_closed: false,
-        ..RIGHT
-    };
-    expect(&rt, &code, &[0, 2], &returns, missed)?;
     let unlisted = Says {
         returns_closed: false,
         ..RIGHT

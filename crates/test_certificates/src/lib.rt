@@ -2,12 +2,21 @@
 //! second time for its tests.
 //!
 //! - `ends`: worked certificates, and what is said where one thing of them is spoilt.
+//! - `files`: the canonical certificates of worked files.
+//! - `leads`: parts that are valid, and the same without one leader.
+//! - `numbered`: programs given as lists, with numbers for their addresses.
 //! - `parts`: worked certificates of files, and the same spoilt in one place each.
 //! - `text`: texts that are read and printed again, and texts of no certificate.
 #![tactic(auto)]
 
 #[cfg(test)]
 mod ends;
+#[cfg(test)]
+mod files;
+#[cfg(test)]
+mod leads;
+#[cfg(test)]
+mod numbered;
 #[cfg(test)]
 mod parts;
 #[cfg(test)]

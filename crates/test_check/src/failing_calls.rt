@@ -1,6 +1,6 @@
 //! Calls of the inputs and of the sinks that fail.
 
-use crate::one_run::{PLAIN, REPORT_1, ROW_1, Streams, TEST, gives, left_by, row_1};
+use crate::one_run::{MAKE, PLAIN, REPORT_1, ROW_1, Streams, TEST, gives, left_by, row_1};
 use check_run::CheckStatus;
 use std::test::Fail;
 
@@ -18,6 +18,27 @@ fn each_read_of_the_file_failing(rt: HostRuntime) -> Result<(), Fail> {
         gives(&rt, &TEST, row_1(rt.alloc())?, ROW_1, streams, want)?;
     }
     Ok(())
+}
+
+/// The same of a run that makes the certificate. Whether the certificate's input would fail does not
+/// count.
+#[test]
+fn each_read_of_a_certified_file_failing(rt: HostRuntime) -> Result<(), Fail> {
+    let want = (CheckStatus::ReadFault, "", "cfg_check: read fault\n");
+    for call in 1..=19u64 {
+        let streams = Streams {
+            most_read: 16,
+            failing_file: call,
+            ..PLAIN
+        };
+        gives(&rt, &MAKE, row_1(rt.alloc())?, "", streams, want)?;
+    }
+    let streams = Streams {
+        failing_certificate: 1,
+        ..PLAIN
+    };
+    let want = (CheckStatus::Done, ROW_1, "");
+    gives(&rt, &MAKE, row_1(rt.alloc())?, "", streams, want)
 }
 
 /// Its certificate has 82 bytes: six reads, one that tells the end, and the call of `open`.
@@ -44,9 +65,33 @@ fn each_write_failing(rt: HostRuntime) -> Result<(), Fail> {
             failing_write: call,
             ..PLAIN
         };
-        let left = left_by(rt.alloc(), &TEST, row_1(rt.alloc())?, ROW_1, streams)?;
+        let left = left_by(
+            rt.alloc(),
+            &TEST,
+            row_1(rt.alloc())?,
+            ROW_1.as_bytes(),
+            streams,
+        )?;
         assert_eq!(rt; left.status, CheckStatus::WriteFault);
         let front = REPORT_1.as_bytes().get(..16 * (call as usize - 1));
+        assert!(rt; front == Some(left.out.bytes()));
+        assert_eq!(rt; left.err.bytes(), b"cfg_check: write fault\n".as_slice());
+    }
+    Ok(())
+}
+
+/// The same of a certificate, which has 82 bytes.
+#[test]
+fn each_write_of_a_certificate_failing(rt: HostRuntime) -> Result<(), Fail> {
+    for call in 1..=6u64 {
+        let streams = Streams {
+            most_written: 16,
+            failing_write: call,
+            ..PLAIN
+        };
+        let left = left_by(rt.alloc(), &MAKE, row_1(rt.alloc())?, b"", streams)?;
+        assert_eq!(rt; left.status, CheckStatus::WriteFault);
+        let front = ROW_1.as_bytes().get(..16 * (call as usize - 1));
         assert!(rt; front == Some(left.out.bytes()));
         assert_eq!(rt; left.err.bytes(), b"cfg_check: write fault\n".as_slice());
     }

@@ -48,7 +48,7 @@ pub(crate) fn left_by(
     alloc: Global,
     words: &[&str],
     bytes: Vec<u8>,
-    text: &str,
+    text: &[u8],
     streams: Streams,
 ) -> Result<Left, Fail> {
     let mut all = vec![in alloc; "cfg_check".to_string(alloc)?]?;
@@ -58,7 +58,7 @@ pub(crate) fn left_by(
     let most = streams.most_read.max(1);
     let failing = vec![in alloc; streams.failing_file]?;
     let mut file = MemInput::new("F".to_string(alloc)?, bytes, most, failing);
-    let text = Vec::from_slice(alloc, text.as_bytes())?;
+    let text = Vec::from_slice(alloc, text)?;
     let failing = vec![in alloc; streams.failing_certificate]?;
     let mut certificate = MemInput::new("C".to_string(alloc)?, text, most, failing);
     let failing = vec![in alloc; streams.failing_write]?;
@@ -78,12 +78,15 @@ pub(crate) fn gives(
     streams: Streams,
     (status, out, err): (CheckStatus, &str, &str),
 ) -> Result<(), Fail> {
-    let left = left_by(rt.alloc(), words, bytes, text, streams)?;
+    let left = left_by(rt.alloc(), words, bytes, text.as_bytes(), streams)?;
     assert_eq!(rt; left.status, status, "{words:?} {text}");
     assert_eq!(rt; left.out.bytes(), out.as_bytes(), "{words:?} {text}");
     assert_eq!(rt; left.err.bytes(), err.as_bytes(), "{words:?} {text}");
     Ok(())
 }
+
+/// The words that ask for the certificate of the file.
+pub(crate) const MAKE: [&str; 2] = ["make", "F"];
 
 /// The words of a test of the file by the certificate.
 pub(crate) const TEST: [&str; 3] = ["test", "F", "C"];

@@ -1,7 +1,7 @@
 -- The blocks of the listed leaders, and whose block an address lies in.
 use Rattle.std.specs.Prelude.{◌≡◌, ℕ, ◌<◌, ◌^◌, ◌≢◌, List, length, slice_index_or, Option, Some, None, IsSome}
 use Rattle.std.specs.Option.{MatchOption}
-use Rattle.cfg_model.specs.Program.Instructions.{InstructionMap}
+use Rattle.cfg_model.specs.Program.Instructions.{InstructionMap, flow_at}
 use Rattle.cfg_model.specs.Program.Chain.{GoesOnTo, IsTerminator}
 use Rattle.cfg_model.specs.Graph.Block.{RunsTo, IsLastOf}
 use Rattle.reached_terms.specs.Numbering.{IsNumbering}
@@ -40,12 +40,14 @@ GoesInto map leads last into =
     MatchOption into (IsTerminator map last)
     (λ j. (next : ℕ) × IsPlace leads j next × GoesOnTo map last next)
 
--- This is the block of the leader at this place: its last address, and where it goes on.
+-- This is the block of the leader at this place: its last address, the flow there, and where it goes
+-- on.
 pub record IsRun (map : InstructionMap) (leads : List LeadLine) (i : ℕ) (run : Run) : Type 0 where
   pub start : ℕ
   pub place : IsPlace leads i start
   pub last : IsLastOf map (IsLead leads) start run.last
   pub into : GoesInto map leads run.last run.into
+  pub flow : flow_at map run.last ≡ Some run.flow
 
 -- These are the blocks of all leaders, by their places.
 pub record AreRuns (map : InstructionMap) (leads : List LeadLine) (runs : List Run) : Type 0 where

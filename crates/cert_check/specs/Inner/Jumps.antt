@@ -1,11 +1,12 @@
 -- Which block comes after which, by their places.
 use Rattle.std.specs.Prelude.{◌≡◌, ℕ, ◌<◌, ◌≤◌, List, length, slice_index_or, Option, Some, None}
+use Rattle.cfg_model.specs.declared.flow.Flow.TheVariants.{Straight}
 use Rattle.cert_check.specs.declared.blocks.Run.{Run}
 use Rattle.cert_check.specs.declared.jumps.Jump.{Jump}
 
 -- Where the block at a place goes on.
 abbrev pub into_of : List Run → ℕ → Option ℕ
-into_of runs i = (slice_index_or runs i (record { last = 0; into = None })).into
+into_of runs i = (slice_index_or runs i (record { last = 0; into = None; flow = Straight 0 })).into
 
 -- The block at place j comes after that at place i, or is the same.
 pub data LeadsAlong (runs : List Run) : ℕ → ℕ → Type 0 where

@@ -13,10 +13,9 @@ pub record AreFormed (map : InstructionMap) (seeds : List ℕ) (part : Part) : T
   pub in_code : AreInCode map part
   pub seeds_lead : All (IsLead part.leads) seeds
 
--- The part is right about the ends of its leaders' chains.
+-- The part is right about which ends of its leaders' chains return.
 pub record EndsAreRight (map : InstructionMap) (part : Part) : Type 0 where
   pub returns_end : ReturnsEnd map part
-  pub leads_closed : LeadsAreClosed map part
   pub returns : ReturnsHaveReasons map part
   pub returns_closed : ReturnsAreClosed map part
 
@@ -25,7 +24,12 @@ abbrev pub HaveReasons : InstructionMap → List ℕ → Part → Type 0
 HaveReasons map seeds part =
     All (λ line. LeadsBy map seeds part line.rank line.at line.why) part.leads
 
--- Blocks share no address, and the reason of each leader holds.
+-- No leader is missing, and the reason of each holds.
+pub record LeadsAreRight (map : InstructionMap) (seeds : List ℕ) (part : Part) : Type 0 where
+  pub closed : LeadsAreClosed map part
+  pub reasons : HaveReasons map seeds part
+
+-- Besides, the blocks share no address.
 pub record LeadersAreRight (map : InstructionMap) (seeds : List ℕ) (part : Part) : Type 0 where
   pub apart : BlocksAreApart map part.leads
-  pub leads : HaveReasons map seeds part
+  pub leads : LeadsAreRight map seeds part

@@ -5,8 +5,8 @@ use Rattle.cert_check.specs.Inner.Blocks.{owner_by}
 use Rattle.cert_check.proofs.Walked.{IsWalked}
 use Rattle.cert_check.proofs.blocks.walk.Given as goal
 
-abbrev pub invariant-loop-behind : goal.invariant-loop-behind
-invariant-loop-behind g l = record {
+abbrev pub invariant-loop-flow : goal.invariant-loop-flow
+invariant-loop-flow g l = record {
   kept : length l.owners.places.items ≡ length l.initial.owners.places.items;
   walked : IsWalked (g.C.Chains.map l.code) l.leads (owner_by (g.C.Numbered.number l.code) l.owners.places.items) l.i l.at;
   stands : IsSome (g.C.Chains.map l.code l.at);
@@ -14,5 +14,5 @@ invariant-loop-behind g l = record {
   passed : (k : ℕ) (d : LeadLine) → k < l.ahead → (get_or l.leads k d).at ≤ l.at;
 }
 
-abbrev pub decreases-loop-behind : goal.decreases-loop-behind
-decreases-loop-behind g l = 2 ^ 64 - l.at
+abbrev pub decreases-loop-flow : goal.decreases-loop-flow
+decreases-loop-flow g l = 2 ^ 64 - l.at

@@ -10,7 +10,7 @@ pub returns : goal.returns
 returns g c =
     let map = g.C.Chains.map c.args.code.now in
     Gains-same c.args.edges.now.items c.add_edges_by.new.edges.items
-    (Leaves map (λ _. IsTrue c.callee_returns-back.result) c.args.s c.args.k) (Leaves map (EndsIn map (IsReturn c.args.returns.now)) c.args.s c.args.k)
+    (Leaves map (λ _. IsTrue c.callee_returns-back.result) c.args.s c.args.k) (Leaves map (EndsIn map (IsReturn c.args.returns.now.lines.now)) c.args.s c.args.k)
     (λ edge way. record { from = way.from; leads = leads_same (λ target fall call back. (c.callee_returns-back.ensures target fall call).0 back) way.leads })
     (λ edge way. record { from = way.from; leads = leads_same (λ target fall call back. (c.callee_returns-back.ensures target fall call).1 back) way.leads })
     c.in_ok-add_edges_by.ensures

@@ -4,13 +4,13 @@ use Rattle.cert_check.proofs.edges.edges_of.Goals as goal
 
 pub loop-i-preserved : goal.loop-i-preserved
 loop-i-preserved g c =
-    more_gained (g.C.Chains.map c.args.code.now) c.args.leads.now c.args.returns.now c.args.runs.now c.loop-i.i c.loop-i.edges.items c.add_ways.new.edges.items _ _ c.loop-i.invariant refl refl c.in_ok-add_ways.ensures
+    more_gained (g.C.Chains.map c.args.code.now) c.args.leads.now c.args.returns.now.lines.now c.args.runs.now c.loop-i.i c.loop-i.edges.items c.add_ways.new.edges.items _ _ c.loop-i.invariant refl refl c.in_ok-add_ways.ensures
 
 pub returns : goal.returns
 returns g c =
     let map = g.C.Chains.map c.args.code.now in
     let leads = c.args.leads.now in
-    let returns = c.args.returns.now in
+    let returns = c.args.returns.now.lines.now in
     let runs = c.args.runs.now in
     let edges = c.loop-i.edges.items in
     record {

@@ -1,7 +1,6 @@
-use Rattle.std.proofs.Common.{◌∙◌, List, length, get_or, refl, sym, ap, subst, arith}
+use Rattle.std.proofs.Common.{◌∙◌, List, length, get_or, refl, sym, ap, arith}
 use Rattle.reached_terms.proofs.Complete.{ends_stand}
 use Rattle.cert_text.specs.declared.lines.LeadLine.{LeadLine}
-use Rattle.cert_laws.specs.Lines.{IsLeadBelow}
 use Rattle.cert_places.proofs.Placed.{no_lead}
 use Rattle.cert_check.proofs.Each.{false_true}
 use Rattle.cert_check.proofs.Reasoned.{ends_owned, from_edges}
@@ -19,7 +18,7 @@ returns-in-Some g c =
     let map = g.C.Chains.map c.args.code.now in
     let known = ends_stand (map c.term.result) c.term.ensures.term.ends in
     from_edges map (g.C.Numbered.number c.args.code.now) c.args.reasons.now c.requires c.args.rank c.args.lead c.args.a c.term.result
-    (subst (λ (leads : List LeadLine). IsLeadBelow leads c.args.rank c.args.lead) c.as_slice-leads.ensures (c.if-not-is_lead_below.ensures.0 refl))
+    (c.if-not-is_lead_below.ensures.0 refl)
     c.term.ensures.term c.has_edge.result c.in-Some.i (get_or c.as_slice-leads.result.now c.in-Some.i no_lead).at known (sym c.in-Some.ensures)
     (λ start place. ap (λ (leads : List LeadLine). (get_or leads c.in-Some.i no_lead).at) c.as_slice-leads.ensures ∙ place.address no_lead)
     c.has_edge.ensures

@@ -10,8 +10,8 @@ loop-i-init g c =
 
 pub loop-i-preserved : goal.loop-i-preserved
 loop-i-preserved g c =
-    more_made (g.C.Chains.map c.args.code.now) c.args.leads.now c.args.runs.now c.loop-i.i c.loop-i.blocks.items _ c.block_of.result _ _ (omega (arith, c.loop-i-test.true, c.requires.runs.as_many)) c.loop-i-test.true refl refl
-    c.loop-i.invariant c.in_ok-push.ensures.items c.block_of.ensures.block
+    more_made (g.C.Chains.map c.args.code.now) c.args.leads.now c.args.runs.now c.loop-i.i c.loop-i.blocks.items _ c.block_by.result _ _ (omega (arith, c.loop-i-test.true, c.requires.runs.as_many)) c.loop-i-test.true refl refl
+    c.loop-i.invariant c.in_ok-push.ensures.items c.block_by.ensures.block
 
 pub returns : goal.returns
 returns g c =

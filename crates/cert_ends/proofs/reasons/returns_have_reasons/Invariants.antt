@@ -6,5 +6,5 @@ use Rattle.cert_ends.proofs.reasons.returns_have_reasons.Given as goal
 
 abbrev pub invariant-loop-line : goal.invariant-loop-line
 invariant-loop-line g l =
-    All (λ line. ReturnsBy (g.C.Chains.map l.code) (IsReturnBelow l.returns line.rank) line.at line.why)
-    (take l.line-index l.returns)
+    All (λ line. ReturnsBy (g.C.Chains.map l.code) (IsReturnBelow l.returns.lines.now line.rank) line.at line.why)
+    (take l.line-index l.lines)

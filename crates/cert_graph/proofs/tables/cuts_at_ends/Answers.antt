@@ -7,8 +7,8 @@ use Rattle.table_cuts.specs.Extents.{extent_at}
 use Rattle.cert_text.specs.declared.lines.LeadLine.{LeadLine}
 use Rattle.cert_ends.specs.Ends.{AreEnds}
 use Rattle.cfg_model.specs.Program.Cuts.{AreCuts}
-use Rattle.table_cuts.specs.declared.jump.TableJump.{TableJump}
-use Rattle.table_cuts.specs.Tables.{AreTablesOf, addresses_of}
+use Rattle.code_view.specs.declared.table_jump.TableJump.{TableJump}
+use Rattle.code_view.specs.Tables.{AreTablesOf, addresses_of}
 use Rattle.cert_graph.specs.Inner.{AreTablesAt}
 use Rattle.cert_graph.proofs.TablesFound.{ends-code, cuts-by-ends}
 use Rattle.cert_graph.proofs.tables.cuts_at_ends.Goals as goal

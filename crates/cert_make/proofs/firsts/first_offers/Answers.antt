@@ -1,6 +1,6 @@
 use Rattle.std.proofs.Common.{sym, subst, take, ◌+◌, Vec, Option, Global}
 use Rattle.cert_make.specs.declared.offers.Offer.{Offer}
-use Rattle.cert_make.specs.Offers.{AreFirstOffers}
+use Rattle.cert_make.specs.Inner.Offers.{AreFirstOffers}
 use Rattle.cert_make.proofs.Placing.{none_placed, one_placed}
 use Rattle.cert_make.proofs.firsts.first_offers.Goals as goal
 use Rattle.cert_make.proofs.firsts.first_offers.Goals.{in-Some, in_default}

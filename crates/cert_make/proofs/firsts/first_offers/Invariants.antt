@@ -1,5 +1,5 @@
 use Rattle.std.proofs.Common.{take}
-use Rattle.cert_make.specs.Offers.{AreFirstOffers}
+use Rattle.cert_make.specs.Inner.Offers.{AreFirstOffers}
 use Rattle.cert_make.proofs.firsts.first_offers.Given as goal
 
 abbrev pub invariant-loop-offer : goal.invariant-loop-offer

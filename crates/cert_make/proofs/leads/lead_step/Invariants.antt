@@ -1,5 +1,5 @@
 use Rattle.std.proofs.Common.{take}
-use Rattle.cert_make.specs.Settled.{AreLeadsSettledBy}
+use Rattle.cert_make.specs.Inner.Settled.{AreLeadsSettledBy}
 use Rattle.cert_make.proofs.leads.lead_step.Given as goal
 
 -- the lines so far

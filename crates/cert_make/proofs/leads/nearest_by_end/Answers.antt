@@ -1,6 +1,6 @@
 use Rattle.std.proofs.Common.{List, subst}
 use Rattle.cert_make.specs.declared.offers.Offer.{Offer}
-use Rattle.cert_make.specs.Offers.{AreFirstOffers, LeadsTo}
+use Rattle.cert_make.specs.Inner.Offers.{AreFirstOffers, LeadsTo}
 use Rattle.cert_make.proofs.LeadSettling.{are_nearest}
 use Rattle.cert_make.proofs.leads.nearest_by_end.Goals as goal
 

@@ -1,7 +1,7 @@
 use Rattle.std.proofs.Common.{ℕ, List, subst}
 use Rattle.std.specs.Prelude.{Contains}
 use Rattle.cfg_model.specs.Graph.Listing.{Gains}
-use Rattle.cert_make.specs.Offers.{IsOfferFrom}
+use Rattle.cert_make.specs.Inner.Offers.{IsOfferFrom}
 use Rattle.cert_make.proofs.Offering.{end_offered}
 use Rattle.cert_make.proofs.offers.add_end_offers.Goals as goal
 

@@ -3,7 +3,7 @@ use Rattle.std.proofs.lemmas.Option.{slice_get-get_or}
 use Rattle.std.proofs.lemmas.List.Elements.{Contains-get_or}
 use Rattle.cfg_model.proofs.Graphs.Gaining.{Gains-each, Gains-all}
 use Rattle.cert_text.specs.declared.lines.LeadLine.{LeadLine}
-use Rattle.cert_make.specs.Offers.{IsOfferFrom, LeadsTo}
+use Rattle.cert_make.specs.Inner.Offers.{IsOfferFrom, LeadsTo}
 use Rattle.cert_places.proofs.Placed.{no_lead}
 use Rattle.cert_make.proofs.offers.end_offers.Goals as goal
 

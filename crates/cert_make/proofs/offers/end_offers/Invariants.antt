@@ -1,7 +1,7 @@
 use Rattle.std.proofs.Common.{[], take}
 use Rattle.cfg_model.specs.Graph.Listing.{Gains}
 use Rattle.cfg_model.proofs.Graphs.Gaining.{Each}
-use Rattle.cert_make.specs.Offers.{IsOfferFrom, LeadsTo}
+use Rattle.cert_make.specs.Inner.Offers.{IsOfferFrom, LeadsTo}
 use Rattle.cert_make.proofs.offers.end_offers.Given as goal
 
 abbrev pub invariant-loop-line : goal.invariant-loop-line

@@ -1,7 +1,7 @@
 use Rattle.std.proofs.Common.{take}
 use Rattle.std.specs.Prelude.{Contains}
 use Rattle.cfg_model.specs.Graph.Listing.{Gains}
-use Rattle.cert_make.specs.Offers.{IsOfferFrom}
+use Rattle.cert_make.specs.Inner.Offers.{IsOfferFrom}
 use Rattle.cert_make.proofs.offers.offer_each.Given as goal
 
 abbrev pub invariant-loop-to : goal.invariant-loop-to

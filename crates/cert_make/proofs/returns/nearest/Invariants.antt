@@ -1,6 +1,6 @@
 use Rattle.std.proofs.Common.{take}
 use Rattle.std.specs.Prelude.{All, MatchOption}
-use Rattle.cert_make.specs.Inner.{EndHasNone, IsNearest}
+use Rattle.cert_make.specs.Inner.Returns.{EndHasNone, IsNearest}
 use Rattle.cert_make.proofs.returns.nearest.Given as goal
 
 -- the nearest of those so far

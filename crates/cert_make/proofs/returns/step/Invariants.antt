@@ -1,5 +1,5 @@
 use Rattle.std.proofs.Common.{take}
-use Rattle.cert_make.specs.Inner.{AreSettledBy}
+use Rattle.cert_make.specs.Inner.Returns.{AreSettledBy}
 use Rattle.cert_make.proofs.returns.step.Given as goal
 
 -- the lines so far

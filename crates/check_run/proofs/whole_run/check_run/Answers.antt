@@ -1,41 +1,47 @@
-use Rattle.std.proofs.Common.{List, ℕ, sym, subst}
-use Rattle.std.specs.Prelude.{◌⊎◌}
+use Rattle.std.proofs.Common.{◌≡◌, List, ℕ, sym, subst}
+use Rattle.std.specs.Prelude.{IfSome}
 use Rattle.cfg_io.specs.Fault.{Rose}
 use Rattle.run_ends.specs.Told.{Grows, Tells}
 use Rattle.check_run.specs.declared.status.CheckStatus.{CheckStatus}
 use Rattle.check_run.specs.declared.status.CheckStatus.TheVariants as statuses
-use Rattle.check_run.specs.Words.{asked_by}
+use Rattle.check_run.specs.Words.{asked_by, AsksFile}
+use Rattle.check_run.specs.Text.{bytes_of}
 use Rattle.check_run.specs.Lines.{refusal_line}
-use Rattle.check_run.specs.Evidence.{HasNoText, HasFalse, HasValid}
-use Rattle.check_run.specs.Run.{IsDecided, HasReadFile, HasReadCertificate, OverInputs, Gives, IsLineOf}
-use Rattle.check_run.proofs.Unique.{tells-no-text, tells-refused, tells-done}
-use Rattle.check_run.proofs.Endings.{decided-true, line-of, told-by, told-by-report, if_some_map}
+use Rattle.check_run.specs.Run.{IsDecided, OverInputs, FailedToRead, Gives, NamesFault, IsLineOf}
+use Rattle.check_run.proofs.Endings.{err-same, decided-true, ends-malformed, line-of, judged-by, made-by, text-given}
 use Rattle.check_run.proofs.whole_run.check_run.Goals as goal
 
 pub returns-in-Err-clause-answer : goal.returns-in-Err-clause-answer
 returns-in-Err-clause-answer g c =
+    let asked = asked_by c.args.words.now in
     let file = g.I.Input.rest c.args.file.now in
     let certificate = g.J.Input.rest c.args.certificate.now in
-    let rose = Rose (g.I.Input.faults c.args.file.now) (g.I.Input.faults c.report_for.new.file) ⊎ Rose (g.J.Input.faults c.args.certificate.now) (g.J.Input.faults c.report_for.new.certificate) in
-    let asked = asked_by c.args.words.now in
+    let rose = FailedToRead asked (Rose (g.I.Input.faults c.args.file.now) (g.I.Input.faults c.text_for.new.file))
+    (Rose (g.J.Input.faults c.args.certificate.now) (g.J.Input.faults c.text_for.new.certificate)) in
     let out = g.O.Sink.written c.args.out.now in
     let Error : List ℕ → Type 0 = Tells (g.E.Sink.written c.args.err.now) (g.E.Sink.written c.refuse.new.err) (Rose (g.E.Sink.faults c.args.err.now) (g.E.Sink.faults c.refuse.new.err)) in
     subst (λ (s : CheckStatus). OverInputs asked file certificate (λ bytes text. IsDecided s → Gives bytes text asked s (Grows out out) Error)) (sym c.refuse.ensures.status)
-    (decided-true asked file certificate rose c.in-Err.refusal out Error c.in-Err.ensures.refused c.refuse.ensures.line)
+    (decided-true asked file certificate rose c.in-Err.refusal out Error (λ none. err-same (c.in-Err.ensures.usage none)) c.in-Err.ensures.refused c.refuse.ensures.line)
 
-pub returns-in-Err-clause-no_text : goal.returns-in-Err-clause-no_text
-returns-in-Err-clause-no_text g c =
-    told-by statuses.NoText HasNoText (λ bytes text a answer is. tells-no-text is) (asked_by c.args.words.now) (g.I.Input.rest c.args.file.now) (g.J.Input.rest c.args.certificate.now) c.refuse.result _ _
+pub returns-in-Err-clause-malformed : goal.returns-in-Err-clause-malformed
+returns-in-Err-clause-malformed g c =
+    let asked = asked_by c.args.words.now in
+    let file = g.I.Input.rest c.args.file.now in
+    let certificate = g.J.Input.rest c.args.certificate.now in
+    let rose = FailedToRead asked (Rose (g.I.Input.faults c.args.file.now) (g.I.Input.faults c.text_for.new.file))
+    (Rose (g.J.Input.faults c.args.certificate.now) (g.J.Input.faults c.text_for.new.certificate)) in
+    let Error : List ℕ → Type 0 = Tells (g.E.Sink.written c.args.err.now) (g.E.Sink.written c.refuse.new.err) (Rose (g.E.Sink.faults c.args.err.now) (g.E.Sink.faults c.refuse.new.err)) in
+    subst (λ (s : CheckStatus). s ≡ statuses.Malformed → AsksFile asked × IfSome file (λ bytes. NamesFault bytes Error)) (sym c.refuse.ensures.status)
+    (ends-malformed asked file certificate rose c.in-Err.refusal Error c.in-Err.ensures.refused c.refuse.ensures.line)
+
+pub returns-in-Err-clause-made : goal.returns-in-Err-clause-made
+returns-in-Err-clause-made g c =
+    made-by (asked_by c.args.words.now) (g.I.Input.rest c.args.file.now) (g.J.Input.rest c.args.certificate.now) c.refuse.result _ _
     (returns-in-Err-clause-answer g c)
 
-pub returns-in-Err-clause-refused : goal.returns-in-Err-clause-refused
-returns-in-Err-clause-refused g c =
-    told-by statuses.Refused HasFalse (λ bytes text a answer is. tells-refused is) (asked_by c.args.words.now) (g.I.Input.rest c.args.file.now) (g.J.Input.rest c.args.certificate.now) c.refuse.result _ _
-    (returns-in-Err-clause-answer g c)
-
-pub returns-in-Err-clause-done : goal.returns-in-Err-clause-done
-returns-in-Err-clause-done g c =
-    told-by statuses.Done HasValid (λ bytes text a answer is. tells-done is) (asked_by c.args.words.now) (g.I.Input.rest c.args.file.now) (g.J.Input.rest c.args.certificate.now) c.refuse.result _ _
+pub returns-in-Err-clause-judged : goal.returns-in-Err-clause-judged
+returns-in-Err-clause-judged g c =
+    judged-by (asked_by c.args.words.now) (g.I.Input.rest c.args.file.now) (g.J.Input.rest c.args.certificate.now) c.refuse.result _ _
     (returns-in-Err-clause-answer g c)
 
 pub returns-in-Err-clause-error_line : goal.returns-in-Err-clause-error_line
@@ -45,29 +51,18 @@ returns-in-Err-clause-error_line g c = (
   c.refuse.ensures.line,
 )
 
-pub returns-in-Err-clause-file_too_large : goal.returns-in-Err-clause-file_too_large
-returns-in-Err-clause-file_too_large g c =
-    if_some_map (g.I.Input.rest c.args.file.now)
-    (λ bytes (taken : _) more read. taken more (subst HasReadFile c.refuse.ensures.status read))
-    c.in-Err.ensures.file_too_large
+pub returns-in-Ok-written-clause-made : goal.returns-in-Ok-written-clause-made
+returns-in-Ok-written-clause-made g c =
+    let asked = asked_by c.args.words.now in
+    let file = g.I.Input.rest c.args.file.now in
+    let certificate = g.J.Input.rest c.args.certificate.now in
+    made-by asked file certificate statuses.Done (λ written. Unit {0}) (λ line. Unit {0})
+    (text-given asked file certificate (bytes_of c.in-Ok.text) (λ written. Unit {0}) (λ line. Unit {0}) tt tt c.in-Ok.ensures.done)
 
-pub returns-in-Err-clause-certificate_too_large : goal.returns-in-Err-clause-certificate_too_large
-returns-in-Err-clause-certificate_too_large g c =
-    if_some_map (g.J.Input.rest c.args.certificate.now)
-    (λ text (taken : _) more read. taken more (subst HasReadCertificate c.refuse.ensures.status read))
-    c.in-Err.ensures.certificate_too_large
-
-pub returns-in-Ok-written-clause-no_text : goal.returns-in-Ok-written-clause-no_text
-returns-in-Ok-written-clause-no_text g c =
-    told-by-report statuses.NoText HasNoText (λ bytes text a answer is. tells-no-text is) (asked_by c.args.words.now) (g.I.Input.rest c.args.file.now) (g.J.Input.rest c.args.certificate.now)
-    c.in-Ok.report c.in-Ok.ensures.done
-
-pub returns-in-Ok-written-clause-refused : goal.returns-in-Ok-written-clause-refused
-returns-in-Ok-written-clause-refused g c =
-    told-by-report statuses.Refused HasFalse (λ bytes text a answer is. tells-refused is) (asked_by c.args.words.now) (g.I.Input.rest c.args.file.now) (g.J.Input.rest c.args.certificate.now)
-    c.in-Ok.report c.in-Ok.ensures.done
-
-pub returns-in-Ok-written-clause-done : goal.returns-in-Ok-written-clause-done
-returns-in-Ok-written-clause-done g c =
-    told-by-report statuses.Done HasValid (λ bytes text a answer is. tells-done is) (asked_by c.args.words.now) (g.I.Input.rest c.args.file.now) (g.J.Input.rest c.args.certificate.now)
-    c.in-Ok.report c.in-Ok.ensures.done
+pub returns-in-Ok-written-clause-judged : goal.returns-in-Ok-written-clause-judged
+returns-in-Ok-written-clause-judged g c =
+    let asked = asked_by c.args.words.now in
+    let file = g.I.Input.rest c.args.file.now in
+    let certificate = g.J.Input.rest c.args.certificate.now in
+    judged-by asked file certificate statuses.Done (λ written. Unit {0}) (λ line. Unit {0})
+    (text-given asked file certificate (bytes_of c.in-Ok.text) (λ written. Unit {0}) (λ line. Unit {0}) tt tt c.in-Ok.ensures.done)

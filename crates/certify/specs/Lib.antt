@@ -1,0 +1,3 @@
+pub mod FileCanonical
+pub mod Laws
+pub mod Inner
