@@ -6,7 +6,7 @@ ghost use Rattle.big_case.specs.Pair.{first_word, second_word};
 ghost use Rattle.big_case.specs.Places.{slot_at, table_at, callee};
 ghost use Rattle.big_case.specs.Slots.{function, slot_bytes, code_bytes};
 
-use crate::memory::Memory;
+use crate::Memory;
 use crate::pair::{CALL, Pair, TABLE_ADDRESS, pair_to};
 use crate::place::{SLOT_SIZE, callee, slot_at, table_at};
 use byteorder::{ByteOrder, LittleEndian};

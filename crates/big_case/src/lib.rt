@@ -9,10 +9,9 @@
 
 mod code;
 mod make;
-mod memory;
 mod pair;
 mod place;
 mod rodata;
 
 pub use make::big_file;
-pub use memory::Memory;
+pub use std::alloc::AllocError as Memory;

@@ -9,8 +9,8 @@ ghost use Rattle.elf_maker.specs.MadeOf.{IsMadeOf};
 ghost use Rattle.big_case.specs.BigCase.{big_parts};
 ghost use Rattle.big_case.specs.Places.{slot_at};
 
+use crate::Memory;
 use crate::code::code_of;
-use crate::memory::Memory;
 use crate::place::{slot_at, table_at};
 use crate::rodata::rodata_of;
 use elf_maker::{Bytes, MadeSymbols, Parts, make_elf};

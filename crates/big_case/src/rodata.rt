@@ -4,7 +4,7 @@ ghost use Rattle.std.specs.Prelude.{◌≡◌, ◌+◌, ◌*◌, ◌≤◌, ◌<
 ghost use Rattle.elf_maker.specs.Fields.{words};
 ghost use Rattle.big_case.specs.Tables.{table, table_entry, rodata_bytes};
 
-use crate::memory::Memory;
+use crate::Memory;
 use crate::place::{TABLE_SIZE, slot_at, table_at};
 use byteorder::{ByteOrder, LittleEndian};
 use std::alloc::Global;

@@ -12,7 +12,7 @@ use Rattle.cfg_model.specs.Builder.Reason.{Reason}
 use Rattle.cfg_model.specs.Builder.Shard.{Shard, only, shard_of_event}
 use Rattle.cfg_model.specs.Builder.State.{BuilderState}
 use Rattle.split_laws.proofs.FactLaws.{reason_more}
-use Rattle.core_state.specs.declared.memory.Memory.{Memory}
+use Rattle.std.specs.declared.alloc.AllocError.{AllocError as Memory}
 use Rattle.core_state.specs.declared.answer.ShardKind.{ShardKind}
 use Rattle.core_state.specs.declared.answer.PlaceEnd.{PlaceEnd}
 use Rattle.core_state.specs.Place.{Brings, Remembers}

@@ -9,7 +9,7 @@ use mathlib.Core.Option.{some, none}
 use lib.ListN.{get_elem?}
 use Rattle.atomic_table.specs.Table.{State, Me, step, takes, gives, stepped, rest, Allows, Splits, Joins}
 use Rattle.atomic_table.proofs.Lists.{set_else, set_here, at_snoc, at_map}
-use Rattle.shares.specs.Share.{IsAboveZero}
+use Rattle.turn_slots.specs.Share.{IsAboveZero}
 use Rattle.turn_slots.specs.declared.view.View.{View as TurnView}
 use Rattle.turn_slots.specs.TurnsId.{turn_word}
 use Rattle.turn_slots.specs.Rule as turns

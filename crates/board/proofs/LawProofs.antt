@@ -4,7 +4,7 @@ use Rattle.std.proofs.lemmas.Bool.{cases_eq}
 use mathlib.Core.Option.{some, some-injective, some-ne-none}
 use lib.ListN.{get_elem?}
 use Rattle.atomic_table.specs.Table.{Me, State, Step}
-use Rattle.shares.specs.Share.{Share, AddUpToOne}
+use Rattle.turn_slots.specs.Share.{Share, AddUpToOne}
 use Rattle.turn_slots.specs.declared.view.View.{View as TurnView}
 use Rattle.turn_slots.proofs.Touches.{sound_of, alone}
 use Rattle.turn_slots.proofs.TurnProofs.{in_each_case}

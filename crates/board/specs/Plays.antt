@@ -4,7 +4,7 @@ use Rattle.std.specs.Prelude.{◌≡◌, ℕ, ◌+◌, ◌∷◌, ◌==◌, Matc
 use Rattle.std.specs.Prelude.{slice_index_or, slice_set, Option, Some, None}
 use Rattle.std.specs.Option.{option_map}
 use Rattle.atomic_table.specs.Table.{Me, Step, rest}
-use Rattle.shares.specs.Share.{nothing, IsWhole}
+use Rattle.turn_slots.specs.Share.{nothing, IsWhole}
 use Rattle.turn_slots.specs.TurnsId.{turn_word}
 use Rattle.cfg_model.specs.Program.Instructions.{InstructionMap}
 use Rattle.cfg_model.specs.Builder.Fact.{Fact, Holds}

@@ -1,7 +1,7 @@
 //! The nine changes, each as what it does to one shard, and how a seat makes one of them. Three of
 //! them stand here twice, with more that they answer.
 ghost use Rattle.std.specs.Prelude.{◌≡◌, ◌↔◌, ◌<◌, ◌∷◌, [], Some, OnOk, OnErr, IfOk, IfErr};
-ghost use Rattle.shares.specs.Share.{IsWhole};
+ghost use Rattle.turn_slots.specs.Share.{IsWhole};
 ghost use Rattle.cfg_model.specs.Program.Instructions.{IsLawful};
 ghost use Rattle.cfg_model.specs.Builder.Shard.{shard_of_event};
 ghost use Rattle.cfg_model.specs.Builder.Reason.{Reason};

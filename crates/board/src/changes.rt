@@ -1,7 +1,7 @@
 //! The nine changes of a builder's state, as a seat makes them on the board, and three of them in
 //! another call that answers more.
 ghost use Rattle.std.specs.Prelude.{◌≡◌, ◌↔◌, ◌<◌, IsTrue, IsFalse, OnOk, IfOk, IfErr, IfSome};
-ghost use Rattle.shares.specs.Share.{IsWhole};
+ghost use Rattle.turn_slots.specs.Share.{IsWhole};
 ghost use Rattle.cfg_model.specs.Builder.Event.{Event};
 ghost use Rattle.cfg_model.specs.Builder.Fact.{Fact};
 ghost use Rattle.cfg_model.specs.Builder.Reason.{Reason};

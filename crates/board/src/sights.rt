@@ -1,7 +1,7 @@
 //! What a seat reads on the board.
 ghost use Rattle.std.specs.Prelude.{◌≡◌, ◌↔◌, ◌<◌, ◌∷◌, [], IsTrue, OnOk, IfOk};
 ghost use Rattle.std.specs.Prelude.{IfErr, IfSome, OnSome, IfNone, IsSome, Some};
-ghost use Rattle.shares.specs.Share.{IsWhole};
+ghost use Rattle.turn_slots.specs.Share.{IsWhole};
 ghost use Rattle.cfg_model.specs.declared.state.Waiter.{Waiter};
 ghost use Rattle.cfg_model.specs.Builder.Fact.{Fact};
 ghost use Rattle.cfg_model.specs.Builder.Shard.{Shard, shard_of};

@@ -1,6 +1,6 @@
 //! The control flow of one instruction, and a program as a map of them.
 
-use crate::memory::Memory;
+use crate::Memory;
 use std::marker::Sync;
 
 /// Where control goes from one instruction. Every address is that of an instruction of the program.

@@ -19,7 +19,6 @@ pub mod flow;
 pub mod graph;
 pub mod laws;
 pub mod live;
-pub mod memory;
 pub mod outline;
 pub mod state;
 
@@ -30,6 +29,6 @@ pub use graph::{
 };
 pub use laws::{one_block_for_each_address, one_graph, one_map_of_cuts, parts_are_blocks};
 pub use live::{AllLives, Live, Lives};
-pub use memory::Memory;
 pub use outline::{add_edges, add_edges_by, block_by, block_of, edges_in_order};
 pub use state::{Mark, WaitKind, Waiter};
+pub use std::alloc::AllocError as Memory;

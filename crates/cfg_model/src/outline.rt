@@ -9,9 +9,9 @@ ghost use Rattle.cfg_model.specs.Graph.Listing.{Gains};
 ghost use Rattle.cfg_model.specs.Inner.Ways.{edge_to, IsEdgeTo};
 ghost use Rattle.cfg_model.specs.Program.Instructions.{IsLawful, flow_at, targets_at};
 
+use crate::Memory;
 use crate::flow::{Chains, Flow};
 use crate::graph::{Block, Edge, EdgeKind, EndKind};
-use crate::memory::Memory;
 
 /// The block from `s` to the instruction at `k`.
 pub fn block_of<C: Chains>(code: &C, s: u64, k: u64) -> Block

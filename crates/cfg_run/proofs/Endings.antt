@@ -18,16 +18,19 @@ use Rattle.cfg_words.specs.declared.error.WordsError.{WordsError}
 use Rattle.cfg_words.specs.declared.error.WordsError.TheVariants as words
 use Rattle.cfg_run.specs.declared.refusal.Refusal.{Refusal}
 use Rattle.cfg_run.specs.declared.refusal.Refusal.TheVariants as refusals
+use Rattle.cfg_run.specs.declared.status.Status.{Status}
+use Rattle.cfg_run.specs.declared.status.Status.TheVariants as statuses
 use Rattle.cfg_run.specs.Answer.{IsAnswer, usage_answer, malformed_answer}
 use Rattle.run_ends.specs.declared.reading.Unread.{Unread}
 use Rattle.run_ends.specs.declared.reading.Unread.TheVariants as unread
 use Rattle.cfg_run.specs.Refusal.{status_of, refusal_of, refusal_of_words, refusal_of_unread}
 use Rattle.file_graph.specs.Survey.{IsFaultOf}
-use Rattle.cfg_run.specs.Words.{IsForFile, CanBeMade}
+use Rattle.cfg_run.specs.Words.{path_of, CanBeMade}
 use Rattle.cfg_run.specs.Lines.{refusal_line}
-use Rattle.cfg_run.specs.Inner.{IsRefusalOf, IsTrueOf, IsMalformed}
+use Rattle.cfg_run.specs.Inner.{IsRefusalOf, IsTrueOf}
 use Rattle.run_ends.specs.Told.{Grows}
-use Rattle.cfg_run.specs.Run.{AreBytesFor, IsDecided, HasRead, Gives, IsLineOf, OverInput}
+use Rattle.run_ends.specs.Inputs.{AreBytesFor, OverInput}
+use Rattle.cfg_run.specs.Run.{IsDecided, HasRead, Gives, IsLineOf}
 
 -- Nothing was appended.
 pub appends-nothing : (old : Option (List ℕ)) → Appends old [] old
@@ -50,7 +53,7 @@ taken-more bytes (Some left) (taken, takes, count) =
 -- What reading refuses is true of the file that is asked for.
 module _ (path : List ℕ) (workers : ℕ) (kind : ReportKind) where
   told-too-large : (told new : Option (List ℕ)) → TakesCount told 67108865 new
-      → OverInput (Some (of_file path workers kind)) told (λ bytes. IsAnswer bytes (Some (of_file path workers kind)) (malformed_answer TooLarge))
+      → OverInput (Some path) told (λ bytes. IsAnswer bytes (Some (of_file path workers kind)) (malformed_answer TooLarge))
   told-too-large told new takes = λ bytes are.
       IsAnswer.malformed (too-large bytes (taken-more bytes new (subst (λ (t : Option (List ℕ)). TakesCount t 67108865 new) are takes)))
 
@@ -79,16 +82,10 @@ pub refusal-of : (bytes : List ℕ) (e : ElfError) → IsFaultOf bytes e → IsR
 refusal-of bytes (errors.Malformed fault) is = is
 refusal-of bytes errors.Memory is = tt
 
--- A file that was not read and is no malformed one was not too large.
-pub not-too-large : (e : Unread) → ¬ IsMalformed (refusal_of_unread e) → e ≢ unread.TooLarge
-not-too-large unread.ReadFault other = λ same. absurd (cc)
-not-too-large unread.TooLarge other = λ same. other tt
-not-too-large unread.Memory other = λ same. absurd (cc)
-
 -- ---- refusing
 
 pub decided-true : (asked : Option Asked) (told : Option (List ℕ)) (rose : Type 0) (r : Refusal) (old : Option (List ℕ)) (Error : List ℕ → Type 0)
-    → IsTrueOf asked told rose r → Error (refusal_line r) → OverInput asked told (λ bytes. IsDecided (status_of r) → Gives bytes asked (status_of r) (Grows old old) Error)
+    → IsTrueOf asked told rose r → Error (refusal_line r) → OverInput (path_of asked) told (λ bytes. IsDecided (status_of r) → Gives bytes asked (status_of r) (Grows old old) Error)
 decided-true asked told rose refusals.Usage old Error is line = λ bytes are _. record {
   answer = usage_answer;
   is_answer = subst (λ (a : Option Asked). IsAnswer bytes a usage_answer) (sym is) IsAnswer.usage;
@@ -108,7 +105,7 @@ decided-true asked told rose refusals.WriteFault old Error is line = λ bytes ar
 decided-true asked told rose refusals.Memory old Error is line = λ bytes are no. absurd no
 
 -- The bytes of an input that tells them count, whatever is asked for.
-pub told-count : (asked : Option Asked) (bytes : List ℕ) → AreBytesFor asked (Some bytes) bytes
+pub told-count : (asked : Option Asked) (bytes : List ℕ) → AreBytesFor (path_of asked) (Some bytes) bytes
 told-count None bytes = tt
 told-count (Some (of_file path workers kind)) bytes = refl
 told-count (Some (of_made n workers)) bytes = tt
@@ -121,17 +118,19 @@ line-of refusals.ReadFault = refl
 line-of refusals.WriteFault = refl
 line-of refusals.Memory = refl
 
--- A refused file was read where it is malformed.
-pub read-refused : (asked : Option Asked) (told : Option (List ℕ)) (rose : Type 0) (r : Refusal) → IsTrueOf asked told rose r → HasRead asked (status_of r) → IsForFile asked × IsMalformed r
-read-refused asked told rose refusals.Usage is read = absurd read
-read-refused asked told rose (refusals.Malformed fault) is read = (read, tt)
-read-refused asked told rose refusals.ReadFault is read = absurd read
-read-refused asked told rose refusals.WriteFault is read = absurd is
-read-refused asked told rose refusals.Memory is read = absurd read
+-- Of a made program no file is read, however the run ends.
+pub made-unread : (n workers : ℕ) (end : Status) → ¬ HasRead (Some (of_made n workers)) end
+made-unread n workers statuses.Done = λ read. absurd read
+made-unread n workers statuses.Usage = λ read. absurd read
+made-unread n workers statuses.Malformed = λ read. absurd read
+made-unread n workers statuses.ReadFault = λ read. absurd read
+made-unread n workers statuses.WriteFault = λ read. absurd read
+made-unread n workers statuses.Memory = λ read. absurd read
 
-pub if_some_map : {A : Type 0} {P Q : A → Type 0} (o : Option A) → ((x : A) → P x → Q x) → IfSome o P → IfSome o Q
-if_some_map None f p = tt
-if_some_map (Some x) f p = f x p
+-- Words that make no request name no file that was read.
+pub words-unread : (asked : Option Asked) (e : WordsError) → ¬ HasRead asked (status_of (refusal_of_words e))
+words-unread asked words.Usage = λ read. absurd read
+words-unread asked words.Memory = λ read. absurd read
 
 pub if_err_map : {T E : Type 0} {P Q : E → Type 0} (r : Result T E) → ((e : E) → P e → Q e) → IfErr r P → IfErr r Q
 if_err_map (Ok x) f p = tt

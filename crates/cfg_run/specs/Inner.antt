@@ -6,19 +6,22 @@ use Rattle.std.specs.declared.alloc.Global.{Global}
 use Rattle.std.proofs.Common.{Bor}
 use Rattle.cfg_model.specs.declared.graph.Graph.{Graph}
 use Rattle.cfg_model.specs.declared.live.Live.{Live}
-use Rattle.cfg_model.specs.declared.memory.Memory.{Memory}
+use Rattle.std.specs.declared.alloc.AllocError.{AllocError as Memory}
 use Rattle.elf_image.specs.declared.fault.ElfError.{ElfError}
 use Rattle.elf_image.specs.Faults.{first_fault}
 use Rattle.cfg_words.specs.Request.{Asked}
+use Rattle.run_ends.specs.Inputs.{OverInput}
 use Rattle.file_graph.specs.File.{GraphedFile, IsGraphedFile}
 use Rattle.file_graph.specs.Survey.{IsFaultOf}
 use Rattle.live_regs.specs.Masks.{AreAllLivesOf}
 use Rattle.live_regs.specs.Noted.{AreInOrder}
 use Rattle.cfg_run.specs.declared.refusal.Refusal.{Refusal}
 use Rattle.cfg_run.specs.declared.refusal.Refusal.TheVariants as refusals
-use Rattle.cfg_run.specs.Words.{IsForFile}
+use Rattle.cfg_run.specs.declared.status.Status.{Status}
+use Rattle.cfg_run.specs.declared.status.Status.TheVariants as statuses
+use Rattle.cfg_run.specs.Refusal.{status_of}
+use Rattle.cfg_run.specs.Words.{path_of, IsForFile}
 use Rattle.cfg_run.specs.Answer.{IsAnswer, malformed_answer}
-use Rattle.cfg_run.specs.Run.{OverInput}
 
 -- An answer with the file with these bytes and its graph, or with the first fault of the file.
 abbrev pub AnswersFile : List ℕ → Result GraphedFile ElfError → Type 0
@@ -48,6 +51,11 @@ FindsLives asks answers =
     × ((image : Bor (List ℕ)) (graph : Bor Graph) (r : _) → answers image graph r
     → AnswersLives image.now graph.now r)
 
+-- How a run ends after this step, if no later one fails.
+abbrev pub end_of : {X : Type 0} → Result X Refusal → Status
+end_of (Ok x) = statuses.Done
+end_of (Err refusal) = status_of refusal
+
 -- The refusal is the fault of these bytes, or want of memory.
 abbrev pub IsRefusalOf : List ℕ → Refusal → Type 0
 IsRefusalOf bytes refusals.Usage = ⊥
@@ -62,25 +70,7 @@ IsRefusalOf bytes refusals.Memory = Unit {0}
 abbrev pub IsTrueOf : Option Asked → Option (List ℕ) → Type 0 → Refusal → Type 0
 IsTrueOf asked told rose refusals.Usage = asked ≡ None
 IsTrueOf asked told rose (refusals.Malformed fault) = IsForFile asked
-    × OverInput asked told (λ bytes. IsAnswer bytes asked (malformed_answer fault))
+    × OverInput (path_of asked) told (λ bytes. IsAnswer bytes asked (malformed_answer fault))
 IsTrueOf asked told rose refusals.ReadFault = IsForFile asked × rose
 IsTrueOf asked told rose refusals.WriteFault = ⊥
 IsTrueOf asked told rose refusals.Memory = Unit {0}
-
--- The refusal is a fault of the file.
-abbrev pub IsMalformed : Refusal → Type 0
-IsMalformed refusals.Usage = ⊥
-IsMalformed (refusals.Malformed fault) = Unit {0}
-IsMalformed refusals.ReadFault = ⊥
-IsMalformed refusals.WriteFault = ⊥
-IsMalformed refusals.Memory = ⊥
-
--- The file was read: there is a report, or a fault of the file.
-abbrev pub IsOfFile : {X : Type 0} → Result X Refusal → Type 0
-IsOfFile (Ok text) = Unit {0}
-IsOfFile (Err refusal) = IsMalformed refusal
-
--- There is no fault of the file.
-abbrev pub IsFaultless : {X : Type 0} → Result X Refusal → Type 0
-IsFaultless (Ok text) = Unit {0}
-IsFaultless (Err refusal) = ¬ IsMalformed refusal

@@ -1,9 +1,8 @@
 -- What a run may leave behind.
-use Rattle.std.specs.Prelude.{◌≡◌, ℕ, ◌⊎◌, List, [], Option, Some, None, Bool}
+use Rattle.std.specs.Prelude.{◌≡◌, ℕ, List, [], Option}
 use Rattle.elf_image.specs.declared.fault.Fault.{Fault}
 use Rattle.cfg_io.specs.Told.{AppendsPrefix}
-use Rattle.cfg_io.specs.Opened.{Opened, Nothing, Something, told_path}
-use Rattle.cfg_words.specs.Request.{Asked, of_file, of_made}
+use Rattle.cfg_words.specs.Request.{Asked}
 use Rattle.cfg_run.specs.declared.status.Status.{Status}
 use Rattle.cfg_run.specs.declared.status.Status.TheVariants as statuses
 use Rattle.cfg_run.specs.declared.refusal.Refusal.TheVariants as refusals
@@ -48,17 +47,6 @@ pub record GivesPart (bytes : List ℕ) (asked : Option Asked)
   pub status : answer.status ≡ statuses.Done
   pub output : AppendsPrefix old answer.output new
 
--- These bytes count for what is asked for: those of the input, if a file is asked for. For all else
--- the input is not read, so they may be any.
-abbrev pub AreBytesFor : Option Asked → Option (List ℕ) → List ℕ → Type 0
-AreBytesFor None told bytes = Unit {0}
-AreBytesFor (Some (of_file path workers kind)) told bytes = told ≡ Some bytes
-AreBytesFor (Some (of_made n workers)) told bytes = Unit {0}
-
--- This holds over the bytes that count, if the input tells its bytes or is not read.
-abbrev pub OverInput : Option Asked → Option (List ℕ) → (List ℕ → Type 0) → Type 0
-OverInput asked told Holds = (bytes : List ℕ) → AreBytesFor asked told bytes → Holds bytes
-
 -- The line that a status puts on standard error. Which fault a malformed file has, the answer says.
 abbrev pub IsLineOf : Status → List ℕ → Type 0
 IsLineOf statuses.Done text = text ≡ []
@@ -68,10 +56,3 @@ IsLineOf statuses.Malformed text = (fault : Fault)
 IsLineOf statuses.ReadFault text = text ≡ refusal_line refusals.ReadFault
 IsLineOf statuses.WriteFault text = text ≡ refusal_line refusals.WriteFault
 IsLineOf statuses.Memory text = text ≡ refusal_line refusals.Memory
-
--- Nothing was opened, or the file that is asked for by its path.
-abbrev pub OpenedFor : Option Asked → Bool → Opened → Type 0
-OpenedFor None tells opened = opened ≡ Nothing
-OpenedFor (Some (of_file path workers kind)) tells opened = (opened ≡ Nothing)
-    ⊎ (opened ≡ Something (told_path tells path))
-OpenedFor (Some (of_made n workers)) tells opened = opened ≡ Nothing

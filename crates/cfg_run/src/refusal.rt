@@ -9,6 +9,7 @@ ghost use Rattle.run_ends.specs.Told.{Tells};
 
 use crate::status::Status;
 use cfg_io::Sink;
+use cfg_model::Memory;
 use cfg_words::WordsError;
 use elf_image::{ElfError, Fault};
 use run_ends::{Unread, tell};
@@ -46,26 +47,10 @@ impl From<Unread> for Refusal {
     }
 }
 
-impl From<big_case::Memory> for Refusal {
+impl From<Memory> for Refusal {
     ghost from_gives = { λ _ r. r ≡ refusals.Memory };
 
-    fn from(_: big_case::Memory) -> Self {
-        Refusal::Memory
-    }
-}
-
-impl From<cfg_model::Memory> for Refusal {
-    ghost from_gives = { λ _ r. r ≡ refusals.Memory };
-
-    fn from(_: cfg_model::Memory) -> Self {
-        Refusal::Memory
-    }
-}
-
-impl From<graph_report::Memory> for Refusal {
-    ghost from_gives = { λ _ r. r ≡ refusals.Memory };
-
-    fn from(_: graph_report::Memory) -> Self {
+    fn from(_: Memory) -> Self {
         Refusal::Memory
     }
 }

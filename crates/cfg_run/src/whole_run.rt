@@ -1,24 +1,22 @@
 //! One whole run of the program, over any input and any two sinks.
 
-ghost use Rattle.std.specs.Prelude.{◌≡◌, ◌≢◌, ℕ, ◌+◌, ◌≤◌, ◌<◌, ◌⊎◌, List, [], Some};
-ghost use Rattle.std.specs.Prelude.{None, length, string_bytes, IfSome, IfOk, IfErr, All};
+ghost use Rattle.std.specs.Prelude.{◌≡◌, ◌≢◌, ℕ, ◌≤◌, ◌⊎◌, List, Some, None};
+ghost use Rattle.std.specs.Prelude.{string_bytes, IfSome, IfOk, IfErr, All};
 ghost use Rattle.std.specs.List.Sorted.{IsStrictlyIncreasing};
 ghost use Rattle.std.specs.Thread.{IsSync};
 ghost use Rattle.cfg_io.specs.Fault.{Rose};
 ghost use Rattle.cfg_io.specs.Opened.{Nothing};
-ghost use Rattle.cfg_io.specs.Told.{TakesCount, TakesAtMost};
 ghost use Rattle.cfg_words.specs.Request.{asked, of_file};
 ghost use Rattle.live_regs.specs.Noted.{AreInOrder};
-ghost use Rattle.cfg_run.specs.Words.{asked_by, IsForFile, CanBeMade};
+ghost use Rattle.cfg_run.specs.Words.{asked_by, path_of, IsForFile, CanBeMade};
 ghost use Rattle.cfg_run.specs.Answer.{IsAnswer, text_answer};
 ghost use Rattle.cfg_run.specs.Refusal.{status_of};
 ghost use Rattle.cfg_run.specs.Lines.{refusal_line};
 ghost use Rattle.cfg_run.specs.Text.{bytes_of};
-ghost use Rattle.cfg_run.specs.Inner.{AnswersFile, AnswersLives};
-ghost use Rattle.cfg_run.specs.Inner.{IsTrueOf, IsOfFile, IsFaultless};
+ghost use Rattle.cfg_run.specs.Inner.{AnswersFile, AnswersLives, IsTrueOf, end_of};
 ghost use Rattle.run_ends.specs.Told.{Grows, Tells};
-ghost use Rattle.cfg_run.specs.Run.{IsDecided, HasRead, OverInput};
-ghost use Rattle.cfg_run.specs.Run.{Gives, GivesPart, IsLineOf, OpenedFor};
+ghost use Rattle.run_ends.specs.Inputs.{OverInput, FileReadFor};
+ghost use Rattle.cfg_run.specs.Run.{IsDecided, HasRead, Gives, GivesPart, IsLineOf};
 
 use crate::answer::{report_of, summary_of};
 use crate::maker::{Alone, Maker, Workers};
@@ -33,7 +31,7 @@ use elf_image::{ElfError, Image};
 use file_graph::{FileGraph, file_graph_by};
 use graph_report::ReportKind;
 use live_crew::graph_lives_by;
-use run_ends::{FILE_LIMIT, Unwritten, read_file};
+use run_ends::{Unwritten, read_file};
 use std::alloc::Global;
 use std::marker::Sync;
 use std::mem;
@@ -63,8 +61,9 @@ pub fn run<R: Threads + Wait + Sync, I: Input, O: Sink, E: Sink, G: Gate>(
 ) -> Status
     requires { I.opened input.old ≡ Nothing }
 
-    ensures answer { OverInput (asked_by words.now) (I.rest input.old) (λ bytes. IsDecided result
-        → Gives bytes (asked_by words.now) result (Grows (O.written out.old) (O.written out.new))
+    ensures answer { OverInput (path_of (asked_by words.now)) (I.rest input.old)
+        (λ bytes. IsDecided result → Gives bytes (asked_by words.now) result
+        (Grows (O.written out.old) (O.written out.new))
         (Tells (E.written err.old) (E.written err.new)
         (Rose (E.faults err.old) (E.faults err.new)))) }
     ensures complete { ¬ Rose (I.faults input.old) (I.faults input.new)
@@ -81,7 +80,7 @@ pub fn run<R: Threads + Wait + Sync, I: Input, O: Sink, E: Sink, G: Gate>(
     ensures write_fault { result ≡ Status.WriteFault → Rose (O.faults out.old) (O.faults out.new) }
 
     // What else standard output holds, and what standard error does.
-    ensures cut_off { OverInput (asked_by words.now) (I.rest input.old)
+    ensures cut_off { OverInput (path_of (asked_by words.now)) (I.rest input.old)
         (λ bytes. result ≡ Status.WriteFault → GivesPart bytes (asked_by words.now)
         (O.written out.old) (O.written out.new)) }
     ensures silent { result ≢ Status.Done → result ≢ Status.WriteFault
@@ -91,16 +90,10 @@ pub fn run<R: Threads + Wait + Sync, I: Input, O: Sink, E: Sink, G: Gate>(
         (Rose (E.faults err.old) (E.faults err.new)) text }
 
     // What was done to the input.
-    ensures opened { OpenedFor (asked_by words.now) (I.tells_path input.old) (I.opened input.new) }
-    ensures untouched { ¬ IsForFile (asked_by words.now) → (I.rest input.new ≡ I.rest input.old)
-        × (I.faults input.new ≡ I.faults input.old) }
-    ensures read_to_end { IfSome (I.rest input.old) (λ bytes. length bytes ≤ FILE_LIMIT
-        → HasRead (asked_by words.now) result → I.rest input.new ≡ Some []) }
-    ensures too_large { IfSome (I.rest input.old) (λ bytes. FILE_LIMIT < length bytes
-        → HasRead (asked_by words.now) result
-        → TakesCount (I.rest input.old) (FILE_LIMIT + 1) (I.rest input.new)) }
-    ensures within_limit { result ≢ Status.Malformed
-        → TakesAtMost (I.rest input.old) FILE_LIMIT (I.rest input.new) }
+    ensures input { FileReadFor (path_of (asked_by words.now))
+        (HasRead (asked_by words.now) result) (result ≡ Status.Malformed)
+        (I.tells_path input.old) (I.opened input.new) (I.rest input.old) (I.rest input.new)
+        (I.faults input.old) (I.faults input.new) }
 {
     let request = match request(alloc, words) {
         Ok(request) => request,
@@ -137,8 +130,8 @@ pub fn run_one<I: Input, O: Sink, E: Sink>(
     requires closed { I.opened input.old ≡ Nothing }
     requires size { CanBeMade (asked request.now) }
 
-    ensures answer { OverInput (Some (asked request.now)) (I.rest input.old) (λ bytes. IsDecided result
-        → Gives bytes (Some (asked request.now)) result
+    ensures answer { OverInput (path_of (Some (asked request.now))) (I.rest input.old)
+        (λ bytes. IsDecided result → Gives bytes (Some (asked request.now)) result
         (Grows (O.written out.old) (O.written out.new))
         (Tells (E.written err.old) (E.written err.new)
         (Rose (E.faults err.old) (E.faults err.new)))) }
@@ -152,7 +145,7 @@ pub fn run_one<I: Input, O: Sink, E: Sink>(
         × Rose (I.faults input.old) (I.faults input.new) }
     ensures write_fault { result ≡ Status.WriteFault → Rose (O.faults out.old) (O.faults out.new) }
 
-    ensures cut_off { OverInput (Some (asked request.now)) (I.rest input.old)
+    ensures cut_off { OverInput (path_of (Some (asked request.now))) (I.rest input.old)
         (λ bytes. result ≡ Status.WriteFault → GivesPart bytes (Some (asked request.now))
         (O.written out.old) (O.written out.new)) }
     ensures silent { result ≢ Status.Done → result ≢ Status.WriteFault
@@ -161,17 +154,10 @@ pub fn run_one<I: Input, O: Sink, E: Sink>(
         × Tells (E.written err.old) (E.written err.new)
         (Rose (E.faults err.old) (E.faults err.new)) text }
 
-    ensures opened { OpenedFor (Some (asked request.now)) (I.tells_path input.old)
-        (I.opened input.new) }
-    ensures untouched { ¬ IsForFile (Some (asked request.now))
-        → (I.rest input.new ≡ I.rest input.old) × (I.faults input.new ≡ I.faults input.old) }
-    ensures read_to_end { IfSome (I.rest input.old) (λ bytes. length bytes ≤ FILE_LIMIT
-        → HasRead (Some (asked request.now)) result → I.rest input.new ≡ Some []) }
-    ensures too_large { IfSome (I.rest input.old) (λ bytes. FILE_LIMIT < length bytes
-        → HasRead (Some (asked request.now)) result
-        → TakesCount (I.rest input.old) (FILE_LIMIT + 1) (I.rest input.new)) }
-    ensures within_limit { result ≢ Status.Malformed
-        → TakesAtMost (I.rest input.old) FILE_LIMIT (I.rest input.new) }
+    ensures input { FileReadFor (path_of (Some (asked request.now)))
+        (HasRead (Some (asked request.now)) result) (result ≡ Status.Malformed)
+        (I.tells_path input.old) (I.opened input.new) (I.rest input.old) (I.rest input.new)
+        (I.faults input.old) (I.faults input.new) }
 {
     run_by(alloc, &Alone { alloc }, request, input, out, err)
 }
@@ -189,8 +175,8 @@ fn run_by<M: Maker, I: Input, O: Sink, E: Sink>(
     requires closed { I.opened input.old ≡ Nothing }
     requires size { CanBeMade (asked request.now) }
 
-    ensures answer { OverInput (Some (asked request.now)) (I.rest input.old) (λ bytes. IsDecided result
-        → Gives bytes (Some (asked request.now)) result
+    ensures answer { OverInput (path_of (Some (asked request.now))) (I.rest input.old)
+        (λ bytes. IsDecided result → Gives bytes (Some (asked request.now)) result
         (Grows (O.written out.old) (O.written out.new))
         (Tells (E.written err.old) (E.written err.new)
         (Rose (E.faults err.old) (E.faults err.new)))) }
@@ -204,7 +190,7 @@ fn run_by<M: Maker, I: Input, O: Sink, E: Sink>(
         × Rose (I.faults input.old) (I.faults input.new) }
     ensures write_fault { result ≡ Status.WriteFault → Rose (O.faults out.old) (O.faults out.new) }
 
-    ensures cut_off { OverInput (Some (asked request.now)) (I.rest input.old)
+    ensures cut_off { OverInput (path_of (Some (asked request.now))) (I.rest input.old)
         (λ bytes. result ≡ Status.WriteFault → GivesPart bytes (Some (asked request.now))
         (O.written out.old) (O.written out.new)) }
     ensures silent { result ≢ Status.Done → result ≢ Status.WriteFault
@@ -213,17 +199,10 @@ fn run_by<M: Maker, I: Input, O: Sink, E: Sink>(
         × Tells (E.written err.old) (E.written err.new)
         (Rose (E.faults err.old) (E.faults err.new)) text }
 
-    ensures opened { OpenedFor (Some (asked request.now)) (I.tells_path input.old)
-        (I.opened input.new) }
-    ensures untouched { ¬ IsForFile (Some (asked request.now))
-        → (I.rest input.new ≡ I.rest input.old) × (I.faults input.new ≡ I.faults input.old) }
-    ensures read_to_end { IfSome (I.rest input.old) (λ bytes. length bytes ≤ FILE_LIMIT
-        → HasRead (Some (asked request.now)) result → I.rest input.new ≡ Some []) }
-    ensures too_large { IfSome (I.rest input.old) (λ bytes. FILE_LIMIT < length bytes
-        → HasRead (Some (asked request.now)) result
-        → TakesCount (I.rest input.old) (FILE_LIMIT + 1) (I.rest input.new)) }
-    ensures within_limit { result ≢ Status.Malformed
-        → TakesAtMost (I.rest input.old) FILE_LIMIT (I.rest input.new) }
+    ensures input { FileReadFor (path_of (Some (asked request.now)))
+        (HasRead (Some (asked request.now)) result) (result ≡ Status.Malformed)
+        (I.tells_path input.old) (I.opened input.new) (I.rest input.old) (I.rest input.new)
+        (I.faults input.old) (I.faults input.new) }
 {
     let text = match text_for(alloc, by, request, input) {
         Ok(text) => text,
@@ -268,22 +247,16 @@ fn text_for<M: Maker, I: Input>(
     requires closed { I.opened input.old ≡ Nothing }
     requires size { CanBeMade (asked request.now) }
 
-    ensures done { IfOk result (λ text. OverInput (Some (asked request.now)) (I.rest input.old)
+    ensures done { IfOk result (λ text. OverInput (path_of (Some (asked request.now)))
+        (I.rest input.old)
         (λ bytes. IsAnswer bytes (Some (asked request.now)) (text_answer (bytes_of text)))) }
     ensures refused { IfErr result (IsTrueOf (Some (asked request.now)) (I.rest input.old)
         (Rose (I.faults input.old) (I.faults input.new))) }
 
-    ensures opened { OpenedFor (Some (asked request.now)) (I.tells_path input.old)
-        (I.opened input.new) }
-    ensures untouched { ¬ IsForFile (Some (asked request.now))
-        → (I.rest input.new ≡ I.rest input.old) × (I.faults input.new ≡ I.faults input.old) }
-    ensures read_to_end { IfSome (I.rest input.old) (λ bytes. length bytes ≤ FILE_LIMIT
-        → IsForFile (Some (asked request.now)) → IsOfFile result → I.rest input.new ≡ Some []) }
-    ensures too_large { IfSome (I.rest input.old) (λ bytes. FILE_LIMIT < length bytes
-        → IsForFile (Some (asked request.now)) → IsOfFile result
-        → TakesCount (I.rest input.old) (FILE_LIMIT + 1) (I.rest input.new)) }
-    ensures within_limit { IsFaultless result
-        → TakesAtMost (I.rest input.old) FILE_LIMIT (I.rest input.new) }
+    ensures input { FileReadFor (path_of (Some (asked request.now)))
+        (HasRead (Some (asked request.now)) (end_of result)) (end_of result ≡ Status.Malformed)
+        (I.tells_path input.old) (I.opened input.new) (I.rest input.old) (I.rest input.new)
+        (I.faults input.old) (I.faults input.new) }
 {
     match request {
         Request::File {
@@ -312,15 +285,11 @@ fn file_report<M: Maker, I: Input>(
         → IsTrueOf (Some (of_file path.now workers kind)) (I.rest input.old)
         (Rose (I.faults input.old) (I.faults input.new)) refusal) }
 
-    ensures opened { (workers : ℕ)
-        → OpenedFor (Some (of_file path.now workers kind)) (I.tells_path input.old)
-        (I.opened input.new) }
-    ensures read_to_end { IfSome (I.rest input.old) (λ bytes. length bytes ≤ FILE_LIMIT
-        → IsOfFile result → I.rest input.new ≡ Some []) }
-    ensures too_large { IfSome (I.rest input.old) (λ bytes. FILE_LIMIT < length bytes
-        → IsOfFile result → TakesCount (I.rest input.old) (FILE_LIMIT + 1) (I.rest input.new)) }
-    ensures within_limit { IsFaultless result
-        → TakesAtMost (I.rest input.old) FILE_LIMIT (I.rest input.new) }
+    ensures input { (workers : ℕ) → FileReadFor (Some path.now)
+        (HasRead (Some (of_file path.now workers kind)) (end_of result))
+        (end_of result ≡ Status.Malformed)
+        (I.tells_path input.old) (I.opened input.new) (I.rest input.old) (I.rest input.new)
+        (I.faults input.old) (I.faults input.new) }
 {
     let bytes = read_file(alloc, path, input)?;
     report_of(by, bytes, kind)

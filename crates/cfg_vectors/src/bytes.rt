@@ -3,7 +3,7 @@
 ghost use Rattle.std.specs.Prelude.{◌≡◌, IfOk};
 ghost use Rattle.elf_maker.specs.Fields.{halves, words};
 
-use crate::memory::Memory;
+use crate::Memory;
 use std::alloc::Global;
 
 /// The bytes of 16-bit parcels, the lowest of each first.

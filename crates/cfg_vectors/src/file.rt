@@ -5,7 +5,7 @@ ghost use Rattle.cfg_vectors.specs.Rows.{IsRow, row_parts};
 ghost use Rattle.elf_maker.specs.MadeFile.{made_file};
 ghost use Rattle.elf_maker.specs.MadeOf.{IsMadeOf};
 
-use crate::memory::Memory;
+use crate::Memory;
 use crate::rows::{row_code, row_rodata};
 use crate::symbols::row_symbols;
 use elf_maker::{Bytes, MadeSymbols, Parts, make_elf};

@@ -3,9 +3,8 @@
 
 mod bytes;
 mod file;
-mod memory;
 mod rows;
 mod symbols;
 
 pub use file::row_file;
-pub use memory::Memory;
+pub use std::alloc::AllocError as Memory;

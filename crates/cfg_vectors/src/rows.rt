@@ -3,8 +3,8 @@
 ghost use Rattle.std.specs.Prelude.{◌≡◌, ◌≤◌, ◌⊎◌, IfOk};
 ghost use Rattle.cfg_vectors.specs.Rows.{IsRow, row_code, row_13_code, row_31_code, row_rodata};
 
+use crate::Memory;
 use crate::bytes::{halves, words};
-use crate::memory::Memory;
 use std::alloc::Global;
 
 /// The code of a row, at the address 10000 (hexadecimal). Row 16 has one for each part.

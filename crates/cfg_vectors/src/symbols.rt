@@ -3,7 +3,7 @@
 ghost use Rattle.std.specs.Prelude.{◌≡◌, ◌≤◌, [], ◌∷◌, IfOk};
 ghost use Rattle.cfg_vectors.specs.Rows.{IsRow, each_halfword, row_symbols};
 
-use crate::memory::Memory;
+use crate::Memory;
 use elf_maker::{Bytes, MadeSymbol};
 use std::alloc::Global;
 

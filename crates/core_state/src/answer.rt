@@ -1,6 +1,6 @@
 //! What the changes of the state answer, and how its shards and the work on it are named.
 
-use crate::memory::Memory;
+use crate::Memory;
 
 /// What became of an end at which a start arrived.
 #[derive(Clone, Copy, Debug, PartialEq, Eq)]

@@ -6,7 +6,7 @@ ghost use Rattle.cfg_model.specs.Builder.Waiter.{waiter_cmp};
 ghost use Rattle.core_state.specs.Least.{IsLeastBy};
 ghost use Rattle.core_state.specs.inner.Waiting.{AwaitsTelling, with_told};
 
-use crate::memory::Memory;
+use crate::Memory;
 use cfg_model::Waiter;
 use std::alloc::Global;
 use std::collections::{BTreeMap, BTreeSet};

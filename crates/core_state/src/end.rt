@@ -12,10 +12,10 @@ ghost use Rattle.core_state.specs.Work.{work_of};
 ghost use Rattle.core_state.specs.inner.EndKept.{entry_of};
 ghost use Rattle.core_state.specs.inner.Remaining.{LeftAtEnd};
 
+use crate::Memory;
 use crate::along::{Walk, meet_along};
 use crate::answer::{Arrival, Name, WorkKind};
 use crate::maps::Maps;
-use crate::memory::Memory;
 use crate::split_end::SplitEnd;
 use std::alloc::Global;
 use std::marker::Model;

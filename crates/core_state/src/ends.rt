@@ -13,11 +13,11 @@ ghost use Rattle.core_state.specs.Work.{work_of};
 ghost use Rattle.address_map.specs.Found.{IsFoundAmong};
 ghost use Rattle.core_state.specs.inner.Remaining.{LeftAtEnd};
 
+use crate::Memory;
 use crate::along::{Along, Walk};
 use crate::answer::{Arrival, Name};
 use crate::end::End;
 use crate::maps::Maps;
-use crate::memory::Memory;
 use crate::walk::Keys;
 use address_map::{AddressMap, Look};
 use cfg_model::Chains;

@@ -11,9 +11,8 @@ ghost use Rattle.core_state.specs.inner.Shares.{IsShared, HasNothingAt, IsFoundI
 use crate::answer::{Name, WorkKind};
 use crate::left::left_of;
 use crate::maps::{Maps, SHARDS};
-use crate::memory::Memory;
-use crate::shard;
-use fan_out::map_indices;
+use crate::{Memory, shard};
+use parallel::map_indices;
 use std::alloc::Global;
 use std::thread::Threads;
 

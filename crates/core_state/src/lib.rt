@@ -22,7 +22,6 @@ pub mod laws;
 mod left;
 mod left_sharing;
 mod maps;
-pub mod memory;
 pub mod place;
 mod row;
 mod several;
@@ -38,10 +37,10 @@ pub use along::{Along, Walk};
 pub use answer::{Arrival, Name, PlaceEnd, ShardKind, WorkKind};
 pub use ends::Ends;
 pub use laws::{confluence, events_keep_the_state, what_is_known_is_true, what_was_seen_is_known};
-pub use memory::Memory;
 pub use place::{Job, Place};
 pub use starts::Starts;
 pub use state::State;
+pub use std::alloc::AllocError as Memory;
 pub use terms::Terms;
 
 /// The number of the shard that the address `a` belongs to: the lines of 64 bytes go to 64 shards

@@ -9,7 +9,7 @@ ghost use Rattle.core_state.specs.inner.Pairs.{AreRising, IsGapAt};
 ghost use Rattle.address_map.specs.Pairs.{IsFirstAt};
 ghost use Rattle.core_state.specs.inner.Waiting.{lesser_by};
 
-use crate::memory::Memory;
+use crate::Memory;
 use cfg_model::Waiter;
 use std::cmp::Ordering;
 

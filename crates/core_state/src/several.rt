@@ -7,8 +7,8 @@ ghost use Rattle.core_state.specs.Least.{IsLeastBy};
 ghost use Rattle.address_map.specs.Pairs.{over};
 ghost use Rattle.core_state.specs.inner.Waiting.{AwaitsTelling, with_waiter, with_told};
 
+use crate::Memory;
 use crate::crowd::Crowd;
-use crate::memory::Memory;
 use crate::row::{lesser, put, spot, untold_among};
 use cfg_model::Waiter;
 use std::alloc::Global;

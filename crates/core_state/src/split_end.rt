@@ -6,7 +6,7 @@ ghost use Rattle.std.specs.Ordering.{nat_cmp};
 ghost use Rattle.cfg_model.specs.Builder.Event.{with_displaced};
 ghost use Rattle.core_state.specs.Least.{IsLeast};
 
-use crate::memory::Memory;
+use crate::Memory;
 use std::alloc::Global;
 use std::collections::BTreeSet;
 use std::marker::Model;

@@ -10,8 +10,8 @@ ghost use Rattle.core_state.specs.Work.{work_of};
 ghost use Rattle.address_map.specs.Found.{IsFoundAmong};
 ghost use Rattle.core_state.specs.inner.Remaining.{LeftAtStart};
 
+use crate::Memory;
 use crate::answer::{Name, WorkKind};
-use crate::memory::Memory;
 use crate::walk::Keys;
 use address_map::{AddressMap, Look};
 use cfg_model::Mark;

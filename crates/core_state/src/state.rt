@@ -16,13 +16,13 @@ ghost use Rattle.core_state.specs.Reads.{done_at, returned_at, IsNextToTell, Has
 ghost use Rattle.core_state.specs.Work.{work_of};
 ghost use Rattle.cfg_model.specs.Builder.Left.{IsLeft, HasNothingLeft};
 
+use crate::Memory;
 use crate::along::{Along, Walk};
 use crate::answer::{Arrival, Name};
 use crate::ends::Ends;
 use crate::left::left_of;
 use crate::left_sharing::left_by;
 use crate::maps::Maps;
-use crate::memory::Memory;
 use crate::starts::Starts;
 use crate::terms::Terms;
 use cfg_model::{Chains, Mark, Waiter};

@@ -14,8 +14,8 @@ ghost use Rattle.cfg_model.specs.Builder.Event.{entry_with_return, entry_with_do
 ghost use Rattle.core_state.specs.inner.Waiting.{IsNextHere, HasNextHere};
 ghost use Rattle.core_state.specs.Reads.{done_at, returned_at, IsNextToTell, HasNextToTell};
 
+use crate::Memory;
 use crate::answer::{Name, WorkKind};
-use crate::memory::Memory;
 use crate::waiters::Waiters;
 use crate::walk::Keys;
 use address_map::{AddressMap, Look};

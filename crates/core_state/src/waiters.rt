@@ -11,7 +11,7 @@ ghost use Rattle.core_state.specs.inner.Waiting.{AwaitsTelling, with_waiter, wit
 ghost use Rattle.core_state.specs.inner.InPlace.{in_place, elsewhere, pair_of, told_if};
 ghost use Rattle.address_map.specs.Pairs.{AreApart, over};
 
-use crate::memory::Memory;
+use crate::Memory;
 use crate::row::lesser;
 use crate::several::Several;
 use cfg_model::{WaitKind, Waiter};

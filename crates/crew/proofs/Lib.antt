@@ -1,5 +1,5 @@
 mod Ending
 mod Reasons
-mod Minding
+mod Caching
 mod Losing
 mod GivenBack

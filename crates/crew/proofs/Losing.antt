@@ -16,7 +16,7 @@ use Rattle.core_state.specs.Place as place
 use Rattle.board.specs.Slots.{slot_of, shard_for}
 use Rattle.board.specs.Seat.{SeatState, Knows, lost_of}
 use Rattle.board.specs.Calls.{MadeEvent, AnswersBusy, IsBusyAt, WhereBusy, KnowsTruth}
-use Rattle.crew.specs.inner.Desk.{KnowsSoundly, all_lost}
+use Rattle.crew.specs.inner.Worker.{KnowsSoundly, all_lost}
 
 -- One count that is one more makes the sum one more. Beyond the list there is none.
 sum_more : (xs : List ℕ) (i : ℕ) → i < length xs → sum (slice_set xs i (slice_index xs i + 1)) ≡ sum xs + 1

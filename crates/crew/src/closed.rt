@@ -5,8 +5,8 @@ ghost use Rattle.cfg_model.specs.Program.Reach.{AreSeeds};
 ghost use Rattle.cfg_model.specs.Builder.Kept.{IsKept, IsClosed};
 
 use crate::gate::Gate;
-use crate::hall::Hall;
 use crate::hands::dealt;
+use crate::shared::Shared;
 use crate::team::employ_all;
 use board::Board;
 use cfg_model::Chains;
@@ -85,7 +85,7 @@ fn work_for<J: Job + Send + Sync, R: Threads + Wait + Sync, C: Chains, G: Gate>(
     };
     let hands = dealt(alloc, &pool, hands, seeds)?;
     let (board, seat) = Board::<J>::new(alloc, code)?;
-    let hall = Hall {
+    let shared = Shared {
         rt,
         board: &board,
         pool: &pool,
@@ -93,7 +93,7 @@ fn work_for<J: Job + Send + Sync, R: Threads + Wait + Sync, C: Chains, G: Gate>(
         seeds,
         gate,
     };
-    let (seat, hands) = employ_all(alloc, &hall, seat, hands, 0)?;
+    let (seat, hands) = employ_all(alloc, &shared, seat, hands, 0)?;
     let state = board.close(alloc, seat)?;
     // The names that are left are not used: `finish` finds their work in the state.
     let _ = pool.gather(alloc, hands);

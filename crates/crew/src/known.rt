@@ -1,7 +1,7 @@
 //! Addresses that a worker keeps in mind.
 
 ghost use Rattle.std.specs.Prelude.{◌≡◌, ◌⊎◌, ℕ, Some, IsTrue};
-ghost use Rattle.crew.specs.inner.Known.{Minds};
+ghost use Rattle.crew.specs.inner.Known.{Caches};
 
 use std::alloc::Global;
 use std::marker::Model;
@@ -36,7 +36,7 @@ impl Model for Known {
 impl Known {
     /// None yet.
     pub(crate) fn new(alloc: Global) -> Known
-        ensures { (a : ℕ) → ¬ Minds result a }
+        ensures { (a : ℕ) → ¬ Caches result a }
     {
         match vec![in alloc; NONE; PLACES] {
             Ok(places) => Known { places },
@@ -48,7 +48,7 @@ impl Known {
 
     /// Keeps the address in mind.
     pub(crate) fn note(&mut self, a: u64)
-        ensures { (b : ℕ) → Minds self.new b → Minds self.old b ⊎ (b ≡ a) }
+        ensures { (b : ℕ) → Caches self.new b → Caches self.old b ⊎ (b ≡ a) }
     {
         if let Some(place) = self.places.get_mut(place_of(a)) {
             *place = a;
@@ -57,7 +57,7 @@ impl Known {
 
     /// Keeps the address in mind, if there is one.
     pub(crate) fn note_some(&mut self, a: Option<u64>)
-        ensures { (b : ℕ) → Minds self.new b → Minds self.old b ⊎ (a ≡ Some b) }
+        ensures { (b : ℕ) → Caches self.new b → Caches self.old b ⊎ (a ≡ Some b) }
     {
         if let Some(a) = a {
             self.note(a);
@@ -66,7 +66,7 @@ impl Known {
 
     /// Whether the address is kept in mind. If it is not, nothing is said of it.
     pub(crate) fn has(&self, a: u64) -> bool
-        ensures { IsTrue result → Minds self.now a }
+        ensures { IsTrue result → Caches self.now a }
     {
         a != NONE && self.places.get(place_of(a)) == Some(&a)
     }

@@ -6,10 +6,10 @@ ghost use Rattle.cfg_model.specs.Program.Instructions.{IsLawful};
 ghost use Rattle.cfg_model.specs.Program.Reach.{AreSeeds};
 ghost use Rattle.cfg_model.specs.Builder.Fact.{Fact};
 ghost use Rattle.work_ops.specs.Going.{RoseIfBusy};
-ghost use Rattle.crew.specs.inner.Desk.{KnowsSoundly, all_lost};
+ghost use Rattle.crew.specs.inner.Worker.{KnowsSoundly, all_lost};
 
-use crate::desk::Desk;
-use crate::station::Station;
+use crate::worker::Worker;
+use crate::worker_ids::WorkerIds;
 use cfg_model::{Chains, Flow, term};
 use core_state::{Job, Name, Place, PlaceEnd, WorkKind};
 use work_ops::{edges_op, move_op, parse_op, tell_op, want_op};
@@ -19,8 +19,8 @@ use work_ops::{edges_op, move_op, parse_op, tell_op, want_op};
 ///
 /// If it followed a chain and found that the edges of the terminator there have to be followed, it
 /// gives that terminator and no longer keeps that name.
-pub(crate) fn do_named<J: Job, S: Station, C: Chains>(
-    desk: &mut Desk<J, S>,
+pub(crate) fn do_named<J: Job, S: WorkerIds, C: Chains>(
+    worker: &mut Worker<J, S>,
     code: &C,
     seeds: &[u64],
     name: Name,
@@ -29,23 +29,23 @@ pub(crate) fn do_named<J: Job, S: Station, C: Chains>(
     requires job { seeds.now ≡ J.seeds }
     requires seeds { AreSeeds J.map J.seeds }
     ensures entered { IfOk result (λ k. IfSome k
-        (λ k. KnowsSoundly J.map J.seeds desk.new (Fact.Terminator k))) }
-    ensures busy { IfErr result (RoseIfBusy (all_lost desk.old) (all_lost desk.new)) }
+        (λ k. KnowsSoundly J.map J.seeds worker.new (Fact.Terminator k))) }
+    ensures busy { IfErr result (RoseIfBusy (all_lost worker.old) (all_lost worker.new)) }
 {
     let key = name.key;
     match name.kind {
-        WorkKind::Want => want_seed(desk, code, seeds, key)?,
-        WorkKind::Parse => return parse_start(desk, code, key),
-        WorkKind::Move => move_op::<J, Desk<J, S>, C>(desk, code, key)?,
-        WorkKind::Edges => follow_edges(desk, code, key)?,
-        WorkKind::Tell => tell_op::<J, Desk<J, S>, C>(desk, code, key)?,
+        WorkKind::Want => want_seed(worker, code, seeds, key)?,
+        WorkKind::Parse => return parse_start(worker, code, key),
+        WorkKind::Move => move_op::<J, Worker<J, S>, C>(worker, code, key)?,
+        WorkKind::Edges => follow_edges(worker, code, key)?,
+        WorkKind::Tell => tell_op::<J, Worker<J, S>, C>(worker, code, key)?,
     }
     Ok(None)
 }
 
 /// Makes `s` a start, if it is a seed.
-fn want_seed<J: Job, S: Station, C: Chains>(
-    desk: &mut Desk<J, S>,
+fn want_seed<J: Job, S: WorkerIds, C: Chains>(
+    worker: &mut Worker<J, S>,
     code: &C,
     seeds: &[u64],
     s: u64,
@@ -53,37 +53,37 @@ fn want_seed<J: Job, S: Station, C: Chains>(
     requires code { C.map code.now ≡ J.map }
     requires job { seeds.now ≡ J.seeds }
     requires seeds { AreSeeds J.map J.seeds }
-    ensures busy { IfErr result (RoseIfBusy (all_lost desk.old) (all_lost desk.new)) }
+    ensures busy { IfErr result (RoseIfBusy (all_lost worker.old) (all_lost worker.new)) }
 {
     match seeds.binary_search(&s) {
-        Ok(_) => want_op::<J, Desk<J, S>, C>(desk, code, s),
+        Ok(_) => want_op::<J, Worker<J, S>, C>(worker, code, s),
         Err(_) => Ok(()),
     }
 }
 
 /// Follows the chain of `s` to its end, if `s` is a start. Gives the terminator, if the name of its
 /// edges was the last that it found and it does not remember to have followed them.
-fn parse_start<J: Job, S: Station, C: Chains>(
-    desk: &mut Desk<J, S>,
+fn parse_start<J: Job, S: WorkerIds, C: Chains>(
+    worker: &mut Worker<J, S>,
     code: &C,
     s: u64,
 ) -> Result<Option<u64>, PlaceEnd>
     requires code { C.map code.now ≡ J.map }
     requires seeds { AreSeeds J.map J.seeds }
     ensures entered { IfOk result (λ k. IfSome k
-        (λ k. KnowsSoundly J.map J.seeds desk.new (Fact.Terminator k))) }
-    ensures busy { IfErr result (RoseIfBusy (all_lost desk.old) (all_lost desk.new)) }
+        (λ k. KnowsSoundly J.map J.seeds worker.new (Fact.Terminator k))) }
+    ensures busy { IfErr result (RoseIfBusy (all_lost worker.old) (all_lost worker.new)) }
 {
-    if !code.has(s) || !<Desk<J, S> as Place<J>>::has_start(desk, s)? {
+    if !code.has(s) || !<Worker<J, S> as Place<J>>::has_start(worker, s)? {
         return Ok(None);
     }
-    parse_op::<J, Desk<J, S>, C>(desk, code, s)?;
+    parse_op::<J, Worker<J, S>, C>(worker, code, s)?;
     let k = end_of::<J, C>(code, s);
     let name = Name {
         kind: WorkKind::Edges,
         key: k,
     };
-    if desk.take_newest(name) && !desk.has_followed(k) {
+    if worker.take_newest(name) && !worker.has_followed(k) {
         Ok(Some(k))
     } else {
         Ok(None)
@@ -100,43 +100,43 @@ fn end_of<J: Job, C: Chains>(code: &C, s: u64) -> u64
 }
 
 /// Follows the edges of `k`, if `k` is a terminator at which a block ends.
-fn follow_edges<J: Job, S: Station, C: Chains>(
-    desk: &mut Desk<J, S>,
+fn follow_edges<J: Job, S: WorkerIds, C: Chains>(
+    worker: &mut Worker<J, S>,
     code: &C,
     k: u64,
 ) -> Result<(), PlaceEnd>
     requires code { C.map code.now ≡ J.map }
     requires seeds { AreSeeds J.map J.seeds }
-    ensures busy { IfErr result (RoseIfBusy (all_lost desk.old) (all_lost desk.new)) }
+    ensures busy { IfErr result (RoseIfBusy (all_lost worker.old) (all_lost worker.new)) }
 {
-    if !enters(desk, code, k)? {
+    if !enters(worker, code, k)? {
         return Ok(());
     }
-    edges_op::<J, Desk<J, S>, C>(desk, code, k)
+    edges_op::<J, Worker<J, S>, C>(worker, code, k)
 }
 
 /// Whether `k` is a terminator at which a block ends. It is entered then: the start that is near
 /// there is one, since it stands there, and `k` ends its chain.
-fn enters<J: Job, S: Station, C: Chains>(
-    desk: &mut Desk<J, S>,
+fn enters<J: Job, S: WorkerIds, C: Chains>(
+    worker: &mut Worker<J, S>,
     code: &C,
     k: u64,
 ) -> Result<bool, PlaceEnd>
     requires code { C.map code.now ≡ J.map }
     requires seeds { AreSeeds J.map J.seeds }
     ensures entered { IfOk result
-        (λ entered. IsTrue entered → KnowsSoundly J.map J.seeds desk.new (Fact.Terminator k)) }
-    ensures busy { IfErr result (RoseIfBusy (all_lost desk.old) (all_lost desk.new)) }
-    ensures counted { all_lost desk.old ≤ all_lost desk.new }
+        (λ entered. IsTrue entered → KnowsSoundly J.map J.seeds worker.new (Fact.Terminator k)) }
+    ensures busy { IfErr result (RoseIfBusy (all_lost worker.old) (all_lost worker.new)) }
+    ensures counted { all_lost worker.old ≤ all_lost worker.new }
 {
-    let Some(start) = <Desk<J, S> as Place<J>>::near(desk, k)? else {
+    let Some(start) = <Worker<J, S> as Place<J>>::near(worker, k)? else {
         return Ok(false);
     };
     if !ends_chain::<J, C>(code, k) {
         return Ok(false);
     }
-    want_op::<J, Desk<J, S>, C>(desk, code, start)?;
-    <Desk<J, S> as Place<J>>::term(desk, k)?;
+    want_op::<J, Worker<J, S>, C>(worker, code, start)?;
+    <Worker<J, S> as Place<J>>::term(worker, k)?;
     Ok(true)
 }
 

@@ -11,20 +11,20 @@
 //! - [`Tally`]: what a worker counted, which it gives to the gate when it ends.
 #![tactic(auto)]
 
+mod cache;
 mod closed;
-mod desk;
 mod gate;
-mod hall;
 mod hands;
 mod known;
 mod learn;
-mod mind;
 mod names;
-mod station;
+mod shared;
 mod tally;
 mod team;
 mod waiting;
 mod worker;
+mod worker_ids;
+mod working;
 
 pub use closed::{build, work};
 pub use gate::{Gate, OpenGate};

@@ -5,8 +5,8 @@ ghost use Rattle.std.specs.Thread.{IsSend, IsSync};
 ghost use Rattle.crew.specs.inner.Team.{IsJob, IsFree, IsBack, AreBack, AreOf};
 
 use crate::gate::Gate;
-use crate::hall::Hall;
-use crate::worker::employ;
+use crate::shared::Shared;
+use crate::working::employ;
 use board::Seat;
 use cfg_model::Chains;
 use core_state::{Job, Memory};
@@ -24,58 +24,58 @@ pub(crate) type Back<J> = (Seat<J>, Vec<Hand>);
 /// seat and the hands are gone.
 pub(crate) fn employ_all<J: Job + Send + Sync, R: Threads + Wait + Sync, C: Chains, G: Gate>(
     alloc: Global,
-    hall: &Hall<J, R, C, G>,
+    shared: &Shared<J, R, C, G>,
     seat: Seat<J>,
     hands: Vec<Hand>,
     first: u32,
 ) -> Result<Back<J>, Memory>
-    requires job { IsJob J.map J.seeds (C.map hall.now.code.now) hall.now.seeds.now }
-    requires seat { IsFree hall.now.board.now seat }
-    requires hands { AreOf hall.now.pool.now first hands.items }
+    requires job { IsJob J.map J.seeds (C.map shared.now.code.now) shared.now.seeds.now }
+    requires seat { IsFree shared.now.board.now seat }
+    requires hands { AreOf shared.now.pool.now first hands.items }
     ensures seat { IfOk result (λ back. IsBack seat back.0) }
     ensures hands { IfOk result (λ back. AreBack hands.items back.1.items) }
 {
     let mut low = hands;
     if low.len() < 2 {
-        return employ_one(alloc, hall, seat, low, first);
+        return employ_one(alloc, shared, seat, low, first);
     }
     let half = low.len() / 2;
     let high = low.split_off(half)?;
     let next = first + half as u32;
-    let (left, right) = seat.split(hall.board);
+    let (left, right) = seat.split(shared.board);
     let (left, right) = join(
-        hall.rt,
+        shared.rt,
         move || -> Result<Back<J>, Memory>
             requires { IsSync R.row × IsSync C.row × IsSync G.row × IsSend J.row × IsSync J.row
-                × IsJob J.map J.seeds (C.map hall.now.code.now) hall.now.seeds.now
-                × IsFree hall.now.board.now left × AreOf hall.now.pool.now first low.items }
+                × IsJob J.map J.seeds (C.map shared.now.code.now) shared.now.seeds.now
+                × IsFree shared.now.board.now left × AreOf shared.now.pool.now first low.items }
             ensures { IfOk result (λ back. IsBack left back.0 × AreBack low.items back.1.items) }
-        { employ_all(alloc, hall, left, low, first) },
+        { employ_all(alloc, shared, left, low, first) },
         move || -> Result<Back<J>, Memory>
             requires { IsSync R.row × IsSync C.row × IsSync G.row × IsSend J.row × IsSync J.row
-                × IsJob J.map J.seeds (C.map hall.now.code.now) hall.now.seeds.now
-                × IsFree hall.now.board.now right × AreOf hall.now.pool.now next high.items }
+                × IsJob J.map J.seeds (C.map shared.now.code.now) shared.now.seeds.now
+                × IsFree shared.now.board.now right × AreOf shared.now.pool.now next high.items }
             ensures { IfOk result (λ back. IsBack right back.0 × AreBack high.items back.1.items) }
-        { employ_all(alloc, hall, right, high, next) },
+        { employ_all(alloc, shared, right, high, next) },
     );
     let (left, mut low) = left?;
     let (right, mut high) = right?;
     low.append(&mut high)?;
-    Ok((left.join(hall.board, right), low))
+    Ok((left.join(shared.board, right), low))
 }
 
 /// The same for one hand at most, in this thread.
 fn employ_one<J: Job, R: Wait, C: Chains, G: Gate>(
     alloc: Global,
-    hall: &Hall<J, R, C, G>,
+    shared: &Shared<J, R, C, G>,
     seat: Seat<J>,
     hands: Vec<Hand>,
     number: u32,
 ) -> Result<Back<J>, Memory>
     requires few { vec_len hands < 2 }
-    requires job { IsJob J.map J.seeds (C.map hall.now.code.now) hall.now.seeds.now }
-    requires seat { IsFree hall.now.board.now seat }
-    requires hands { AreOf hall.now.pool.now number hands.items }
+    requires job { IsJob J.map J.seeds (C.map shared.now.code.now) shared.now.seeds.now }
+    requires seat { IsFree shared.now.board.now seat }
+    requires hands { AreOf shared.now.pool.now number hands.items }
     ensures seat { IfOk result (λ back. IsBack seat back.0) }
     ensures hands { IfOk result (λ back. AreBack hands.items back.1.items) }
 {
@@ -83,7 +83,7 @@ fn employ_one<J: Job, R: Wait, C: Chains, G: Gate>(
     let Some(hand) = hands.pop() else {
         return Ok((seat, hands));
     };
-    let (seat, hand) = employ(alloc, hall, seat, hand, number);
+    let (seat, hand) = employ(alloc, shared, seat, hand, number);
     hands.push(hand)?;
     Ok((seat, hands))
 }

@@ -4,7 +4,7 @@
 ghost use Rattle.std.specs.Prelude.{◌≡◌, ◌++◌, ◌≤◌, length, replicate, OnOk};
 ghost use Rattle.elf_maker.specs.Fields.{halves, words, xwords, padding, padded};
 
-use crate::memory::Memory;
+use crate::Memory;
 
 /// Appends fields of two bytes each (`Elf64_Half`).
 #[tactic(auto, unfolding(crate::specs::Fields::halves))]

@@ -3,8 +3,8 @@
 ghost use Rattle.std.specs.Prelude.{◌≡◌, ◌++◌, OnOk};
 ghost use Rattle.elf_maker.specs.Header.{file_header};
 
+use crate::Memory;
 use crate::fields::{put_halves, put_words, put_xwords};
-use crate::memory::Memory;
 
 /// `e_ident`: the magic number, `ELFCLASS64`, `ELFDATA2LSB`, `EV_CURRENT`.
 const IDENTIFICATION: [u8; 16] = [0x7F, b'E', b'L', b'F', 2, 1, 1, 0, 0, 0, 0, 0, 0, 0, 0, 0];

@@ -4,11 +4,10 @@
 mod fields;
 mod header;
 mod make;
-mod memory;
 mod parts;
 mod section;
 mod symbol;
 
 pub use make::make_elf;
-pub use memory::Memory;
 pub use parts::{Bytes, MadeSymbol, MadeSymbols, Parts};
+pub use std::alloc::AllocError as Memory;

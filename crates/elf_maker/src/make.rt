@@ -5,9 +5,9 @@ ghost use Rattle.elf_maker.specs.Fit.{AreDisjoint, have_whole_names};
 ghost use Rattle.elf_maker.specs.MadeFile.{made_file};
 ghost use Rattle.elf_maker.specs.MadeOf.{IsMadeOf};
 
+use crate::Memory;
 use crate::fields::put_padded;
 use crate::header::put_file_header;
-use crate::memory::Memory;
 use crate::parts::Parts;
 use crate::section::{file_size, layout_of, put_section_table, section_count};
 use crate::symbol::{string_table, symbol_table};

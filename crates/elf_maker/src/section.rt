@@ -8,8 +8,8 @@ ghost use Rattle.elf_maker.specs.Sections.{symbols_header, strings_header, symbo
 ghost use Rattle.elf_maker.specs.Sections.{section_headers, headers_place, section_table};
 ghost use Rattle.elf_maker.specs.Inner.Layout.{layout_of};
 
+use crate::Memory;
 use crate::fields::{padded_len, put_words, put_xwords};
-use crate::memory::Memory;
 use crate::parts::Parts;
 
 const SHT_NULL: u32 = 0;

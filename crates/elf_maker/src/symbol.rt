@@ -5,8 +5,8 @@ ghost use Rattle.std.specs.List.{flat_map, All};
 ghost use Rattle.elf_maker.specs.Symbols.{symbol_entry, symbol_entries, terminated_name};
 ghost use Rattle.elf_maker.specs.Symbols.{symbol_table, string_table};
 
+use crate::Memory;
 use crate::fields::{put_halves, put_words, put_xwords};
-use crate::memory::Memory;
 use crate::parts::MadeSymbol;
 use std::alloc::Global;
 

@@ -13,11 +13,11 @@ use Rattle.cfg_model.specs.Graph.Listing.{Gains, Lists}
 use Rattle.cfg_model.specs.Graph.Graph.{BlockBefore, EdgeBefore}
 use Rattle.cfg_model.specs.Builder.State.{BuilderState, HasEnd, IsNear}
 use Rattle.cfg_model.proofs.Graphs.Lists.{Contains-none}
-use Rattle.stretches.specs.declared.stretch.Stretch.{Stretch}
-use Rattle.stretches.specs.Stretch.{IsIn}
-use Rattle.stretches.specs.Gaps.{gap, whole}
-use Rattle.stretches.proofs.Covered.{one_gap}
-use Rattle.stretches.proofs.Joined.{item_of, joined_has, pairs_joined, known_joined}
+use Rattle.parallel.specs.declared.ranges.AddressRange.{AddressRange}
+use Rattle.parallel.specs.Ranges.{IsIn}
+use Rattle.parallel.specs.Gaps.{gap, whole}
+use Rattle.parallel.proofs.Covered.{one_gap}
+use Rattle.parallel.proofs.GapByGap.{item_of, joined_has, pairs_joined, known_joined}
 use Rattle.finaliser.specs.Closed.{IsClosedFromSome}
 use Rattle.finaliser.specs.Inner.Shown.{IsShownBlock, IsShownEdge, StartApart}
 use Rattle.finaliser.specs.Inner.Parts.{Answered, AreMade, ArePartOf, blocks_in, edges_in}
@@ -41,21 +41,21 @@ gains_all xs P is = record {
 rising_apart : (blocks : List Block) → AllPairs BlockBefore blocks → AllPairs StartApart blocks
 rising_apart blocks rising i j d less within same = let up : (get_or blocks i d).start < (get_or blocks j d).start = rising i j d less within in omega arith
 
-pub part_in_order : (map : InstructionMap) (state : BuilderState) (stretch : Stretch) (found blocks : List Block) (ways edges : List Edge)
-    → ArePartOf map state stretch found ways → Lists BlockBefore (Contains found) blocks → Lists EdgeBefore (Contains ways) edges → ArePartOf map state stretch blocks edges
-part_in_order map state stretch found blocks ways edges are by_start by_source = record {
+pub part_in_order : (map : InstructionMap) (state : BuilderState) (range : AddressRange) (found blocks : List Block) (ways edges : List Edge)
+    → ArePartOf map state range found ways → Lists BlockBefore (Contains found) blocks → Lists EdgeBefore (Contains ways) edges → ArePartOf map state range blocks edges
+part_in_order map state range found blocks ways edges are by_start by_source = record {
   lawful = are.lawful;
-  all_blocks = gains_moved [] found blocks (IsShownBlock map state stretch) (λ x. (by_start.sound x, by_start.complete x)) are.all_blocks;
+  all_blocks = gains_moved [] found blocks (IsShownBlock map state range) (λ x. (by_start.sound x, by_start.complete x)) are.all_blocks;
   apart = rising_apart blocks by_start.in_order;
-  all_edges = gains_moved [] ways edges (IsShownEdge map state stretch) (λ x. (by_source.sound x, by_source.complete x)) are.all_edges;
+  all_edges = gains_moved [] ways edges (IsShownEdge map state range) (λ x. (by_source.sound x, by_source.complete x)) are.all_edges;
 }
 
 -- the parts of all gaps
 
-made_part : (map : InstructionMap) (state : BuilderState) (stretch : Stretch) (answer : Answered)
-    → IfOk answer (λ part. ArePartOf map state stretch part.blocks.items part.edges.items) → AreMade answer → ArePartOf map state stretch (blocks_in answer) (edges_in answer)
-made_part map state stretch (Ok part) are made = are
-made_part map state stretch (Err e) are made = absurd (cc)
+made_part : (map : InstructionMap) (state : BuilderState) (range : AddressRange) (answer : Answered)
+    → IfOk answer (λ part. ArePartOf map state range part.blocks.items part.edges.items) → AreMade answer → ArePartOf map state range (blocks_in answer) (edges_in answer)
+made_part map state range (Ok part) are made = are
+made_part map state range (Err e) are made = absurd (cc)
 
 module _ (map : InstructionMap) (state : BuilderState) (closed : IsClosedFromSome map state) (bounds : List ℕ) (rising : IsNonDecreasing bounds)
     (answers : List Answered) (long : length answers ≡ length bounds + 1)

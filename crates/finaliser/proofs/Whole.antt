@@ -14,9 +14,9 @@ use Rattle.cfg_model.specs.Builder.Kept.{IsClosed}
 use Rattle.cfg_model.specs.Builder.State.{BuilderState, HasEnd}
 use Rattle.status_laws.proofs.ClosedLaws.{closed_shows_graph}
 use Rattle.cfg_model.proofs.Graphs.Lists.{Contains-none}
-use Rattle.stretches.specs.Stretch.{IsIn}
-use Rattle.stretches.specs.Gaps.{whole}
-use Rattle.finaliser.specs.declared.memory.Memory.{Memory}
+use Rattle.parallel.specs.Ranges.{IsIn}
+use Rattle.parallel.specs.Gaps.{whole}
+use Rattle.std.specs.declared.alloc.AllocError.{AllocError as Memory}
 use Rattle.cfg_model.specs.declared.graph.Outline.{Outline}
 use Rattle.finaliser.specs.Closed.{IsOutlineOf}
 use Rattle.finaliser.specs.Inner.Shown.{IsShownBlock, IsShownEdge}

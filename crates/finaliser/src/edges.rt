@@ -10,7 +10,7 @@ ghost use Rattle.cfg_model.specs.Program.Instructions.{IsLawful, flow_at};
 ghost use Rattle.cfg_model.specs.Builder.State.{IsNear};
 ghost use Rattle.finaliser.specs.Closed.{IsClosedFromSome};
 
-use crate::memory::Memory;
+use crate::Memory;
 use crate::status::may_return;
 use cfg_model::{Chains, Edge, Flow, add_edges_by, edges_in_order};
 use core_state::State;
@@ -65,9 +65,10 @@ fn callee_returns<C: Chains>(code: &C, state: &State, s: u64, k: u64, flow: Flow
 }
 
 /// The same edges, each once, by the start of the block that they leave, then of the block that
-/// they enter, then by kind.
-pub(crate) fn by_source(edges: Vec<Edge>) -> Vec<Edge>
+/// they enter, then by kind. As with blocks, the first sort makes use of the order that they have.
+pub(crate) fn by_source(mut edges: Vec<Edge>) -> Vec<Edge>
     ensures { Lists EdgeBefore (Contains edges.items) result.items }
 {
+    let _ = edges.sort();
     edges_in_order(edges)
 }

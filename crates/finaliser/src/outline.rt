@@ -6,12 +6,12 @@ ghost use Rattle.cfg_model.specs.Graph.Listing.{Lists};
 ghost use Rattle.finaliser.specs.Closed.{IsClosedFromSome, IsOutlineOf};
 ghost use Rattle.finaliser.specs.Inner.Shown.{StartApart};
 
-use crate::memory::Memory;
+use crate::Memory;
 use crate::part::{Part, read_ends};
 use cfg_model::{Blocks, Chains, Edges, Outline};
 use core_state::State;
+use parallel::AddressRange;
 use std::alloc::Global;
-use stretches::Stretch;
 
 /// The basic blocks of the program `code`, and the edges between them, from the closed state of its
 /// builder alone: neither the seeds nor anything else that is reached is looked at. [`Memory`] if
@@ -27,7 +27,7 @@ pub fn blocks_and_edges<C: Chains>(
     requires closed { IsClosedFromSome (C.map code.now) state.now.maps }
     ensures outline { IfOk result (IsOutlineOf (C.map code.now) state.now.maps) }
 {
-    let part = read_ends(alloc, code, state, Stretch::all())?;
+    let part = read_ends(alloc, code, state, AddressRange::all())?;
     Ok(outline_from(part))
 }
 

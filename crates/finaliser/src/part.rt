@@ -7,18 +7,18 @@ ghost use Rattle.cfg_model.specs.Graph.Listing.{Lists};
 ghost use Rattle.cfg_model.specs.Program.Instructions.{IsLawful, flow_at};
 ghost use Rattle.cfg_model.specs.Builder.State.{HasEnd, IsNear};
 ghost use Rattle.core_state.specs.Least.{IsAbove, IsLeast};
-ghost use Rattle.stretches.specs.Stretch.{IsUpTo};
+ghost use Rattle.parallel.specs.Ranges.{IsUpTo};
 ghost use Rattle.finaliser.specs.Closed.{IsClosedFromSome};
 ghost use Rattle.finaliser.specs.Inner.Parts.{ArePartOf};
 ghost use Rattle.finaliser.specs.Inner.Shown.{StartApart};
 
+use crate::Memory;
 use crate::blocks::by_start;
 use crate::edges::{add_ways, by_source};
-use crate::memory::Memory;
 use cfg_model::{Block, Chains, Edge, EndKind, Flow, block_by};
 use core_state::State;
+use parallel::AddressRange;
 use std::alloc::Global;
-use stretches::Stretch;
 
 /// Blocks of a program, and the edges that leave them. An edge may stand there more than once.
 #[derive(Drop)]
@@ -46,16 +46,16 @@ pub(crate) fn read_ends<C: Chains>(
     alloc: Global,
     code: &C,
     state: &State,
-    stretch: Stretch,
+    range: AddressRange,
 ) -> Result<Part, Memory>
     requires closed { IsClosedFromSome (C.map code.now) state.now.maps }
     ensures { IfOk result (λ part.
-        ArePartOf (C.map code.now) state.now.maps stretch part.blocks.items part.edges.items) }
+        ArePartOf (C.map code.now) state.now.maps range part.blocks.items part.edges.items) }
 {
     let mut blocks = Vec::new(alloc);
     let mut edges = Vec::new(alloc);
-    let mut at = stretch.after;
-    while let Some(k) = end_up_to(state, at, stretch.last) {
+    let mut at = range.after;
+    while let Some(k) = end_up_to(state, at, range.last) {
         let s = start_at(state, k);
         let flow = code.flow(k);
         add_ways(code, state, s, k, flow, &mut edges)?;

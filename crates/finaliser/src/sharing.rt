@@ -7,23 +7,22 @@ ghost use Rattle.std.specs.List.Sorted.{IsNonDecreasing};
 ghost use Rattle.std.specs.Thread.{IsSync};
 ghost use Rattle.cfg_model.specs.Graph.Graph.{BlockBefore, EdgeBefore};
 ghost use Rattle.cfg_model.specs.Graph.Listing.{Lists};
-ghost use Rattle.stretches.specs.Gaps.{gap};
+ghost use Rattle.parallel.specs.Gaps.{gap};
 ghost use Rattle.finaliser.specs.Closed.{IsClosedFromSome, IsOutlineOf};
-ghost use Rattle.finaliser.specs.Inner.Parts.{AreMade, ArePartOf, all_in, blocks_in, edges_in};
+ghost use Rattle.finaliser.specs.Inner.Parts.{AreMade, ArePartOf, blocks_in, edges_in};
+ghost use Rattle.parallel.specs.Lists.{all_in};
 ghost use Rattle.finaliser.specs.Inner.Shown.{StartApart};
 
+use crate::Memory;
 use crate::blocks::by_start;
 use crate::edges::by_source;
-use crate::lists::joined;
-use crate::memory::Memory;
 use crate::outline::blocks_and_edges;
 use crate::part::{Part, read_ends};
 use cfg_model::{Block, Blocks, Chains, Edge, Edges, Outline};
 use core_state::State;
-use drawn_calls::map_drawn;
+use parallel::{AddressRange, joined, map_drawn};
 use std::alloc::Global;
 use std::thread::{Threads, join};
-use stretches::Stretch;
 
 /// The answer of [`blocks_and_edges`], made by `workers` workers. They draw the `bounds.len() + 1`
 /// gaps between the bounds one after another, and make the blocks that end in each, and their
@@ -69,7 +68,7 @@ fn made_by_gap<R: Threads + Sync, C: Chains>(
         requires { IsSync C.row × IsClosedFromSome (C.map code.now) state.now.maps }
         ensures { IfOk result (λ part. ArePartOf (C.map code.entry.now) state.entry.now.maps
             (gap bounds.entry.now i) part.blocks.items part.edges.items) }
-    { part_of(alloc, code, state, Stretch::gap(bounds, i)) };
+    { part_of(alloc, code, state, AddressRange::gap(bounds, i)) };
     Ok(map_drawn(rt, alloc, workers, bounds.len() + 1, &make)?)
 }
 
@@ -78,13 +77,13 @@ fn part_of<C: Chains>(
     alloc: Global,
     code: &C,
     state: &State,
-    stretch: Stretch,
+    range: AddressRange,
 ) -> Result<Part, Memory>
     requires closed { IsClosedFromSome (C.map code.now) state.now.maps }
     ensures { IfOk result (λ part.
-        ArePartOf (C.map code.now) state.now.maps stretch part.blocks.items part.edges.items) }
+        ArePartOf (C.map code.now) state.now.maps range part.blocks.items part.edges.items) }
 {
-    let part = read_ends(alloc, code, state, stretch)?;
+    let part = read_ends(alloc, code, state, range)?;
     Ok(part.in_order())
 }
 

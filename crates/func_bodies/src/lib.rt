@@ -11,5 +11,5 @@ pub mod listing;
 pub mod sharing;
 
 pub use listing::functions;
-pub use outline_funcs::{MOST_WORKERS, Memory, functions_among, mark_tails, mark_tails_by};
+pub use outline_funcs::{Memory, functions_among, mark_tails, mark_tails_by};
 pub use sharing::functions_by;

@@ -14,7 +14,8 @@ use crate::listing::know_laws;
 use cfg_model::{Chains, Functions, Outline};
 use core_state::State;
 use finaliser::may_return;
-use outline_funcs::{MOST_WORKERS, Memory, functions_among_by};
+use outline_funcs::{Memory, functions_among_by};
+use parallel::MOST_WORKERS;
 use std::alloc::Global;
 use std::thread::Threads;
 

@@ -3,11 +3,11 @@
 ghost use Rattle.std.specs.Prelude.{◌≡◌, IfOk};
 ghost use Rattle.graph_report.specs.Summary.{may_return_count, no_return_count, summary_text};
 
+use crate::Memory;
 use crate::line::{
     push_block_count, push_edge_count, push_function_count, push_made, push_may_return_count,
     push_no_return_count,
 };
-use crate::memory::Memory;
 use crate::page::Page;
 use cfg_model::{Function, Graph};
 use std::alloc::Global;

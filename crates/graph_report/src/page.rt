@@ -3,7 +3,7 @@
 ghost use Rattle.std.specs.Prelude.{◌≡◌, ◌≤◌, ◌+◌, [], ◌++◌, length, drop, IfOk};
 ghost use Rattle.std.specs.Prelude.{vec_len, vec_capacity};
 
-use crate::memory::Memory;
+use crate::Memory;
 use std::alloc::Global;
 use std::marker::Model;
 

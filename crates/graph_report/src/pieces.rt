@@ -11,11 +11,11 @@ ghost use Rattle.elf_symbols.specs.Seeds.{name_in, LiesIn};
 ghost use Rattle.graph_report.specs.Report.{heading};
 ghost use Rattle.graph_report.specs.Inner.{text_left};
 
+use crate::Memory;
 use crate::kind::ReportKind;
 use crate::left::ReportLeft;
 use crate::line::{push_entry, push_first};
 use crate::live_left::{LiveLeft, TextLeft};
-use crate::memory::Memory;
 use crate::page::{PAGE_ROOM, PIECE, Page};
 use cfg_model::{AllLives, Graph};
 use elf_image::Image;

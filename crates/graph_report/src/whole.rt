@@ -8,8 +8,8 @@ ghost use Rattle.elf_symbols.specs.Seeds.{name_in, LiesIn};
 ghost use Rattle.graph_report.specs.Live.{AreForAll, live_text};
 ghost use Rattle.graph_report.specs.Report.{report_text};
 
+use crate::Memory;
 use crate::kind::ReportKind;
-use crate::memory::Memory;
 use crate::pieces::ReportPieces;
 use cfg_model::{AllLives, Graph};
 use elf_image::Image;

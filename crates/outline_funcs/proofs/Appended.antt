@@ -6,7 +6,8 @@ use Rattle.std.proofs.lemmas.List.Elements.{Contains-append_left, Contains-appen
 use Rattle.cfg_model.specs.declared.graph.Edge.{Edge}
 use Rattle.cfg_model.proofs.Graphs.Lists.{Contains-none}
 use Rattle.outline_funcs.specs.Inner.Entries.{AreCalledBy, AreEntriesBy}
-use Rattle.outline_funcs.specs.Inner.Parts.{Answered, AreMade, made_in, AnswerChunks}
+use Rattle.outline_funcs.specs.Inner.Parts.{AnswerChunks}
+use Rattle.parallel.specs.Lists.{Answered, AreMade, made_in}
 use Rattle.outline_funcs.proofs.Chunked.{chunks_joined, chunks_weaker}
 
 -- the targets of calls among two lists of edges

@@ -5,7 +5,8 @@ use Rattle.std.specs.Fork.{slice_chunk}
 use Rattle.std.specs.List.{All, flat_map}
 use Rattle.std.proofs.lemmas.List.{take_all, take-take, drop-take, drop-drop, take-append-drop}
 use native.Mathlib.Nat.{suc-mul, zero-mul}
-use Rattle.outline_funcs.specs.Inner.Parts.{Answered, AreMade, made_in, AnswerChunks}
+use Rattle.outline_funcs.specs.Inner.Parts.{AnswerChunks}
+use Rattle.parallel.specs.Lists.{Answered, AreMade, made_in}
 use Rattle.outline_funcs.proofs.Sorting.{starts_weaker}
 
 take_add : {X : Type 0} (n k : ℕ) (xs : List X) → take (n + k) xs ≡ take n xs ++ take k (drop n xs)

@@ -8,7 +8,7 @@ use Rattle.cfg_model.specs.declared.graph.Function.{Function}
 use Rattle.outline_funcs.specs.declared.exits.Exits.{Exits}
 use Rattle.outline_funcs.specs.Inner.Blocks.{HasBlockAt}
 use Rattle.outline_funcs.specs.Inner.Plans.{Serves}
-use Rattle.outline_funcs.specs.Inner.Parts.{Answered, AreMade, made_in}
+use Rattle.parallel.specs.Lists.{Answered, AreMade, made_in}
 
 -- What a part is.
 abbrev pub Part : Type 0

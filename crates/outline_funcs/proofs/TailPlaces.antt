@@ -12,7 +12,7 @@ use Rattle.cfg_model.specs.declared.graph.Function.{Function}
 use Rattle.cfg_model.proofs.Graphs.Lists.{Contains-none}
 use Rattle.outline_funcs.specs.Tails.{IsTailAmong, IsMarkOf, AreMarksOf}
 use Rattle.outline_funcs.specs.Inner.Marking.{IsTailAt, ListsTails, AnswerTails, IsTailWhere, AreTailsAt}
-use Rattle.outline_funcs.specs.Inner.Parts.{Answered, AreMade, made_in}
+use Rattle.parallel.specs.Lists.{Answered, AreMade, made_in}
 
 -- tail calls that are listed
 

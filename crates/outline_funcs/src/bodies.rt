@@ -9,10 +9,10 @@ ghost use Rattle.outline_funcs.specs.Inner.Exits.{AreExits, InBodyBy, JoinsBlock
 ghost use Rattle.outline_funcs.specs.Inner.Exits.{LeadsWithin, LeadsOn};
 ghost use Rattle.outline_funcs.specs.Inner.Found.{AreStamped};
 
+use crate::Memory;
 use crate::blocks::{number_near, number_of};
 use crate::exits::Exits;
 use crate::found::Found;
-use crate::memory::Memory;
 use cfg_model::{Block, Edge, EdgeKind};
 use std::alloc::Global;
 

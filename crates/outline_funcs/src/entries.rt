@@ -7,7 +7,7 @@ ghost use Rattle.cfg_model.specs.Graph.Listing.{Gains};
 ghost use Rattle.cfg_model.specs.Graph.Graph.{BlockBefore};
 ghost use Rattle.outline_funcs.specs.Inner.Entries.{CallsTo, AreCalledBy, AreEntriesBy, AreEntered};
 
-use crate::memory::Memory;
+use crate::Memory;
 use cfg_model::{Block, Edge, EdgeKind};
 use std::alloc::Global;
 

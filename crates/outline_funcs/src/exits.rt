@@ -7,7 +7,7 @@ ghost use Rattle.cfg_model.specs.Graph.Graph.{BlockBefore};
 ghost use Rattle.outline_funcs.specs.Inner.Blocks.{IsNumber};
 ghost use Rattle.outline_funcs.specs.Inner.Exits.{AreExits, AreFirsts};
 
-use crate::memory::Memory;
+use crate::Memory;
 use cfg_model::{Block, Edge};
 use std::alloc::Global;
 

@@ -4,7 +4,7 @@ ghost use Rattle.std.specs.Prelude.{◌≡◌, ◌<◌, [], ◌∷◌, All, IfOk
 ghost use Rattle.cfg_model.specs.Graph.Listing.{Extends};
 ghost use Rattle.outline_funcs.specs.Inner.Found.{AreStamped};
 
-use crate::memory::Memory;
+use crate::Memory;
 use std::alloc::Global;
 
 /// The blocks found, by their places in the list of all blocks. What is noted of each block, in

@@ -5,7 +5,6 @@
 //! - [`sharing`]: the same, made by several threads.
 //! - [`tails`]: tail calls among the edges.
 //! - [`tail_sharing`]: the same, found by several threads.
-//! - [`memory`]: the one free answer, want of memory.
 #![tactic(auto)]
 
 mod blocks;
@@ -14,15 +13,13 @@ mod entries;
 mod exits;
 mod found;
 pub mod listing;
-mod lists;
-pub mod memory;
 mod plan_sharing;
 pub mod sharing;
 pub mod tail_sharing;
 pub mod tails;
 
 pub use listing::functions_among;
-pub use memory::Memory;
-pub use sharing::{MOST_WORKERS, functions_among_by};
+pub use sharing::functions_among_by;
+pub use std::alloc::AllocError as Memory;
 pub use tail_sharing::mark_tails_by;
 pub use tails::mark_tails;

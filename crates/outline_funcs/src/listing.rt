@@ -10,11 +10,11 @@ ghost use Rattle.outline_funcs.specs.Listed.{AreOrdered, HaveEachEntry, TellsRet
 ghost use Rattle.outline_funcs.specs.Inner.Bodies.{IsFunctionBy};
 ghost use Rattle.outline_funcs.specs.Inner.Plans.{Serves, MakesAll};
 
+use crate::Memory;
 use crate::bodies::body_of;
 use crate::entries::{entered_of, entries_of};
 use crate::exits::{Exits, firsts_of};
 use crate::found::Found;
-use crate::memory::Memory;
 use cfg_model::{Addresses, Chains, Function, Functions, Outline};
 use std::alloc::Global;
 

@@ -11,13 +11,12 @@ ghost use Rattle.outline_funcs.specs.Inner.Exits.{AreFirsts};
 ghost use Rattle.outline_funcs.specs.Inner.Plans.{Serves, MakesAll};
 ghost use Rattle.outline_funcs.specs.Inner.Parts.{AnswerChunks};
 
+use crate::Memory;
 use crate::entries::{entered_of, entries_of};
 use crate::exits::{Exits, firsts_of};
 use crate::listing::{Plan, know_laws};
-use crate::lists::appended;
-use crate::memory::Memory;
 use cfg_model::{Block, Chains, Edge, Outline};
-use fan_out::map_indices;
+use parallel::{appended_if_made, map_indices};
 use std::alloc::Global;
 use std::thread::{Threads, join};
 
@@ -98,7 +97,7 @@ fn entries_by<R: Threads + Sync>(
     ensures { IfOk result (λ v. AreEntriesBy edges.now seeds.now v.items) }
 {
     let lists = called_by_part(rt, alloc, edges, size)?;
-    let mut entries = appended(Vec::from_slice(alloc, seeds)?, lists)?;
+    let mut entries = appended_if_made(Vec::from_slice(alloc, seeds)?, lists)?;
     // Unlike an unstable sort, this one merges lists that rise.
     entries.sort()?;
     entries.dedup();

@@ -11,18 +11,14 @@ ghost use Rattle.outline_funcs.specs.Listed.{AreOrdered, HaveEachEntry, TellsRet
 ghost use Rattle.outline_funcs.specs.Inner.Bodies.{IsFunctionBy};
 ghost use Rattle.outline_funcs.specs.Inner.Plans.{AreAll, Serves};
 
+use crate::Memory;
 use crate::exits::Exits;
 use crate::listing::{Plan, functions_among, functions_at};
-use crate::lists::joined;
-use crate::memory::Memory;
 use crate::plan_sharing::plan_by;
 use cfg_model::{Block, Chains, Function, Functions, Outline};
-use fan_out::map_indices;
+use parallel::{MOST_WORKERS, joined_if_made, map_indices};
 use std::alloc::Global;
 use std::thread::Threads;
-
-/// The most workers that functions are made by.
-pub const MOST_WORKERS: u32 = 64;
 
 /// The answer of [`functions_among`], made by so many workers, from 1 to 64. With one worker no
 /// thread is started. [`Memory`] where memory ran out. [`Memory`] too where one part has 2^32 - 1
@@ -79,7 +75,7 @@ fn functions_shared<R: Threads + Sync, C: Chains, F: Fn(u64) -> bool + Sync>(
     let Plan { entries, exits } = plan_by(rt, alloc, code, seeds, outline, workers)?;
     let parts = parts_of(alloc, &entries, blocks, workers)?;
     let lists = made_by_part(rt, alloc, &exits, &parts, returns)?;
-    let functions = joined(alloc, lists, entries.len())?;
+    let functions = joined_if_made(alloc, lists)?;
     Ok(functions)
 }
 

@@ -5,11 +5,10 @@ ghost use Rattle.outline_funcs.specs.Listed.{AreOrdered};
 ghost use Rattle.outline_funcs.specs.Tails.{AreMarksOf, CompleteGraphs};
 ghost use Rattle.outline_funcs.specs.Inner.Marking.{AreTailsAt, ListsTails, AnswerTails};
 
-use crate::lists::appended;
-use crate::memory::Memory;
+use crate::Memory;
 use crate::tails::{is_tail, mark_tails};
 use cfg_model::{Edge, EdgeKind, Edges, Function, Functions};
-use drawn_calls::map_drawn;
+use parallel::{appended_if_made, map_drawn};
 use std::alloc::Global;
 use std::thread::Threads;
 
@@ -60,7 +59,7 @@ fn tails_by<R: Threads + Sync>(
     let workers = workers as usize;
     let size = edges.len() / (PARTS_PER_WORKER * workers) + 1;
     let lists = tails_by_part(rt, alloc, functions, edges, size, workers)?;
-    appended(Vec::new(alloc), lists)
+    appended_if_made(Vec::new(alloc), lists)
 }
 
 /// The places of the tail calls in each part of this many edges, found by several workers.

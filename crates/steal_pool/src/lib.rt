@@ -17,7 +17,6 @@ pub mod deques;
 mod end;
 pub mod hand;
 pub mod laws;
-pub mod memory;
 pub mod names;
 mod note;
 mod noted;
@@ -25,6 +24,6 @@ pub mod pool;
 
 pub use deques::{Deques, Round, Tried, first_of};
 pub use hand::{Back, Hand};
-pub use memory::Memory;
 pub use names::Names;
 pub use pool::{Hands, Pool};
+pub use std::alloc::AllocError as Memory;

@@ -11,9 +11,9 @@ ghost use Rattle.steal_pool.specs.inner.Ends.{deque_of, note_of, IsWired};
 ghost use Rattle.steal_pool.specs.inner.Building.{whole_of, IsNew, AreOwners, AreEnds, AreRows};
 ghost use Rattle.steal_pool.specs.inner.Building.{AreApart, AreJoined, AreDrained, IsDrained, Each};
 
+use crate::Memory;
 use crate::end::{End, Owner, Row, Thief};
 use crate::hand::Hand;
-use crate::memory::Memory;
 use crate::names::Names;
 use crate::note::{Gathered, Part, Spare, Takes};
 use core_state::Name;

@@ -1,6 +1,6 @@
 //! Calls at numbers, by some counts, and with chunks, of some sizes.
 
-use fan_out::{for_each_chunk_mut, map_indices};
+use parallel::{for_each_chunk_mut, map_indices};
 use std::test::Fail;
 
 #[test]

@@ -1,6 +1,6 @@
 //! Calls at numbers, by some counts, and by some numbers of threads.
 
-use drawn_calls::map_drawn;
+use parallel::map_drawn;
 use std::test::Fail;
 
 #[test]

@@ -1,6 +1,6 @@
 //! The worked row on turns, threads that swap values, and what may cross threads.
 ghost use Rattle.std.specs.Prelude.{◌≡◌, ◌≢◌, ◌<◌, ℕ};
-ghost use Rattle.shares.specs.Share.{IsSame};
+ghost use Rattle.turn_slots.specs.Share.{IsSame};
 ghost use Rattle.turn_slots.specs.Seat.{HoldsNothing, Holds};
 
 use std::process::Abort;

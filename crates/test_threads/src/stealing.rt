@@ -10,8 +10,7 @@ use std::process::Abort;
 use std::sync::Wait;
 use std::test::Fail;
 use std::thread::{Threads, join};
-use steal_pool::memory::Memory;
-use steal_pool::{Deques, Hand, Names, Pool, Round, Tried, first_of};
+use steal_pool::{Deques, Hand, Memory, Names, Pool, Round, Tried, first_of};
 
 /// How many names each thread puts.
 const PUTS: u64 = 300;

@@ -10,8 +10,8 @@ use mathlib.Core.Option.{some, none, some-injective, some-ne-none}
 use lib.ListN.{get_elem?}
 use Rattle.atomic_table.specs.Table.{State, Me, Act, step, keeps, takes, gives, Valid, stepped, carried_after, rest, Allows, Splits, Joins}
 use Rattle.atomic_table.proofs.Lists.{set_else, set_here, exchanged}
-use Rattle.shares.specs.Share.{IsWhole, IsAboveZero, AddUpToOne}
-use Rattle.shares.proofs.Views.{still_add_up, split_adds_up, join_adds_up, others_are_spent}
+use Rattle.turn_slots.specs.Share.{IsWhole, IsAboveZero, AddUpToOne}
+use Rattle.turn_slots.proofs.Views.{still_add_up, split_adds_up, join_adds_up, others_are_spent}
 use Rattle.turn_slots.specs.declared.view.View.{View}
 use Rattle.turn_slots.specs.TurnsId.{turn_word}
 use Rattle.turn_slots.specs.Rule.{IsKept, HasTurn}

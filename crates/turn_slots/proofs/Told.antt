@@ -4,7 +4,7 @@ use Rattle.std.proofs.lemmas.List.{get_or-set_same}
 use Rattle.std.specs.Prelude.{MatchBool, slice_set}
 use Rattle.atomic_table.specs.declared.shared.Seat.{Seat}
 use Rattle.atomic_table.specs.Table.{Me, rest}
-use Rattle.shares.specs.Share.{Share, IsWhole, IsAboveZero}
+use Rattle.turn_slots.specs.Share.{Share, IsWhole, IsAboveZero}
 use Rattle.turn_slots.specs.declared.view.View.{View}
 use Rattle.turn_slots.specs.Seat.{SeatState, with_slot, with_lost_try, lost_of}
 use Rattle.turn_slots.specs.Inner.Inside.{state_of, IsSettled}

@@ -8,7 +8,7 @@ use mathlib.Core.Option.{some, some-injective, some-ne-none}
 use lib.ListN.{get_elem?}
 use Rattle.atomic_table.specs.Table.{State}
 use Rattle.atomic_table.proofs.Lists.{at_set, set_else, at_snoc, at_longer}
-use Rattle.shares.specs.Share.{IsSpent, AddUpToOne}
+use Rattle.turn_slots.specs.Share.{IsSpent, AddUpToOne}
 use Rattle.turn_slots.specs.declared.view.View.{View}
 use Rattle.turn_slots.specs.TurnsId.{turn_word}
 use Rattle.turn_slots.specs.Rule.{IsKept, HasTurn, IsFree, HasOneHolder}

@@ -8,8 +8,8 @@ use Rattle.turn_slots.specs.Seat.{SeatState, Holds, with_slot, without_slot}
 use Rattle.turn_slots.specs.declared.view.View.{View}
 use Rattle.turn_slots.specs.TurnLaws.{HeldOnce, FreshHoldsNothing, TakeAddsOneSlot, GiveTakesOneSlot, GiveUndoesTake, OnlyATakenTurnIsLost, OtherStepsLoseNothing}
 use Rattle.turn_slots.proofs.Marks.{no_marks, unmarked}
-use Rattle.shares.specs.Share.{Share, half, both, IsSame}
-use Rattle.shares.proofs.Same.{transits, same_both, halves}
+use Rattle.turn_slots.specs.Share.{Share, half, both, IsSame}
+use Rattle.turn_slots.proofs.Same.{transits, same_both, halves}
 use Rattle.turn_slots.proofs.Touches.{sound_of, alone}
 
 pub held_once : {V : Type 0} (fits : ℕ → V → Type 0) → HeldOnce fits

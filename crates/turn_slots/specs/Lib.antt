@@ -1,3 +1,5 @@
+pub mod Share
+pub mod ShareLaws
 pub mod TurnsId
 pub mod Seat
 pub mod Rule

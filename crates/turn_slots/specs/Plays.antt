@@ -3,7 +3,7 @@
 use Rattle.std.specs.Prelude.{◌≡◌, ℕ, ◌+◌, ◌∷◌, ◌==◌, true, false, MatchBool, [], length}
 use Rattle.std.specs.Prelude.{slice_index, slice_set, replicate, Option, Some, None}
 use Rattle.atomic_table.specs.Table.{Me, Step, rest}
-use Rattle.shares.specs.Share.{nothing, half, both, IsWhole}
+use Rattle.turn_slots.specs.Share.{nothing, half, both, IsWhole}
 use Rattle.turn_slots.specs.declared.view.View.{View}
 use Rattle.turn_slots.specs.TurnsId.{turn_word}
 

@@ -5,7 +5,7 @@ use Rattle.std.specs.Prelude.{slice_index, slice_index_or, replicate, Option, So
 use mathlib.Core.Option.{some}
 use lib.ListN.{get_elem?}
 use Rattle.atomic_table.specs.Table.{State}
-use Rattle.shares.specs.Share.{Share, AddUpToOne, IsSpent}
+use Rattle.turn_slots.specs.Share.{Share, AddUpToOne, IsSpent}
 use Rattle.turn_slots.specs.declared.view.View.{View}
 use Rattle.turn_slots.specs.TurnsId.{turn_word}
 

@@ -2,7 +2,7 @@
 use Rattle.std.specs.Prelude.{◌≡◌, ℕ, ◌+◌, Bool, true, false, IsTrue, List, Some, slice_get}
 use Rattle.std.specs.Prelude.{slice_set, slice_index, slice_index_or, replicate}
 use Rattle.atomic_table.specs.Seated.{table_id_coded}
-use Rattle.shares.specs.Share.{Share, share_coded}
+use Rattle.turn_slots.specs.Share.{Share, share_coded}
 use Rattle.turn_slots.specs.TurnsId.{TurnsId}
 use base.Stored.{Coded, coded×, coded_ℕ, coded_bool, coded_list, coded_via}
 

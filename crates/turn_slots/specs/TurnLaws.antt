@@ -4,7 +4,7 @@ use Rattle.std.specs.Prelude.{slice_index, slice_set, Option, Some}
 use mathlib.Core.Option.{some}
 use lib.ListN.{get_elem?}
 use Rattle.atomic_table.specs.Table.{Me, State, Step}
-use Rattle.shares.specs.Share.{Share, AddUpToOne, IsSpent}
+use Rattle.turn_slots.specs.Share.{Share, AddUpToOne, IsSpent}
 use Rattle.turn_slots.specs.declared.view.View.{View}
 use Rattle.turn_slots.specs.TurnsId.{TurnsId, turn_word}
 use Rattle.turn_slots.specs.Seat.{SeatState, Holds, HoldsNothing, fresh_seat, with_slot}

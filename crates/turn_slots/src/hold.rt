@@ -1,7 +1,5 @@
 //! What a try of a turn answers.
 
-use std::alloc::{AllocError, AllocFailed};
-
 /// The value of one slot, out with the seat that took it. It must be given back, so it has no
 /// `Drop`.
 pub struct Hold<V> {
@@ -16,20 +14,4 @@ pub struct Hold<V> {
 pub struct Taken {
     /// The slot asked for.
     pub slot: u32,
-}
-
-/// Memory ran out.
-#[derive(Clone, Copy, Debug, PartialEq, Eq)]
-pub struct Memory;
-
-impl From<AllocError> for Memory {
-    fn from(_: AllocError) -> Self {
-        Memory
-    }
-}
-
-impl<T: Drop> From<AllocFailed<T>> for Memory {
-    fn from(_: AllocFailed<T>) -> Self {
-        Memory
-    }
 }

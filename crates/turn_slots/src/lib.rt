@@ -9,16 +9,19 @@
 //!   thread and joined again; the only seat closes the slots.
 //! - [`Hold`]: the value of one slot, out with a seat.
 //! - [`laws`]: what holds between any two steps, whatever the threads do.
+//! - [`shares`]: laws of shares of one whole, by which a seat is known to be the only one.
 #![tactic(auto)]
 
 mod hold;
 pub mod laws;
 mod rule;
 mod seat;
+pub mod shares;
 mod table;
 mod view;
 
-pub use hold::{Hold, Memory, Taken};
+pub use hold::{Hold, Taken};
 pub use rule::Fits;
 pub use seat::TurnSeat;
+pub use std::alloc::AllocError as Memory;
 pub use table::Turns;

@@ -19,7 +19,7 @@ pub struct Ruled<F> {
 
 impl<V, F: Fits<V>> TableRule<Option<V>, View, usize> for Ruled<F> {
     ghost use Rattle.turn_slots.specs.Rule.{IsKept, fresh};
-    ghost use Rattle.shares.specs.Share.{whole};
+    ghost use Rattle.turn_slots.specs.Share.{whole};
 
     ghost holds = { λ slots. IsKept F.fits slots };
 

@@ -1,6 +1,6 @@
 //! What one thread takes turns with.
 ghost use Rattle.std.specs.Prelude.{◌≡◌, ◌<◌, ◌↔◌, IfOk, IfErr, OnOk, OnErr, IsErr};
-ghost use Rattle.shares.specs.Share.{half, both, IsWhole, IsAboveZero};
+ghost use Rattle.turn_slots.specs.Share.{half, both, IsWhole, IsAboveZero};
 ghost use Rattle.turn_slots.specs.Inner.Inside.{state_of, IsSettled};
 ghost use Rattle.turn_slots.specs.Seat.{Holds, HoldsNothing, fresh_seat, with_slot, without_slot};
 ghost use Rattle.turn_slots.specs.Seat.{with_lost_try, lost_of};

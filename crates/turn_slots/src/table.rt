@@ -1,12 +1,12 @@
 //! The slots and their turn words.
 ghost use Rattle.std.specs.Prelude.{◌≡◌, ◌≤◌, ◌*◌, ◌+◌, vec_len, vec_capacity, [], IfOk, map};
 ghost use Rattle.std.specs.Prelude.{replicate, Some};
-ghost use Rattle.shares.specs.Share.{whole, IsWhole};
+ghost use Rattle.turn_slots.specs.Share.{whole, IsWhole};
 ghost use Rattle.turn_slots.specs.Inner.Closing.{IsAllThere};
 ghost use Rattle.turn_slots.specs.Seat.{AllFit, HoldsNothing, fresh_seat};
 ghost use Rattle.std.specs.Mem.Slots.{slots_items, slots_len, IsFull};
 
-use crate::hold::Memory;
+use crate::Memory;
 use crate::rule::{Fits, Ruled};
 use crate::seat::TurnSeat;
 use crate::view::View;

@@ -1,7 +1,7 @@
 //! What the rule of the slots knows of one seat.
 ghost use Rattle.std.specs.Prelude.{ℕ, Bool, List, Option};
 ghost use Rattle.std.specs.Borrow.{ftrue};
-ghost use Rattle.shares.specs.Share.{Share, share_coded};
+ghost use Rattle.turn_slots.specs.Share.{Share, share_coded};
 
 use std::marker::Model;
 

@@ -2,7 +2,7 @@
 use Rattle.std.proofs.Common.{◌≡◌, ℕ, ◌<◌, List, [], ◌++◌, length, Option, Some, None, refl, sym, ap, subst, arith, length-append, append-nil, ◌∙◌}
 use Rattle.std.specs.Prelude.{IfSome, IfErr, nat_lt, Result, Ok, Err}
 use Rattle.std.proofs.lemmas.Bool.{cond-true, lt-ltb}
-use Rattle.std.proofs.lemmas.Option.{same_Some, none-some}
+use Rattle.std.proofs.lemmas.Option.{same_Some}
 use Rattle.elf_image.specs.declared.fault.Fault.TheVariants.{TooLarge}
 use Rattle.elf_image.specs.FaultTests.{is_too_large}
 use Rattle.elf_image.specs.Faults.{first_fault, first_among, has_fault}
@@ -10,14 +10,15 @@ use Rattle.cfg_io.specs.Told.{Appends, Takes, TakesCount}
 use Rattle.run_ends.specs.declared.reading.Unread.{Unread}
 use Rattle.run_ends.specs.declared.reading.Unread.TheVariants as unread
 use Rattle.run_ends.specs.Told.{Grows}
+use Rattle.run_ends.specs.Inputs.{OverInput}
 use Rattle.walk_run.specs.declared.refusal.Refusal.{Refusal}
 use Rattle.walk_run.specs.declared.refusal.Refusal.TheVariants as refusals
-use Rattle.walk_run.specs.Words.{Asked}
+use Rattle.walk_run.specs.Words.{Asked, of_walk, path_of, AsksWalk}
 use Rattle.walk_run.specs.Answer.{IsAnswer, usage_answer, malformed_answer, too_much_answer}
 use Rattle.walk_run.specs.Refusal.{status_of, refusal_of_unread}
 use Rattle.walk_run.specs.Lines.{refusal_line}
-use Rattle.walk_run.specs.Inner.{IsRefusalOf, IsTrueOf, IsOfBytes}
-use Rattle.walk_run.specs.Run.{IsDecided, HasRead, Gives, IsLineOf, OverInput}
+use Rattle.walk_run.specs.Inner.{IsRefusalOf, IsTrueOf}
+use Rattle.walk_run.specs.Run.{IsDecided, Gives, IsLineOf}
 
 -- Nothing was appended.
 pub appends-nothing : (old : Option (List ℕ)) → Appends old [] old
@@ -81,39 +82,37 @@ read-whole (Some b) (Some left) bytes takes ends =
 
 -- ---- refusing
 
+-- What holds of the bytes that the input tells holds over the bytes that count for a walk.
+pub over-told : (asked : Option Asked) (told : Option (List ℕ)) (P : List ℕ → Type 0) → AsksWalk asked → IfSome told P → OverInput (path_of asked) told P
+over-told None told P asks holds = absurd asks
+over-told (Some (of_walk steps path)) told P asks holds = λ bytes are. subst (λ (t : Option (List ℕ)). IfSome t P) are holds
+
 pub decided-true : (asked : Option Asked) (told : Option (List ℕ)) (rose : Type 0) (r : Refusal) (old : Option (List ℕ)) (Error : List ℕ → Type 0)
-    → IsTrueOf asked told rose r → Error (refusal_line r) → OverInput asked told (λ bytes. IsDecided (status_of r) → Gives bytes asked (status_of r) (Grows old old) Error)
-decided-true None told rose refusals.Usage old Error is line = λ _. record {
+    → IsTrueOf asked told rose r → Error (refusal_line r) → OverInput (path_of asked) told (λ bytes. IsDecided (status_of r) → Gives bytes asked (status_of r) (Grows old old) Error)
+decided-true asked told rose refusals.Usage old Error is line = λ bytes are _. record {
   answer = usage_answer;
-  is_answer = IsAnswer.usage;
+  is_answer = subst (λ (a : Option Asked). IsAnswer bytes a usage_answer) (sym is) IsAnswer.usage;
   status = refl;
   output = appends-nothing old;
   error = line;
 }
-decided-true None told rose (refusals.Malformed fault) old Error is line = absurd is.0
-decided-true None told rose refusals.TooMuch old Error is line = absurd is.0
-decided-true None told rose refusals.ReadFault old Error is line = λ no. absurd no
-decided-true None told rose refusals.WriteFault old Error is line = λ no. absurd no
-decided-true None told rose refusals.Memory old Error is line = λ no. absurd no
-decided-true (Some asked) None rose r old Error is line = tt
-decided-true (Some asked) (Some bytes) rose refusals.Usage old Error is line = absurd (none-some asked (sym is))
-decided-true (Some asked) (Some bytes) rose (refusals.Malformed fault) old Error is line = λ _. record {
+decided-true asked told rose (refusals.Malformed fault) old Error is line = λ bytes are _. record {
   answer = malformed_answer fault;
-  is_answer = is.1;
+  is_answer = over-told asked told (λ b. IsAnswer b asked (malformed_answer fault)) is.0 is.1 bytes are;
   status = refl;
   output = appends-nothing old;
   error = line;
 }
-decided-true (Some asked) (Some bytes) rose refusals.TooMuch old Error is line = λ _. record {
+decided-true asked told rose refusals.TooMuch old Error is line = λ bytes are _. record {
   answer = too_much_answer;
-  is_answer = is.1;
+  is_answer = over-told asked told (λ b. IsAnswer b asked too_much_answer) is.0 is.1 bytes are;
   status = refl;
   output = appends-nothing old;
   error = line;
 }
-decided-true (Some asked) (Some bytes) rose refusals.ReadFault old Error is line = λ no. absurd no
-decided-true (Some asked) (Some bytes) rose refusals.WriteFault old Error is line = λ no. absurd no
-decided-true (Some asked) (Some bytes) rose refusals.Memory old Error is line = λ no. absurd no
+decided-true asked told rose refusals.ReadFault old Error is line = λ bytes are no. absurd no
+decided-true asked told rose refusals.WriteFault old Error is line = λ bytes are no. absurd no
+decided-true asked told rose refusals.Memory old Error is line = λ bytes are no. absurd no
 
 -- The line of a refusal is that of its status.
 pub line-of : (r : Refusal) → IsLineOf (status_of r) (refusal_line r)
@@ -123,19 +122,6 @@ line-of refusals.ReadFault = refl
 line-of refusals.WriteFault = refl
 line-of refusals.Memory = refl
 line-of refusals.TooMuch = refl
-
--- A refused file was read if its bytes are what is refused.
-pub read-refused : (asked : Option Asked) (told : Option (List ℕ)) (rose : Type 0) (r : Refusal) → IsTrueOf asked told rose r → HasRead (status_of r) → IsOfBytes r
-read-refused asked told rose refusals.Usage is read = absurd read
-read-refused asked told rose (refusals.Malformed fault) is read = tt
-read-refused asked told rose refusals.ReadFault is read = absurd read
-read-refused asked told rose refusals.WriteFault is read = absurd is
-read-refused asked told rose refusals.Memory is read = absurd read
-read-refused asked told rose refusals.TooMuch is read = tt
-
-pub if_some_map : {A : Type 0} {P Q : A → Type 0} (o : Option A) → ((x : A) → P x → Q x) → IfSome o P → IfSome o Q
-if_some_map None f p = tt
-if_some_map (Some x) f p = f x p
 
 pub if_err_map : {T E : Type 0} {P Q : E → Type 0} (r : Result T E) → ((e : E) → P e → Q e) → IfErr r P → IfErr r Q
 if_err_map (Ok x) f p = tt

@@ -3,13 +3,21 @@ use Rattle.std.specs.Prelude.{◌≡◌, ℕ, List, Option, Some, None, IfSome, 
 use Rattle.elf_image.specs.Faults.{first_fault}
 use Rattle.walk_run.specs.declared.refusal.Refusal.{Refusal}
 use Rattle.walk_run.specs.declared.refusal.Refusal.TheVariants as refusals
+use Rattle.walk_run.specs.declared.status.WalkStatus.{WalkStatus}
+use Rattle.walk_run.specs.declared.status.WalkStatus.TheVariants as statuses
 use Rattle.walk_run.specs.declared.words.Request.{Request}
 use Rattle.walk_run.specs.Words.{Asked, of_walk, AsksWalk}
+use Rattle.walk_run.specs.Refusal.{status_of}
 use Rattle.walk_run.specs.Answer.{IsAnswer, AsksTooMuch, malformed_answer, too_much_answer}
 
 -- The walk that a value of the program's own type asks for.
 abbrev pub asked : Request → Asked
 asked request = of_walk request.steps request.path.now
+
+-- How a run ends after this step, if no later one fails.
+abbrev pub end_of : {X : Type 0} → Result X Refusal → WalkStatus
+end_of (Ok x) = statuses.Done
+end_of (Err refusal) = status_of refusal
 
 -- The refusal is true of the file with these bytes, or it is want of memory.
 abbrev pub IsRefusalOf : List ℕ → Refusal → Type 0
@@ -31,31 +39,3 @@ IsTrueOf asked told rose refusals.WriteFault = ⊥
 IsTrueOf asked told rose refusals.Memory = Unit {0}
 IsTrueOf asked told rose refusals.TooMuch = AsksWalk asked
     × IfSome told (λ bytes. IsAnswer bytes asked too_much_answer)
-
--- The refusal tells of a file that was read.
-abbrev pub IsOfBytes : Refusal → Type 0
-IsOfBytes refusals.Usage = ⊥
-IsOfBytes (refusals.Malformed fault) = Unit {0}
-IsOfBytes refusals.ReadFault = ⊥
-IsOfBytes refusals.WriteFault = ⊥
-IsOfBytes refusals.Memory = ⊥
-IsOfBytes refusals.TooMuch = Unit {0}
-
--- The refusal is a fault of the file.
-abbrev pub IsMalformed : Refusal → Type 0
-IsMalformed refusals.Usage = ⊥
-IsMalformed (refusals.Malformed fault) = Unit {0}
-IsMalformed refusals.ReadFault = ⊥
-IsMalformed refusals.WriteFault = ⊥
-IsMalformed refusals.Memory = ⊥
-IsMalformed refusals.TooMuch = ⊥
-
--- The file was read: there is a trace, or what its bytes refuse.
-abbrev pub IsOfFile : {X : Type 0} → Result X Refusal → Type 0
-IsOfFile (Ok text) = Unit {0}
-IsOfFile (Err refusal) = IsOfBytes refusal
-
--- There is no fault of the file.
-abbrev pub IsFaultless : {X : Type 0} → Result X Refusal → Type 0
-IsFaultless (Ok text) = Unit {0}
-IsFaultless (Err refusal) = ¬ IsMalformed refusal

@@ -1,13 +1,12 @@
 -- What a run may leave behind.
-use Rattle.std.specs.Prelude.{◌≡◌, ℕ, ◌⊎◌, List, [], Option, Some, None, Bool, IfSome}
+use Rattle.std.specs.Prelude.{◌≡◌, ℕ, List, [], Option}
 use Rattle.elf_image.specs.declared.fault.Fault.{Fault}
 use Rattle.cfg_io.specs.Told.{AppendsPrefix}
-use Rattle.cfg_io.specs.Opened.{Opened, Nothing, Something, told_path}
 use Rattle.walk_run.specs.declared.status.WalkStatus.{WalkStatus}
 use Rattle.walk_run.specs.declared.status.WalkStatus.TheVariants as statuses
 use Rattle.walk_run.specs.declared.refusal.Refusal.TheVariants as refusals
 use Rattle.walk_run.specs.Lines.{refusal_line}
-use Rattle.walk_run.specs.Words.{Asked, of_walk}
+use Rattle.walk_run.specs.Words.{Asked}
 use Rattle.walk_run.specs.Answer.{Answer, IsAnswer}
 
 -- The words and the bytes decided the status: nothing failed, and memory sufficed.
@@ -29,12 +28,6 @@ HasRead statuses.ReadFault = ⊥
 HasRead statuses.WriteFault = Unit {0}
 HasRead statuses.Memory = ⊥
 HasRead statuses.TooMuch = Unit {0}
-
--- It holds of the bytes of the file that is asked for, if the input tells them. If none is asked
--- for there are no bytes.
-abbrev pub OverInput : Option Asked → Option (List ℕ) → (List ℕ → Type 0) → Type 0
-OverInput None told P = P []
-OverInput (Some asked) told P = IfSome told P
 
 -- A run that ended in this way gave the answer: its status is the answer's, and standard output and
 -- standard error took the texts of it.
@@ -65,9 +58,3 @@ IsLineOf statuses.ReadFault text = text ≡ refusal_line refusals.ReadFault
 IsLineOf statuses.WriteFault text = text ≡ refusal_line refusals.WriteFault
 IsLineOf statuses.Memory text = text ≡ refusal_line refusals.Memory
 IsLineOf statuses.TooMuch text = text ≡ refusal_line refusals.TooMuch
-
--- Nothing was opened, or the file that is asked for by its path.
-abbrev pub OpenedFor : Option Asked → Bool → Opened → Type 0
-OpenedFor None tells opened = opened ≡ Nothing
-OpenedFor (Some (of_walk steps path)) tells opened = (opened ≡ Nothing)
-    ⊎ (opened ≡ Something (told_path tells path))

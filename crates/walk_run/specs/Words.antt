@@ -21,6 +21,11 @@ walk_by (program ∷ steps ∷ path ∷ word ∷ words) = None
 abbrev pub asked_by : {A : Type 0} → List (String A) → Option Asked
 asked_by words = walk_by (map (λ w. string_bytes w) words)
 
+-- The path of the file that is asked for.
+abbrev pub path_of : Option Asked → Option (List ℕ)
+path_of None = None
+path_of (Some (of_walk steps path)) = Some path
+
 -- A walk is asked for.
 abbrev pub AsksWalk : Option Asked → Type 0
 AsksWalk None = ⊥

@@ -1,25 +1,24 @@
 //! One whole run of the program, over any input and any two sinks.
 
-ghost use Rattle.std.specs.Prelude.{◌≡◌, ◌≢◌, ◌↔◌, ℕ, ◌+◌, ◌≤◌, ◌<◌, ◌⊎◌, List, [], Some, None};
-ghost use Rattle.std.specs.Prelude.{length, IfSome, IfOk, IfErr, OnOk, IsErrOf};
+ghost use Rattle.std.specs.Prelude.{◌≡◌, ◌≢◌, ◌↔◌, ℕ, ◌⊎◌, List, Some, None};
+ghost use Rattle.std.specs.Prelude.{IfSome, IfOk, IfErr, OnOk, IsErrOf};
 ghost use Rattle.cfg_io.specs.Fault.{Rose};
 ghost use Rattle.cfg_io.specs.Opened.{Nothing};
-ghost use Rattle.cfg_io.specs.Told.{TakesCount, TakesAtMost};
 ghost use Rattle.run_ends.specs.Told.{Grows, Tells};
-ghost use Rattle.walk_run.specs.Words.{of_walk, asked_by, AsksWalk};
+ghost use Rattle.run_ends.specs.Inputs.{OverInput, FileReadFor};
+ghost use Rattle.walk_run.specs.Words.{of_walk, asked_by, path_of, AsksWalk};
 ghost use Rattle.walk_run.specs.Answer.{IsAnswer, trace_answer, AsksTooMuch};
 ghost use Rattle.walk_run.specs.Refusal.{status_of};
 ghost use Rattle.walk_run.specs.Lines.{refusal_line};
-ghost use Rattle.walk_run.specs.Run.{IsDecided, HasRead, OverInput};
-ghost use Rattle.walk_run.specs.Run.{Gives, GivesPart, IsLineOf, OpenedFor};
-ghost use Rattle.walk_run.specs.Inner.{IsTrueOf, IsOfFile, IsFaultless};
+ghost use Rattle.walk_run.specs.Run.{IsDecided, HasRead, Gives, GivesPart, IsLineOf};
+ghost use Rattle.walk_run.specs.Inner.{IsTrueOf, end_of};
 
 use crate::answer::trace_of;
 use crate::refusal::Refusal;
 use crate::status::WalkStatus;
 use crate::words::request_of;
 use cfg_io::{Failed, Input, Sink, write_whole};
-use run_ends::{FILE_LIMIT, read_file};
+use run_ends::read_file;
 use std::alloc::Global;
 
 /// Runs the program: reads the file that `words` ask for from `input`, writes the trace of its walk
@@ -41,8 +40,9 @@ pub fn walk<I: Input, O: Sink, E: Sink>(
 ) -> WalkStatus
     requires { I.opened input.old ≡ Nothing }
 
-    ensures answer { OverInput (asked_by words.now) (I.rest input.old) (λ bytes. IsDecided result
-        → Gives bytes (asked_by words.now) result (Grows (O.written out.old) (O.written out.new))
+    ensures answer { OverInput (path_of (asked_by words.now)) (I.rest input.old)
+        (λ bytes. IsDecided result → Gives bytes (asked_by words.now) result
+        (Grows (O.written out.old) (O.written out.new))
         (Tells (E.written err.old) (E.written err.new)
         (Rose (E.faults err.old) (E.faults err.new)))) }
     ensures complete { ¬ Rose (I.faults input.old) (I.faults input.new)
@@ -69,15 +69,9 @@ pub fn walk<I: Input, O: Sink, E: Sink>(
         (Rose (E.faults err.old) (E.faults err.new)) text }
 
     // What was done to the input.
-    ensures opened { OpenedFor (asked_by words.now) (I.tells_path input.old) (I.opened input.new) }
-    ensures untouched { asked_by words.now ≡ None → (I.rest input.new ≡ I.rest input.old)
-        × (I.faults input.new ≡ I.faults input.old) }
-    ensures read_to_end { IfSome (I.rest input.old) (λ bytes. length bytes ≤ FILE_LIMIT
-        → HasRead result → I.rest input.new ≡ Some []) }
-    ensures too_large { IfSome (I.rest input.old) (λ bytes. FILE_LIMIT < length bytes
-        → HasRead result → TakesCount (I.rest input.old) (FILE_LIMIT + 1) (I.rest input.new)) }
-    ensures within_limit { result ≢ WalkStatus.Malformed
-        → TakesAtMost (I.rest input.old) FILE_LIMIT (I.rest input.new) }
+    ensures input { FileReadFor (path_of (asked_by words.now)) (HasRead result)
+        (result ≡ WalkStatus.Malformed) (I.tells_path input.old) (I.opened input.new)
+        (I.rest input.old) (I.rest input.new) (I.faults input.old) (I.faults input.new) }
 {
     let text = match trace_for(alloc, words, input) {
         Ok(text) => text,
@@ -110,15 +104,9 @@ fn trace_for<I: Input>(alloc: Global, words: &[String], input: &mut I) -> Result
         (Rose (I.faults input.old) (I.faults input.new))) }
     ensures usage { asked_by words.now ≡ None → IsErrOf result Refusal.Usage }
 
-    ensures opened { OpenedFor (asked_by words.now) (I.tells_path input.old) (I.opened input.new) }
-    ensures untouched { asked_by words.now ≡ None → (I.rest input.new ≡ I.rest input.old)
-        × (I.faults input.new ≡ I.faults input.old) }
-    ensures read_to_end { IfSome (I.rest input.old) (λ bytes. length bytes ≤ FILE_LIMIT
-        → IsOfFile result → I.rest input.new ≡ Some []) }
-    ensures too_large { IfSome (I.rest input.old) (λ bytes. FILE_LIMIT < length bytes
-        → IsOfFile result → TakesCount (I.rest input.old) (FILE_LIMIT + 1) (I.rest input.new)) }
-    ensures within_limit { IsFaultless result
-        → TakesAtMost (I.rest input.old) FILE_LIMIT (I.rest input.new) }
+    ensures input { FileReadFor (path_of (asked_by words.now)) (HasRead (end_of result))
+        (end_of result ≡ WalkStatus.Malformed) (I.tells_path input.old) (I.opened input.new)
+        (I.rest input.old) (I.rest input.new) (I.faults input.old) (I.faults input.new) }
 {
     match request_of(words) {
         None => Err(Refusal::Usage),
@@ -140,14 +128,9 @@ fn file_trace<I: Input>(
     ensures refused { IfErr result (IsTrueOf (Some (of_walk steps path.now)) (I.rest input.old)
         (Rose (I.faults input.old) (I.faults input.new))) }
 
-    ensures opened { OpenedFor (Some (of_walk steps path.now)) (I.tells_path input.old)
-        (I.opened input.new) }
-    ensures read_to_end { IfSome (I.rest input.old) (λ bytes. length bytes ≤ FILE_LIMIT
-        → IsOfFile result → I.rest input.new ≡ Some []) }
-    ensures too_large { IfSome (I.rest input.old) (λ bytes. FILE_LIMIT < length bytes
-        → IsOfFile result → TakesCount (I.rest input.old) (FILE_LIMIT + 1) (I.rest input.new)) }
-    ensures within_limit { IsFaultless result
-        → TakesAtMost (I.rest input.old) FILE_LIMIT (I.rest input.new) }
+    ensures input { FileReadFor (Some path.now) (HasRead (end_of result))
+        (end_of result ≡ WalkStatus.Malformed) (I.tells_path input.old) (I.opened input.new)
+        (I.rest input.old) (I.rest input.new) (I.faults input.old) (I.faults input.new) }
 {
     let bytes = read_file(alloc, path, input)?;
     trace_of(alloc, bytes, steps)

@@ -3,7 +3,7 @@ use Rattle.std.specs.Prelude.{◌≡◌, ◌<◌, ℕ, [], ◌∷◌, List, leng
 use Rattle.std.specs.Prelude.{Some, None, Result, Ok, Err, OnOk, OnErr, IfOk}
 use Rattle.atomic_table.specs.Table.{Me}
 use Rattle.atomic_table.specs.declared.shared.Seat.{Seat}
-use Rattle.shares.specs.Share.{IsAboveZero}
+use Rattle.turn_slots.specs.Share.{IsAboveZero}
 use Rattle.cfg_model.specs.Program.Instructions.{InstructionMap}
 use Rattle.cfg_model.specs.Builder.Event.{Event, Steps}
 use Rattle.cfg_model.specs.Builder.Fact.{Fact, Holds, IsSoundFact}
@@ -12,7 +12,7 @@ use Rattle.cfg_model.specs.Builder.Reason.{Reason}
 use Rattle.cfg_model.specs.Builder.Shard.{Shard, shard_of_event}
 use Rattle.cfg_model.specs.Builder.State.{BuilderState, WaitsAt}
 use Rattle.cfg_model.specs.declared.state.Waiter.{Waiter}
-use Rattle.core_state.specs.declared.memory.Memory.{Memory}
+use Rattle.std.specs.declared.alloc.AllocError.{AllocError as Memory}
 use Rattle.core_state.specs.declared.answer.PlaceEnd.{PlaceEnd}
 use Rattle.core_state.specs.declared.answer.PlaceEnd.TheVariants as refusals
 use Rattle.board.specs.declared.view.View.{View}

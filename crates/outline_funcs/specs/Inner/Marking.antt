@@ -5,7 +5,7 @@ use Rattle.cfg_model.specs.declared.graph.Edge.{Edge}
 use Rattle.cfg_model.specs.declared.graph.EdgeKind.TheVariants as kinds
 use Rattle.cfg_model.specs.declared.graph.Function.{Function}
 use Rattle.outline_funcs.specs.Tails.{IsTailAmong, IsMarkOf}
-use Rattle.outline_funcs.specs.Inner.Parts.{Answered}
+use Rattle.parallel.specs.Lists.{Answered}
 
 -- The edge at place i is marked, and the others are left.
 pub record MarksAt (functions : List Function) (i : ℕ) (old new : List Edge) : Type 0 where

@@ -1,7 +1,7 @@
 -- A seat of the table, as contracts see it.
 use Rattle.std.specs.Prelude.{◌≡◌, [], length, Option, None}
 use Rattle.atomic_table.specs.declared.shared.Seat.{Seat}
-use Rattle.shares.specs.Share.{IsAboveZero}
+use Rattle.turn_slots.specs.Share.{IsAboveZero}
 use Rattle.turn_slots.specs.declared.view.View.{View}
 use Rattle.turn_slots.specs.Seat.{SeatState}
 

@@ -2,7 +2,7 @@ use Rattle.std.proofs.Common.{ℕ, subst}
 use Rattle.std.specs.Prelude.{Option, IfSome}
 use Rattle.cfg_model.specs.Builder.Fact.{Fact}
 use Rattle.cfg_model.specs.Builder.Reason.WantReason.{stands}
-use Rattle.crew.specs.inner.Desk.{KnowsSoundly}
+use Rattle.crew.specs.inner.Worker.{KnowsSoundly}
 use Rattle.crew.proofs.learn.enters.Goals as goal
 
 pub want_op-requires-clause-reason : goal.want_op-requires-clause-reason

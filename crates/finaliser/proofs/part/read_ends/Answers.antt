@@ -7,10 +7,10 @@ flow-flow-requires g c = end_stands (g.C.Chains.map c.args.code.now) c.args.stat
 
 pub loop-k-preserved : goal.loop-k-preserved
 loop-k-preserved g c =
-    read_more (g.C.Chains.map c.args.code.now) c.args.state.now.maps c.args.stretch c.loop-k.at c.start_at-s.result c.in-Some.k c.in-Some.ensures c.start_at-s.ensures c.flow-flow.ensures.lawful c.requires.closed
+    read_more (g.C.Chains.map c.args.code.now) c.args.state.now.maps c.args.range c.loop-k.at c.start_at-s.result c.in-Some.k c.in-Some.ensures c.start_at-s.ensures c.flow-flow.ensures.lawful c.requires.closed
     c.loop-k.blocks.items c.push.new.self.items c.loop-k.edges.items c.add_ways.new.edges.items c.block_to.result
     c.loop-k.invariant c.in_ok-push.ensures.items c.block_to.ensures c.in_ok-add_ways.ensures
 
 pub returns : goal.returns
 returns g c =
-    part_read (g.C.Chains.map c.args.code.now) c.args.state.now.maps c.args.stretch c.loop-k.at c.in_default.ensures c.loop-k.blocks.items c.loop-k.edges.items c.loop-k.invariant
+    part_read (g.C.Chains.map c.args.code.now) c.args.state.now.maps c.args.range c.loop-k.at c.in_default.ensures c.loop-k.blocks.items c.loop-k.edges.items c.loop-k.invariant

@@ -1,6 +1,7 @@
 use Rattle.std.proofs.Common.{◌≡◌}
 use Rattle.std.specs.List.{All, flat_map}
-use Rattle.finaliser.specs.Inner.Parts.{AreMade, all_in, blocks_in, edges_in}
+use Rattle.finaliser.specs.Inner.Parts.{AreMade, blocks_in, edges_in}
+use Rattle.parallel.specs.Lists.{all_in}
 use Rattle.finaliser.proofs.sharing.taken_apart.Given as goal
 
 -- all parts so far were made, and are taken apart

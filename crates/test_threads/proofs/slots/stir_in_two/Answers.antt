@@ -1,5 +1,5 @@
 use Rattle.std.proofs.Common.{subst, sym, ap}
-use Rattle.shares.specs.Share.{Share, IsSame}
+use Rattle.turn_slots.specs.Share.{Share, IsSame}
 use Rattle.turn_slots.proofs.TurnProofs.{rejoined}
 use Rattle.test_threads.proofs.slots.stir_in_two.Goals as goal
 

@@ -1,6 +1,6 @@
 use Rattle.std.proofs.Common.{false, refl, sym, ap, ◌∙◌, subst, arith, get_or, length, Some, None, ◌∷◌}
 use Rattle.turn_slots.specs.Seat.{without_slot}
-use Rattle.shares.specs.Share.{IsAboveZero}
+use Rattle.turn_slots.specs.Share.{IsAboveZero}
 use Rattle.turn_slots.proofs.Marks.{marked_below}
 use Rattle.turn_slots.proofs.Steps.{reaches, returns as returned}
 use Rattle.turn_slots.proofs.Told.{marked_state, marked_settled, slot_out, found_is, laid, given_back, rest_of}

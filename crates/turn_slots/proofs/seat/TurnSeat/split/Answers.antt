@@ -1,5 +1,5 @@
 use Rattle.std.proofs.Common.{sym, ap, ◌∙◌, subst, arith, get_or, false}
-use Rattle.shares.specs.Share.{IsAboveZero}
+use Rattle.turn_slots.specs.Share.{IsAboveZero}
 use Rattle.turn_slots.proofs.Steps.{splits}
 use Rattle.turn_slots.proofs.seat.TurnSeat.split.Goals as goal
 

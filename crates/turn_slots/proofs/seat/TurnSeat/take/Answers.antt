@@ -2,7 +2,7 @@ use Rattle.std.proofs.Common.{true, false, true≢false, refl, sym, ap, ◌∙�
 use Rattle.std.proofs.lemmas.List.{get_or-set_same}
 use Rattle.turn_slots.specs.Seat.{with_slot, with_lost_try}
 use Rattle.turn_slots.specs.Plays.{with_turn}
-use Rattle.shares.specs.Share.{IsAboveZero, IsWhole}
+use Rattle.turn_slots.specs.Share.{IsAboveZero, IsWhole}
 use Rattle.turn_slots.proofs.Marks.{mark_set}
 use Rattle.turn_slots.proofs.Steps.{tries, leaves}
 use Rattle.turn_slots.proofs.Told.{told_lost, tried_state, tried_settled, marked_state, marked_settled, slot_out, has_out, has_taken, laid_back, rest_of, same_value, rises, no_rise}

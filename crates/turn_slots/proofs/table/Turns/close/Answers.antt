@@ -1,6 +1,6 @@
 use Rattle.std.proofs.Common.{sym, ap, ◌∙◌, subst, get_or, false}
 use Rattle.std.specs.Mem.Slots.{slots_counts}
-use Rattle.shares.specs.Share.{IsWhole}
+use Rattle.turn_slots.specs.Share.{IsWhole}
 use Rattle.turn_slots.proofs.Ends.{closes}
 use Rattle.turn_slots.proofs.table.Turns.close.Goals as goal
 

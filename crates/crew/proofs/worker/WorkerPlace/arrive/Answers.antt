@@ -1,0 +1,27 @@
+use Rattle.cfg_model.specs.Builder.Event.{Event}
+use Rattle.core_state.specs.declared.answer.ShardKind.TheVariants.{Ends}
+use Rattle.crew.proofs.Reasons.{seat_reason}
+use Rattle.crew.proofs.Losing.{where_busy}
+use Rattle.std.proofs.Common.{subst}
+use Rattle.std.specs.Prelude.{IfErr}
+use Rattle.core_state.specs.Place.{IsBusyAt}
+use Rattle.board.specs.Seat.{SeatState}
+use Rattle.crew.specs.inner.Worker.{all_lost}
+use Rattle.crew.proofs.Caching.{stays_at, still_cached}
+use Rattle.crew.proofs.worker.WorkerPlace.arrive.Goals as goal
+
+pub invariant_of-self : goal.invariant_of-self
+invariant_of-self g c = (
+  c.self.invariant.0,
+  stays_at g.S.WorkerIds.board g.S.WorkerIds.share c.self.inside.seat c.arrive_along.new.self c.self.invariant.1 c.arrive_along.ensures.stays,
+  c.self.invariant.2,
+  still_cached g.J.Job.map g.J.Job.seeds c.self.inside.cache c.self.inside.seat c.arrive_along.new.self c.self.invariant.3 c.arrive_along.ensures.remembers,
+)
+
+pub arrive_along-requires-clause-reason : goal.arrive_along-requires-clause-reason
+arrive_along-requires-clause-reason g c = seat_reason g.J.Job.map g.J.Job.seeds c.self.inside.seat c.args.self.now c.self.view_is (Event.Arrive c.args.k c.args.s) c.requires.reason
+
+pub returns-clause-busy : goal.returns-clause-busy
+returns-clause-busy g c =
+    subst (λ (s : SeatState). IfErr c.arrive_along.result (IsBusyAt Ends c.args.k (all_lost s) (all_lost c.arrive_along.new.self))) c.self.view_is
+    (where_busy Ends c.args.k c.self.inside.seat c.arrive_along.new.self c.arrive_along.result c.arrive_along.ensures.busy c.arrive_along.ensures.lost)

@@ -1,0 +1,163 @@
+//! What one worker does.
+
+ghost use Rattle.std.specs.Prelude.{◌≡◌};
+ghost use Rattle.cfg_model.specs.Builder.Fact.{Fact};
+ghost use Rattle.crew.specs.inner.Worker.{IsSeatAt, IsHandAt, KnowsSoundly};
+ghost use Rattle.crew.specs.inner.Team.{IsJob};
+
+use crate::gate::Gate;
+use crate::learn::do_named;
+use crate::shared::Shared;
+use crate::worker::Worker;
+use crate::worker_ids::WorkerIds;
+use board::Seat;
+use cfg_model::Chains;
+use core_state::{Job, Memory, Name, Place, PlaceEnd, WorkKind};
+use crossbeam_utils::Backoff;
+use std::alloc::Global;
+use std::marker::Brand;
+use std::sync::Wait;
+use steal_pool::Hand;
+use work_ops::edges_op;
+
+/// How often in a row a worker finds no name before it ends.
+const LAST_LOOKS: u32 = 64;
+
+/// How often in a row a worker tries the work of a name at shards that are in other hands before it
+/// puts it off.
+const TRIES: u32 = 3;
+
+/// Lets a worker work, and gives its seat and its hand back.
+pub(crate) fn employ<J: Job, R: Wait, C: Chains, G: Gate>(
+    alloc: Global,
+    shared: &Shared<J, R, C, G>,
+    seat: Seat<J>,
+    hand: Hand,
+    number: u32,
+) -> (Seat<J>, Hand)
+    requires job { IsJob J.map J.seeds (C.map shared.now.code.now) shared.now.seeds.now }
+    requires seat { IsSeatAt shared.now.board.now seat.share seat }
+    requires hand { hand.deques ≡ shared.now.pool.now.deques }
+    ensures seat { IsSeatAt shared.now.board.now seat.share result.0 }
+    ensures hand { IsHandAt hand.deques hand.number result.1 }
+{
+    stay::<J, Brand, R, C, G>(alloc, shared, seat, hand, number)
+}
+
+/// The same, with these ids.
+fn stay<J: Job, S: WorkerIds, R: Wait, C: Chains, G: Gate>(
+    alloc: Global,
+    shared: &Shared<J, R, C, G>,
+    seat: Seat<J>,
+    hand: Hand,
+    number: u32,
+) -> (Seat<J>, Hand)
+    requires job { IsJob J.map J.seeds (C.map shared.now.code.now) shared.now.seeds.now }
+    requires board { shared.now.board.now ≡ S.board }
+    requires pool { shared.now.pool.now.deques ≡ S.deques }
+    requires seat { IsSeatAt S.board S.share seat }
+    requires hand { IsHandAt S.deques S.number hand }
+    ensures seat { IsSeatAt S.board S.share result.0 }
+    ensures hand { IsHandAt S.deques S.number result.1 }
+{
+    let mut worker = Worker::<J, S>::new(alloc, shared.board, seat, hand);
+    work_off(shared, &mut worker, number);
+    shared.gate.ended(number, &worker.tally());
+    worker.into_parts()
+}
+
+/// Works until no name was found this many times in a row, or memory ran out.
+fn work_off<J: Job, S: WorkerIds, R: Wait, C: Chains, G: Gate>(
+    shared: &Shared<J, R, C, G>,
+    worker: &mut Worker<J, S>,
+    number: u32,
+)
+    requires job { IsJob J.map J.seeds (C.map shared.now.code.now) shared.now.seeds.now }
+    requires pool { shared.now.pool.now.deques ≡ S.deques }
+{
+    let pause = Backoff::new();
+    let mut looks = 0;
+    for _ in shared.rt.forever() {
+        match worker.take(shared.rt, shared.pool) {
+            Some(name) => {
+                looks = 0;
+                match do_or_put_off(shared, worker, number, name) {
+                    Ok(true) => pause.reset(),
+                    Ok(false) => pause.snooze(),
+                    Err(Memory) => return,
+                }
+            }
+            None => {
+                looks += 1;
+                if looks == LAST_LOOKS {
+                    return;
+                }
+                pause.snooze();
+            }
+        }
+    }
+}
+
+/// Does the work of a name. Whether it was done: if a shard was in other hands at each of a few
+/// tries, the work is put off. The system may hold up the holder of the shard for milliseconds; the
+/// others do what does not need that shard meanwhile.
+fn do_or_put_off<J: Job, S: WorkerIds, R: Wait, C: Chains, G: Gate>(
+    shared: &Shared<J, R, C, G>,
+    worker: &mut Worker<J, S>,
+    number: u32,
+    name: Name,
+) -> Result<bool, Memory>
+    requires job { IsJob J.map J.seeds (C.map shared.now.code.now) shared.now.seeds.now }
+{
+    let pause = Backoff::new();
+    for _ in 0..TRIES {
+        shared.gate.before(number, name.kind, name.key);
+        match do_named(worker, shared.code, shared.seeds, name) {
+            Ok(Some(k)) => {
+                worker.count_made();
+                go_on(shared, worker, number, k)?;
+                return Ok(true);
+            }
+            Ok(None) => {
+                worker.count_made();
+                return Ok(true);
+            }
+            Err(PlaceEnd::Memory) => return Err(Memory),
+            Err(PlaceEnd::Busy { .. }) => {
+                worker.count_lost();
+                pause.spin();
+            }
+        }
+    }
+    worker.put_off(name);
+    Ok(false)
+}
+
+/// Follows the edges of the terminator `k`, which the worker has just entered: so it need not look
+/// whether it is one. If a shard is in other hands, the name is kept for later.
+fn go_on<J: Job, S: WorkerIds, R: Wait, C: Chains, G: Gate>(
+    shared: &Shared<J, R, C, G>,
+    worker: &mut Worker<J, S>,
+    number: u32,
+    k: u64,
+) -> Result<(), Memory>
+    requires job { IsJob J.map J.seeds (C.map shared.now.code.now) shared.now.seeds.now }
+    requires entered { KnowsSoundly J.map J.seeds worker.old (Fact.Terminator k) }
+{
+    shared.gate.before(number, WorkKind::Edges, k);
+    match edges_op::<J, Worker<J, S>, C>(worker, shared.code, k) {
+        Ok(()) => {
+            worker.note_followed(k);
+            worker.count_made();
+            Ok(())
+        }
+        Err(PlaceEnd::Memory) => Err(Memory),
+        Err(PlaceEnd::Busy { .. }) => {
+            worker.put_aside(Name {
+                kind: WorkKind::Edges,
+                key: k,
+            });
+            Ok(())
+        }
+    }
+}

@@ -1,7 +1,0 @@
-use Rattle.std.specs.List.{All}
-use Rattle.drawn_calls.specs.Inner.{IsResultBelow}
-use Rattle.drawn_calls.proofs.drawn.Given as goal
-
--- what is made so far are results at numbers below the count
-abbrev pub invariant-loop : goal.invariant-loop
-invariant-loop g l = All (IsResultBelow g.F.Fn l.f l.count) l.made.items

@@ -1,0 +1,4 @@
+mod FirstChunk
+mod Placed
+pub mod Covered
+pub mod GapByGap

@@ -1,0 +1,3 @@
+-- Words of private functions, which no public contract cites.
+pub mod Chunks
+pub mod Drawn

@@ -1,0 +1,4 @@
+pub mod Ranges
+pub mod Gaps
+pub mod Lists
+pub mod Inner
