@@ -8,10 +8,14 @@ jump tables. The second one, under the cuts that the first one's tables give, is
 
 from __future__ import annotations
 
+import contextlib
+import os
 import re
+import subprocess
+import sys
 from typing import BinaryIO, Dict, Iterator, List, NamedTuple, NoReturn, Optional, Set, Tuple
 
-from cfg_report import Block, Edge, ReportError
+from cfg_report import TOP, Block, Edge, ReportError
 from listing import Flow, Listing
 from pattern_tables import Table, Tables, cuts
 
@@ -49,6 +53,26 @@ class Part(NamedTuple):
 class Certificate(NamedTuple):
     plain: Part
     cut: Optional[Part] = None
+
+
+# ---- where one comes from
+
+
+@contextlib.contextmanager
+def opened(path: Optional[str], elf: str) -> Iterator[BinaryIO]:
+    """The stream of a certificate: of a file, of standard input for `-`, or of what `cfg_check` makes."""
+    if path == "-":
+        yield sys.stdin.buffer
+    elif path is not None:
+        with open(path, "rb") as stream:
+            yield stream
+    else:
+        program = os.environ.get("CFG_CHECK") or os.path.join(TOP, "bin", "cfg_check")
+        with subprocess.Popen([program, "make", elf], stdout=subprocess.PIPE) as run:
+            assert run.stdout is not None
+            yield run.stdout  # type: ignore[misc]
+        if run.returncode:
+            raise ReportError(f"{program} ended with status {run.returncode}")
 
 
 # ---- the text

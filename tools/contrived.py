@@ -169,6 +169,18 @@ def streams_that_meet(n: int) -> bytes:
     return file_with(([0x0013] * 13 + NOP * 3) * count + RETURN, symbols_at(range(16 * count)))
 
 
+def one_stream_cut(n: int) -> bytes:
+    """Two streams of N halfwords, of which one goes on to the end without a start but its first, and the other has a symbol
+    at each instruction: the block of the one passes the starts of all blocks of the other."""
+    return file_with([0x0013] * n + NOP * 2 + RETURN, symbols_at([0, *range(1, n, 2)]))
+
+
+def joins_from_afar(n: int) -> bytes:
+    """N / 2 instructions of four bytes whose last two bytes are one too, with a symbol there: behind each the two meet. The
+    chain of the first symbol goes through all of them, so it is a reason of each of these joins, from far above."""
+    return file_with([0x0013, 0x0001] * (n // 2 + 1) + RETURN, symbols_at([0, *range(1, n, 2)]))
+
+
 SORTING = """
     00002337 F403031B 406102B3 00028393 00001437 FA04041B 0083B023 FFD40413 00838393 FE239AE3 FF810593 3E800613 00028393
     0003B483 0083B503 00955663 00A3B023 0093B423 00838393 FEB394E3 FFF60613 FC061EE3 FB5FF06F
@@ -185,7 +197,8 @@ def sorting() -> bytes:
 SHAPES: Dict[str, Callable[[int], bytes]] = {
     shape.__name__: shape for shape in (
         symbols, symbols_on_lines, rising, falling, last_then_rising, one_callee, one_callee_that_stays, call_chain,
-        branches_to_one, one_table, zigzag, shared_tail, one_long_body, waves, streams, streams_that_meet,
+        branches_to_one, one_table, zigzag, shared_tail, one_long_body, waves, streams, streams_that_meet, one_stream_cut,
+        joins_from_afar,
     )
 }
 

@@ -21,6 +21,7 @@ from hostile import with_names
 from test_tools import script
 
 DUMP = rows.TOOLS.parent / "crates" / "workers_dump" / "out" / "workers_dump"
+LIVES_DUMP = rows.TOOLS.parent / "crates" / "lives_dump" / "out" / "lives_dump"
 
 
 class Contrived(unittest.TestCase):
@@ -181,6 +182,54 @@ class WorkersOf(unittest.TestCase):
                 # Two names are dealt out, at most.
                 self.assertLessEqual(count["from deques"], count["put"] + 2)
                 self.assertGreater(count["turns"], 0)
+
+
+class LivesOf(unittest.TestCase):
+    """The table of what lists of live registers take, by a script in the place of lives_dump and by lives_dump itself."""
+
+    def said(self, folder: str, *, program: Optional[Path] = None) -> "subprocess.CompletedProcess[str]":
+        path = Path(folder) / "row.elf"
+        path.write_bytes(rows.elf(40))
+        environment = dict(os.environ, **({"LIVES_DUMP": str(program)} if program else {}))
+        command = [sys.executable, "-B", str(rows.TOOLS / "bench"), "--lives-of", str(path)]
+        return subprocess.run(command, env=environment, capture_output=True, text=True)
+
+    def answering(self, folder: str, script: str) -> Path:
+        program = Path(folder) / "dump"
+        program.write_text(f"#!/bin/sh\n{script}\n")
+        program.chmod(0o755)
+        return program
+
+    def cells(self, done: "subprocess.CompletedProcess[str]") -> List[List[str]]:
+        self.assertEqual((done.returncode, done.stderr), (0, ""))
+        table = [[cell.strip() for cell in line.strip("|").split("|")] for line in done.stdout.splitlines()]
+        self.assertEqual(table[0], ["Workers", "Lists alone", "Times less"])
+        self.assertEqual([cells[0] for cells in table[2:]], ["1", "2", "4"])
+        return table[2:]
+
+    def test_difference_of_two_runs(self) -> None:
+        # Twenty times more take 0.2 s by one worker and 0.04 s by four: 10 ms and 2 ms each time.
+        with tempfile.TemporaryDirectory() as folder:
+            script = ('[ $3 = 1 ] || case $2 in 1) sleep 0.2 ;; 2) sleep 0.12 ;; 4) sleep 0.04 ;; esac\n'
+                      'echo functions=1 blocks=1 checksum=00000000fffffbfe')
+            rows_of = self.cells(self.said(folder, program=self.answering(folder, script)))
+        for cells, wanted in zip(rows_of, (10.0, 6.0, 2.0)):
+            self.assertAlmostEqual(float(cells[1].split()[0]), wanted, delta=4.0)
+        self.assertEqual(rows_of[0][2], "1.0")
+
+    def test_what_is_wrong_is_one_line(self) -> None:
+        scripts = ("echo fault Magic", "exit 1", "echo functions=$2 blocks=1 checksum=00000000fffffbfe")
+        with tempfile.TemporaryDirectory() as folder:
+            for program in (Path(folder) / "none", *(self.answering(folder, script) for script in scripts)):
+                done = self.said(folder, program=program)
+                self.assertEqual((done.returncode, done.stderr.count("\n")), (2, 1))
+
+    @unittest.skipUnless(os.access(LIVES_DUMP, os.X_OK), "lives_dump is not built")
+    def test_lists_of_a_file(self) -> None:
+        with tempfile.TemporaryDirectory() as folder:
+            self.cells(self.said(folder))
+            done = subprocess.run([LIVES_DUMP, Path(folder) / "row.elf", "3", "2"], capture_output=True, text=True)
+        self.assertEqual(done.stdout, "functions=1 blocks=1 checksum=00000000fffffbfe\n")
 
 
 if __name__ == "__main__":

@@ -5,8 +5,10 @@ from __future__ import annotations
 import io
 import os
 import struct
+import subprocess
 import unittest
 from typing import List, Tuple
+from unittest import mock
 
 import rows
 import small
@@ -17,6 +19,8 @@ from certificate import Certificate, Lead, Part, Return
 from listing import Listing
 from test_tools import InFolder
 
+# The program, if it is built.
+CHECK = rows.TOOLS.parent / "crates" / "cfg_check" / "out" / "cfg_check"
 LACKING = binutils.missing(binutils.OBJDUMP, binutils.READELF)
 # Rows without tables. Rows 5 and 7 are told by their symbols, which these files do not have.
 PLAIN_ROWS = [number for number in sorted(rows.ROWS) if number not in (5, 7, 13, 15, 32, 33, 34)]
@@ -189,6 +193,25 @@ class Certificates(InFolder):
         os.chmod(judge, 0o755)
         status, said, _ = self.run_main("spoil", "--count", "2", "--checker", judge, path, cert)
         self.assertEqual((status, said[0]), (1, "a line left out: 2 VALID, ANOTHER GRAPH"))
+
+    def test_why_and_spoil_ask_for_a_certificate(self) -> None:
+        path, cert = self.row_elf(8), self.file("cert", ROW_8.encode())
+        maker = self.file("maker", f'#!/bin/sh\ntest "$1 $2" = "make {path}" && exec cat {cert}\n'.encode())
+        os.chmod(maker, 0o755)
+        with mock.patch.dict(os.environ, {"CFG_CHECK": maker}):
+            self.assertEqual(self.run_main("why", path, "10008"), self.run_main("why", "--certificate", cert, path, "10008"))
+            self.assertEqual(self.run_main("spoil", "--count", "2", path), self.run_main("spoil", "--count", "2", path, cert))
+        with mock.patch.dict(os.environ, {"CFG_CHECK": "false"}):
+            self.assertEqual(self.run_process("why", path, "10008").returncode, 2)
+
+    @unittest.skipUnless(os.access(CHECK, os.X_OK), "cfg_check is not built")
+    def test_both_makers_agree(self) -> None:
+        for path in (*map(self.row_elf, PLAIN_ROWS), self.with_tables()):
+            with self.subTest(path=path):
+                made = subprocess.run([str(CHECK), "make", path], stdout=subprocess.PIPE, check=True).stdout
+                self.assertEqual(made.decode(), certificates.text(naive_certificates.made(path)))
+                tested = subprocess.run([str(CHECK), "test", path, self.file("cert", made)], stdout=subprocess.PIPE, check=True).stdout
+                self.assertTrue(tested.startswith(b"cfg-report 2\n"))
 
     def test_statuses(self) -> None:
         path = self.row_elf(1)
