@@ -1,6 +1,6 @@
 -- What a call of a seat did, from what its steps told.
 use Rattle.std.proofs.Common.{◌≡◌, ℕ, ◌<◌, List, [], ◌∷◌, length, Option, Some, None, refl, sym, ap, ◌∙◌, subst}
-use Rattle.std.specs.Prelude.{◌↔◌, Result, Ok, Err, OnOk, OnErr, IfOk, IfErr}
+use Rattle.std.specs.Prelude.{Result, Ok, Err, OnOk, OnErr, IfOk}
 use Rattle.atomic_table.specs.Table.{Me}
 use Rattle.atomic_table.specs.declared.shared.Seat.{Seat}
 use Rattle.cfg_model.specs.Program.Instructions.{InstructionMap, IsLawful}
@@ -15,19 +15,20 @@ use Rattle.split_laws.proofs.FactLaws.{reason_more}
 use Rattle.std.specs.declared.alloc.AllocError.{AllocError as Memory}
 use Rattle.core_state.specs.declared.answer.ShardKind.{ShardKind}
 use Rattle.core_state.specs.declared.answer.PlaceEnd.{PlaceEnd}
-use Rattle.core_state.specs.Place.{Brings, Remembers}
+use Rattle.core_state.specs.declared.answer.PlaceEnd.TheVariants as refusals
+use Rattle.core_state.specs.Place.{Brings}
 use Rattle.board.specs.declared.view.View.{View}
 use Rattle.board.specs.declared.piece.Piece.{Piece}
 use Rattle.board.specs.Slots.{shard_in, shard_for}
-use Rattle.board.specs.Seat.{Notes, SeatState, HasSlot, Knows, with_turn, lost_of, found, left}
-use Rattle.board.specs.Calls.{MadeEvent, LookedAt, AnswersBusy, AnswersMemory, WhereBusy, WhereMemory, Stays}
+use Rattle.board.specs.Seat.{Notes, SeatState, HasSlot, Knows, with_turn, found, left}
+use Rattle.board.specs.Calls.{MadeEvent, LookedAt, TriedAt, AnswersMemory}
 use Rattle.board.specs.Pieces.{part_in, piece_in}
 use Rattle.board.specs.Plays.{values_at, changed, giving, Takes}
 use Rattle.board.specs.Inner.Inside.{state_of, IsSettled, Goes, answer_of}
 use Rattle.board.proofs.Events.{same_out}
 use Rattle.board.proofs.Parts.{part_piece}
 use Rattle.board.proofs.Rounds.{in_turn, gives, turn_state, turn_settled, changed_notes}
-use Rattle.board.proofs.Told.{part_is_true, may, step_is_true, step_brings, all_more, knows_second, turn_found, turn_left, turn_remembers, turn_stays, none_lost}
+use Rattle.board.proofs.Told.{part_is_true, may, step_is_true, step_brings, all_more, knows_second, turn_found, turn_left, turn_tried}
 
 -- One turn of a shard that was given back: of the seat before, and the one after.
 pub record Round (code : InstructionMap) (seeds : List ℕ) (shard : Shard) (old : SeatState) (d : Seat (Option Piece) View) : Type 0 where
@@ -127,13 +128,8 @@ pub record Answered (code : InstructionMap) (seeds : List ℕ) (made : Event) (k
   pub event : OnOk r (MadeEvent code seeds made old new)
   pub answer : IfOk r (answers (found new) (left new))
   pub brings : OnOk r (Brings made (Knows code new))
-  pub remembers : Remembers (Knows code old) (Knows code new)
-  pub busy : IfErr r (WhereBusy kind key old new)
-  pub never : AnswersBusy r → ⊥
-  pub lost : AnswersBusy r ↔ (lost_of old (shard_for kind key) < lost_of new (shard_for kind key))
-  pub memory : IfErr r (WhereMemory code seeds (shard_for kind key) old new)
+  pub tried : TriedAt code seeds kind key old new r
   pub spends : AnswersMemory r → can
-  pub stays : Stays old new
 
 module _ (code : InstructionMap) (seeds : List ℕ) (slot : ℕ) (below : slot < 192) (kind : ShardKind) (key : ℕ) (at : shard_in slot ≡ shard_for kind key) (a : Seat (Option Piece) View) (settled : IsSettled code seeds a)
     (free : ¬ HasSlot a.me.0.notes slot) (m : Me (Option Piece) View) (took : Takes code seeds slot a.me m)
@@ -151,13 +147,8 @@ module _ (code : InstructionMap) (seeds : List ℕ) (slot : ℕ) (below : slot <
           event = made_event code seeds slot below (shard_for kind key) at a settled free m took lawful event here answers n (Ok answer) goes noted d given table old is reason goes.step (sym place);
           answer = made_answer code seeds slot below (shard_for kind key) at a settled free m took lawful event here answers n (Ok answer) goes noted d given table old is reason goes.step answer goes.answer;
           brings = made_brings code seeds slot below (shard_for kind key) at a settled free m took lawful event here answers n (Ok answer) goes noted d given table old is reason goes.step;
-          remembers = turn_remembers code seeds (shard_for kind key) old (state_of d) r.first r.second r.turn;
-          busy = tt;
-          never = λ e. e;
-          lost = (λ e. absurd e, λ more. none_lost code seeds (shard_for kind key) old (state_of d) r.first r.second r.turn (shard_for kind key) more);
-          memory = tt;
+          tried = turn_tried code seeds kind key old (state_of d) r.first r.second r.turn r.settled.truth (Ok answer) tt tt (λ e. e);
           spends = λ e. absurd e;
-          stays = turn_stays code seeds (shard_for kind key) old (state_of d) r.first r.second r.turn;
         },
       )
   answered (Err end) spends goes =
@@ -167,12 +158,7 @@ module _ (code : InstructionMap) (seeds : List ℕ) (slot : ℕ) (below : slot <
           event = tt;
           answer = tt;
           brings = tt;
-          remembers = turn_remembers code seeds (shard_for kind key) old (state_of d) r.first r.second r.turn;
-          busy = tt;
-          never = λ e. e;
-          lost = (λ e. absurd e, λ more. none_lost code seeds (shard_for kind key) old (state_of d) r.first r.second r.turn (shard_for kind key) more);
-          memory = (refused_round code seeds slot below (shard_for kind key) at a settled free m took lawful event here answers n (Err end) goes noted d given table old is goes.same).1;
+          tried = turn_tried code seeds kind key old (state_of d) r.first r.second r.turn r.settled.truth (Err refusals.Memory) tt (refused_round code seeds slot below (shard_for kind key) at a settled free m took lawful event here answers n (Err end) goes noted d given table old is goes.same).1 (λ e. e);
           spends = λ _. spends;
-          stays = turn_stays code seeds (shard_for kind key) old (state_of d) r.first r.second r.turn;
         },
       )

@@ -3,7 +3,7 @@ use Rattle.std.proofs.Common.{◌≡◌, ◌≢◌, ⊎_elim, ℕ, zero, suc, Li
 use Rattle.std.proofs.lemmas.Bool.{cases_eq}
 use mathlib.Core.Option.{some, some-injective, some-ne-none}
 use lib.ListN.{get_elem?}
-use Rattle.atomic_table.specs.Table.{Me, State, Step}
+use Rattle.atomic_table.specs.Table.{Me, State}
 use Rattle.turn_slots.specs.Share.{Share, AddUpToOne}
 use Rattle.turn_slots.specs.declared.view.View.{View as TurnView}
 use Rattle.turn_slots.proofs.Touches.{sound_of, alone}

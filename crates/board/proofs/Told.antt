@@ -1,6 +1,6 @@
 -- What a seat knows after one turn of a shard.
 use Rattle.std.proofs.Common.{◌≡◌, ℕ, ◌<◌, List, [], ◌∷◌, Option, Some, None, refl, sym, ap, ◌∙◌, subst, arith}
-use Rattle.std.specs.Prelude.{Contains, IsSome, IsTrue}
+use Rattle.std.specs.Prelude.{Contains, IsSome, IsTrue, Result, IfErr}
 use mathlib.Core.Logic.{inl, inr}
 use Rattle.std.specs.FinMap as maps
 use Rattle.std.specs.FinSet as sets
@@ -25,8 +25,11 @@ use Rattle.status_laws.proofs.ShardLaws.{of_whole}
 use Rattle.status_laws.proofs.SoundLaws.{kept_is_sound, sound_facts_hold}
 use Rattle.status_laws.proofs.BroughtLaws.{events_bring_facts}
 use Rattle.core_state.specs.Place.{AreKnown, Remembers}
+use Rattle.core_state.specs.declared.answer.PlaceEnd.{PlaceEnd}
+use Rattle.core_state.specs.declared.answer.ShardKind.{ShardKind}
+use Rattle.board.specs.Slots.{shard_for}
 use Rattle.board.specs.Seat.{SeatState, Knows, lost_of, found, left, with_turn}
-use Rattle.board.specs.Calls.{HadTurn, LookedAt, Stays, KnowsTruth}
+use Rattle.board.specs.Calls.{HadTurn, LookedAt, TriedAt, AnswersBusy, WhereBusy, WhereMemory, Stays, KnowsTruth}
 
 -- A kept state, of which a part is seen.
 
@@ -155,3 +158,16 @@ module _ (code : InstructionMap) (seeds : List ℕ) (shard : Shard) (old new : S
     pub looked : second ≡ first → LookedAt code seeds shard old new
     unfolding had_turn
     looked same = record { had = had_turn; same = same }
+
+-- Whatever came of a call that had the turn.
+pub turn_tried : (code : InstructionMap) (seeds : List ℕ) (kind : ShardKind) (key : ℕ) (old new : SeatState) (first second : BuilderState) → new ≡ with_turn old (shard_for kind key) first second → KnowsTruth code seeds new
+    → {T : Type 0} (result : Result T PlaceEnd) → IfErr result (WhereBusy kind key old new) → IfErr result (WhereMemory code seeds (shard_for kind key) old new) → ¬ AnswersBusy result → TriedAt code seeds kind key old new result
+turn_tried code seeds kind key old new first second turn truth result busy memory never = record {
+  remembers = turn_remembers code seeds (shard_for kind key) old new first second turn;
+  truth = truth;
+  busy = busy;
+  lost = (λ e. absurd (never e), λ more. absurd (none_lost code seeds (shard_for kind key) old new first second turn (shard_for kind key) more));
+  only_seat = λ _. never;
+  memory = memory;
+  stays = turn_stays code seeds (shard_for kind key) old new first second turn;
+}

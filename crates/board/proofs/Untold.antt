@@ -1,6 +1,6 @@
 -- What a seat is told by the next waiter of a terminator.
 use Rattle.std.proofs.Common.{◌≡◌, ℕ, ◌<◌, List, true, false, true≢false, Option, Some, None, refl, sym, ap, ◌∙◌, subst}
-use Rattle.std.specs.Prelude.{IsSome, is_some, IfSome, OnSome, IfNone}
+use Rattle.std.specs.Prelude.{IsSome, is_some, IfSome, OnSome, IfNone, Ok}
 use Rattle.std.proofs.lemmas.Option.{same_Some}
 use mathlib.Core.Logic.{inl, inr}
 use Rattle.std.specs.FinMap as maps
@@ -17,13 +17,14 @@ use Rattle.status_laws.proofs.PartLaws.{parts_are_shown}
 use Rattle.status_laws.proofs.SoundLaws.{kept_is_sound, sound_facts_hold}
 use Rattle.status_laws.proofs.ShardLaws.{Waits}
 use Rattle.core_state.specs.Place.{Remembers}
+use Rattle.core_state.specs.declared.answer.ShardKind.TheVariants.{Terms}
 use Rattle.core_state.specs.Reads.{IsNextToTell}
 use Rattle.core_state.proofs.StatePlace as places
 use Rattle.board.specs.declared.view.View.{View}
 use Rattle.board.specs.declared.piece.Piece.{Piece}
 use Rattle.board.specs.Slots.{shard_in}
 use Rattle.board.specs.Seat.{SeatState, Knows, found, lost_of}
-use Rattle.board.specs.Calls.{LookedAt, Stays, shown_waiter}
+use Rattle.board.specs.Calls.{LookedAt, TriedAt, KnowsWaiter, Stays, KnowsTruth, shown_waiter}
 use Rattle.board.specs.Pieces.{part_in, piece_in}
 use Rattle.board.specs.Plays.{Takes, learned, shown_next}
 use Rattle.board.specs.Inner.Inside.{state_of, IsSettled, IsOut, IsShown}
@@ -124,22 +125,31 @@ module _ (code : InstructionMap) (seeds : List ℕ) (k : ℕ) (old new : SeatSta
   abbrev At : Shard
   At = Shard.Terminators (shard_of k)
 
-  pub told_waits : (next : Option Waiter) → LookedAt code seeds (Shard.Terminators (shard_of k)) (shown_waiter old next) new → IsNextToTell (found new).terminators k next → IfSome next (λ w. Knows code new (Fact.Waits k w))
+  told_waits : (next : Option Waiter) → LookedAt code seeds (Shard.Terminators (shard_of k)) (shown_waiter old next) new → IsNextToTell (found new).terminators k next → IfSome next (λ w. Knows code new (Fact.Waits k w))
   told_waits None looked is = tt
   told_waits (Some w) looked is = sees code seeds (shown_waiter old (Some w)) new At looked (Fact.Waits k w) (ap is_some is.0.1)
 
-  pub told_returned : (next : Option Waiter) → LookedAt code seeds (Shard.Terminators (shard_of k)) (shown_waiter old next) new → IsNextToTell (found new).terminators k next → OnSome next (Knows code new (Fact.Returned k))
+  told_returned : (next : Option Waiter) → LookedAt code seeds (Shard.Terminators (shard_of k)) (shown_waiter old next) new → IsNextToTell (found new).terminators k next → OnSome next (Knows code new (Fact.Returned k))
   told_returned None looked is = tt
   told_returned (Some w) looked is = sees code seeds (shown_waiter old (Some w)) new At looked (Fact.Returned k) is.0.0
 
-  pub told_entered : (next : Option Waiter) → LookedAt code seeds (Shard.Terminators (shard_of k)) (shown_waiter old next) new → IsNextToTell (found new).terminators k next → OnSome next (Knows code new (Fact.Terminator k))
+  told_entered : (next : Option Waiter) → LookedAt code seeds (Shard.Terminators (shard_of k)) (shown_waiter old next) new → IsNextToTell (found new).terminators k next → OnSome next (Knows code new (Fact.Terminator k))
   told_entered None looked is = tt
   told_entered (Some w) looked is = sees code seeds (shown_waiter old (Some w)) new At looked (Fact.Terminator k) (entered_of w (maps.get (found new).terminators k) (ap is_some is.0.1))
 
-  pub told_waiter : (next : Option Waiter) → LookedAt code seeds (Shard.Terminators (shard_of k)) (shown_waiter old next) new → IfSome next (λ w. Knows code new (Fact.Terminator w.terminator))
+  told_waiter : (next : Option Waiter) → LookedAt code seeds (Shard.Terminators (shard_of k)) (shown_waiter old next) new → IfSome next (λ w. Knows code new (Fact.Terminator w.terminator))
   told_waiter None looked = tt
   told_waiter (Some w) looked =
       turn_remembers code seeds At (shown_waiter old (Some w)) new looked.had.first looked.had.second looked.had.turn (Fact.Terminator w.terminator) (inl (alone_shows code w.terminator))
+
+  pub told_known : (next : Option Waiter) → LookedAt code seeds (Shard.Terminators (shard_of k)) (shown_waiter old next) new → IsNextToTell (found new).terminators k next → IfSome next (KnowsWaiter code new k)
+  told_known None looked is = tt
+  told_known (Some w) looked is = record {
+    waits = told_waits (Some w) looked is;
+    returned = told_returned (Some w) looked is;
+    entered = told_entered (Some w) looked is;
+    waiter = told_waiter (Some w) looked;
+  }
 
   pub told_all : (next : Option Waiter) → LookedAt code seeds (Shard.Terminators (shard_of k)) (shown_waiter old next) new → IsNextToTell (found new).terminators k next
       → IfNone next (Knows code old (Fact.Returned k) → (w : Waiter) → Knows code old (Fact.Waits k w) → Knows code new (Fact.Told k w))
@@ -152,14 +162,25 @@ module _ (code : InstructionMap) (seeds : List ℕ) (k : ℕ) (old new : SeatSta
   told_back None looked is = tt
   told_back (Some w) looked is = λ told. no_longer (found new).terminators k w is.0.1 (read_known code seeds (shown_waiter old (Some w)) new At looked.had (Fact.Told k w) refl (inr told))
 
-  pub told_remembers : (next : Option Waiter) → LookedAt code seeds (Shard.Terminators (shard_of k)) (shown_waiter old next) new → Remembers (Knows code old) (Knows code new)
+  told_remembers : (next : Option Waiter) → LookedAt code seeds (Shard.Terminators (shard_of k)) (shown_waiter old next) new → Remembers (Knows code old) (Knows code new)
   told_remembers next looked fact h = turn_remembers code seeds At (shown_waiter old next) new looked.had.first looked.had.second looked.had.turn fact (knows_more code old next fact h)
 
-  pub told_stays : (next : Option Waiter) → LookedAt code seeds (Shard.Terminators (shard_of k)) (shown_waiter old next) new → Stays old new
+  told_stays : (next : Option Waiter) → LookedAt code seeds (Shard.Terminators (shard_of k)) (shown_waiter old next) new → Stays old new
   told_stays next looked =
       let after = turn_stays code seeds At (shown_waiter old next) new looked.had.first looked.had.second looked.had.turn in
       let before = still_board old next in
       record { board = after.board ∙ before.board; share = after.share ∙ before.share; holds = after.holds ∙ before.holds }
 
-  pub told_lost : (next : Option Waiter) → LookedAt code seeds (Shard.Terminators (shard_of k)) (shown_waiter old next) new → (s : Shard) → lost_of old s < lost_of new s → ⊥
+  told_lost : (next : Option Waiter) → LookedAt code seeds (Shard.Terminators (shard_of k)) (shown_waiter old next) new → (s : Shard) → lost_of old s < lost_of new s → ⊥
   told_lost next looked s more = none_lost code seeds At (shown_waiter old next) new looked.had.first looked.had.second looked.had.turn s (subst (λ (n : ℕ). n < lost_of new s) (sym (still_lost old next s)) more)
+
+  pub told_tried : (next : Option Waiter) → LookedAt code seeds (Shard.Terminators (shard_of k)) (shown_waiter old next) new → KnowsTruth code seeds new → TriedAt code seeds Terms k old new (Ok next)
+  told_tried next looked truth = record {
+    remembers = told_remembers next looked;
+    truth = truth;
+    busy = tt;
+    lost = (λ e. absurd e, λ more. absurd (told_lost next looked At more));
+    only_seat = λ _ e. e;
+    memory = tt;
+    stays = told_stays next looked;
+  }

@@ -1,8 +1,9 @@
 -- What a call of a seat did.
-use Rattle.std.specs.Prelude.{◌≡◌, ℕ, List, Result, Ok, Err, Option}
+use Rattle.std.specs.Prelude.{◌≡◌, ◌↔◌, ◌<◌, ℕ, List, Result, Ok, Err, IfErr, Option}
 use Rattle.std.specs.Prelude.{Some, None, slice_index_or, refl}
 use Rattle.std.specs.FinMap as maps
 use Rattle.std.specs.Coded.{Coded, code_by, coded×}
+use Rattle.turn_slots.specs.Share.{IsWhole}
 use Rattle.cfg_model.specs.Program.Instructions.{InstructionMap}
 use Rattle.cfg_model.specs.declared.state.Waiter.{Waiter}
 use Rattle.cfg_model.specs.Builder.Event.{Event, Steps, new_entry}
@@ -14,11 +15,13 @@ use Rattle.cfg_model.specs.Builder.Codes.{coded_state}
 use Rattle.cfg_model.specs.Builder.State.{BuilderState, empty_state, IsNear, near_at}
 use Rattle.core_state.specs.declared.answer.Arrival.{Arrival}
 use Rattle.core_state.specs.Answer.{arrival_of}
+use Rattle.core_state.specs.Place.{Remembers}
 use Rattle.core_state.specs.declared.answer.ShardKind.{ShardKind}
 use Rattle.core_state.specs.declared.answer.PlaceEnd.{PlaceEnd}
 use Rattle.core_state.specs.declared.answer.PlaceEnd.TheVariants.{Busy, Memory}
 use Rattle.board.specs.Slots.{slot_of, shard_at, shard_for}
-use Rattle.board.specs.Seat.{SeatState, Knows, with_turn, with_lost_try, with_seen, coded_shard}
+use Rattle.board.specs.Seat.{SeatState, Knows, lost_of, with_turn, with_lost_try, with_seen}
+use Rattle.board.specs.Seat.{coded_shard}
 
 -- The seat took the turn of the shard, and gave it back with the second value. There is a kept
 -- state that has the first value as its part in this shard, and in which every fact that the seat
@@ -69,20 +72,15 @@ AnswersMemory (Ok answer) = ⊥
 AnswersMemory (Err (Busy kind number)) = ⊥
 AnswersMemory (Err Memory) = Unit {0}
 
--- The refusal names the shard of the key, and the seat has lost one more try of it: that is all
--- that is new.
-abbrev pub IsBusyAt : ShardKind → ℕ → SeatState → SeatState → PlaceEnd → Type 0
-IsBusyAt kind key old new (Busy k number) =
-    (k ≡ kind) × (number ≡ shard_of key) × (new ≡ with_lost_try old (shard_for kind key))
-IsBusyAt kind key old new Memory = ⊥
-
--- The same of a call that may be refused for want of memory too.
+-- A refusal for a taken turn names the shard of the key, and the seat has lost one more try of it:
+-- that is all that is new.
 abbrev pub WhereBusy : ShardKind → ℕ → SeatState → SeatState → PlaceEnd → Type 0
 WhereBusy kind key old new (Busy k number) =
     (k ≡ kind) × (number ≡ shard_of key) × (new ≡ with_lost_try old (shard_for kind key))
 WhereBusy kind key old new Memory = Unit {0}
 
--- Memory ran out: the seat had the turn of the shard, and gave it back as it was.
+-- After a refusal for want of memory: the seat had the turn of the shard, and gave it back as it
+-- was.
 abbrev pub WhereMemory : InstructionMap → List ℕ → Shard → SeatState → SeatState → PlaceEnd → Type 0
 WhereMemory map seeds shard old new (Busy k number) = Unit {0}
 WhereMemory map seeds shard old new Memory = LookedAt map seeds shard old new
@@ -97,10 +95,34 @@ pub record Stays (old new : SeatState) : Type 0 where
 abbrev pub KnowsTruth : InstructionMap → List ℕ → SeatState → Type 0
 KnowsTruth map seeds seat = (fact : Fact) → Knows map seat fact → IsSoundFact map seeds fact
 
+-- The seat tried the turn of the key's shard, once. This holds whatever came of it.
+pub record TriedAt (map : InstructionMap) (seeds : List ℕ) (kind : ShardKind) (key : ℕ)
+    (old new : SeatState) {T : Type 0} (result : Result T PlaceEnd) : Type 0 where
+  -- Its board, its share and the shards that it holds stay.
+  pub stays : Stays old new
+  -- What it knew it knows, and all that it knows is true.
+  pub remembers : Remembers (Knows map old) (Knows map new)
+  pub truth : KnowsTruth map seeds new
+  -- It is refused for a taken turn exactly if it has lost one more try. The only seat never is.
+  pub busy : IfErr result (WhereBusy kind key old new)
+  pub lost : AnswersBusy result
+      ↔ (lost_of old (shard_for kind key) < lost_of new (shard_for kind key))
+  pub only_seat : IsWhole old.share → ¬ AnswersBusy result
+  -- If it is refused for want of memory, the shard is as it was.
+  pub memory : IfErr result (WhereMemory map seeds (shard_for kind key) old new)
+
 -- The answer of an arrival of s at k, by the near start there before and after.
 abbrev pub IsArrivalAt : ℕ → ℕ → BuilderState → BuilderState → Arrival → Type 0
 IsArrivalAt k s first second arrival = (m : ℕ) → IsNear second.ends k m
     → arrival ≡ arrival_of s (near_at first.ends k) m
+
+-- By the waiter w that is to be told next at the terminator k, the seat knows that it waits there,
+-- that k returns, and that both terminators are entered.
+pub record KnowsWaiter (map : InstructionMap) (seat : SeatState) (k : ℕ) (w : Waiter) : Type 0 where
+  pub waits : Knows map seat (Fact.Waits k w)
+  pub returned : Knows map seat (Fact.Returned k)
+  pub entered : Knows map seat (Fact.Terminator k)
+  pub waiter : Knows map seat (Fact.Terminator w.terminator)
 
 -- A shard that is out with a seat: which one, and its value.
 pub record HeldShard : Type 0 where

@@ -1,15 +1,13 @@
 //! The nine changes, each as what it does to one shard, and how a seat makes one of them. Three of
 //! them stand here twice, with more that they answer.
-ghost use Rattle.std.specs.Prelude.{◌≡◌, ◌↔◌, ◌<◌, ◌∷◌, [], Some, OnOk, OnErr, IfOk, IfErr};
-ghost use Rattle.turn_slots.specs.Share.{IsWhole};
+ghost use Rattle.std.specs.Prelude.{◌≡◌, ◌<◌, ◌∷◌, [], Some, OnOk, OnErr, IfOk};
 ghost use Rattle.cfg_model.specs.Program.Instructions.{IsLawful};
 ghost use Rattle.cfg_model.specs.Builder.Shard.{shard_of_event};
 ghost use Rattle.cfg_model.specs.Builder.Reason.{Reason};
-ghost use Rattle.core_state.specs.Place.{Brings, Remembers};
+ghost use Rattle.core_state.specs.Place.{Brings};
 ghost use Rattle.board.specs.Slots.{shard_for, slot_of};
-ghost use Rattle.board.specs.Seat.{Knows, HoldsShard, lost_of, found, left};
-ghost use Rattle.board.specs.Calls.{MadeEvent, LookedAt, AnswersBusy, AnswersMemory};
-ghost use Rattle.board.specs.Calls.{WhereBusy, WhereMemory, Stays, KnowsTruth};
+ghost use Rattle.board.specs.Seat.{Knows, HoldsShard, found, left};
+ghost use Rattle.board.specs.Calls.{MadeEvent, TriedAt, AnswersMemory};
 ghost use Rattle.board.specs.Inner.Inside.{IsReady, Goes, answer_of};
 ghost use Rattle.board.specs.Pieces.{part_in};
 ghost use Rattle.board.specs.Plays.{changed};
@@ -67,16 +65,8 @@ pub(crate) fn make<J: Job, A, C: Change<J, A>>(
     ensures event { OnOk result (MadeEvent J.map J.seeds (C.event change.now) seat.old seat.new) }
     ensures answer { IfOk result (C.gives change.now (found seat.new) (left seat.new)) }
     ensures brings { OnOk result (Brings (C.event change.now) (Knows J.map seat.new)) }
-    ensures remembers { Remembers (Knows J.map seat.old) (Knows J.map seat.new) }
-    ensures truth { KnowsTruth J.map J.seeds seat.new }
-    ensures busy { IfErr result (WhereBusy kind key seat.old seat.new) }
-    ensures lost { AnswersBusy result
-        ↔ (lost_of seat.old (shard_for kind key) < lost_of seat.new (shard_for kind key)) }
-    ensures memory { IfErr result
-        (WhereMemory J.map J.seeds (shard_for kind key) seat.old seat.new) }
+    ensures tried { TriedAt J.map J.seeds kind key seat.old seat.new result }
     ensures spends { AnswersMemory result → C.spends }
-    ensures stays { Stays seat.old seat.new }
-    ensures only_seat { IsWhole seat.old.share → ¬ AnswersBusy result }
 {
     let number = shard(key);
     let slot = slot_at(kind, number);

@@ -1,19 +1,17 @@
 //! The nine changes of a builder's state, as a seat makes them on the board, and three of them in
 //! another call that answers more.
-ghost use Rattle.std.specs.Prelude.{◌≡◌, ◌↔◌, ◌<◌, IsTrue, IsFalse, OnOk, IfOk, IfErr, IfSome};
-ghost use Rattle.turn_slots.specs.Share.{IsWhole};
+ghost use Rattle.std.specs.Prelude.{◌≡◌, ◌↔◌, ◌<◌, IsTrue, IsFalse, OnOk, IfOk, IfSome};
 ghost use Rattle.cfg_model.specs.Builder.Event.{Event};
 ghost use Rattle.cfg_model.specs.Builder.Fact.{Fact};
 ghost use Rattle.cfg_model.specs.Builder.Reason.{Reason};
 ghost use Rattle.cfg_model.specs.Builder.Shard.{Shard, shard_of};
 ghost use Rattle.cfg_model.specs.Builder.State.{IsStart, IsEntered, WaitsAt, IsReturned};
 ghost use Rattle.core_state.specs.Line.{IsNextInLine};
-ghost use Rattle.core_state.specs.Place.{Brings, Remembers, near_after};
+ghost use Rattle.core_state.specs.Place.{Brings, near_after};
 ghost use Rattle.core_state.specs.Reads.{HasNextToTell};
 ghost use Rattle.core_state.specs.declared.answer.ShardKind.TheVariants as ShardKind;
-ghost use Rattle.board.specs.Seat.{Knows, HoldsShard, lost_of, found, left};
-ghost use Rattle.board.specs.Calls.{MadeEvent, AnswersBusy, IsBusyAt, WhereBusy};
-ghost use Rattle.board.specs.Calls.{WhereMemory, Stays, KnowsTruth, IsArrivalAt};
+ghost use Rattle.board.specs.Seat.{Knows, HoldsShard, found, left};
+ghost use Rattle.board.specs.Calls.{MadeEvent, TriedAt, AnswersMemory, IsArrivalAt};
 
 use crate::change::{
     Arrive, EdgesDone, MarkTold, Parsed, PlaceWaiter, Returned, Settle, Term, Told, Wait, Want,
@@ -25,13 +23,10 @@ use cfg_model::{Chains, Waiter};
 use core_state::{Along, Arrival, Job, PlaceEnd, ShardKind, Walk};
 use std::marker::PhantomData;
 
-// Each change has the same clauses. `event`: after `Ok` the seat has made the event in one turn of
-// its shard, and the state allowed it. `answer`: by the value that the seat found there, and left.
-// `brings`: the seat knows what the event brings. `remembers`, `truth`: what it knew it knows, and
-// all of it is true. `busy`, `lost`: a refusal because the turn was taken names the shard, comes
-// exactly if one more try was lost, and changes nothing else. `memory`: after a refusal for want of
-// memory the shard is as it was. `stays`: board, share and held shards stay. `only_seat`: the only
-// seat is never refused so.
+// What each change says: `event`, after `Ok` the seat has made the event in one turn of its shard,
+// and the state allowed it. `answer`: by the value that the seat found there, and left. `brings`:
+// the seat knows what the event brings. `tried`: what holds whatever came of it. `only_busy`: the
+// change wants no memory.
 
 impl<J: Job> Seat<J> {
     /// Makes `s` a wanted start, if it is none. Answers whether it is new.
@@ -43,16 +38,7 @@ impl<J: Job> Seat<J> {
         ensures answer { IfOk result (λ new. IsTrue new ↔ ¬ IsStart (found self.new).starts s) }
         ensures brings { OnOk result (Brings (Event.Want s) (Knows J.map self.new)) }
         ensures read_back { IfOk result (λ new. Knows J.map self.old (Fact.Start s) → IsFalse new) }
-        ensures remembers { Remembers (Knows J.map self.old) (Knows J.map self.new) }
-        ensures truth { KnowsTruth J.map J.seeds self.new }
-        ensures busy { IfErr result (WhereBusy ShardKind.Starts s self.old self.new) }
-        ensures memory { IfErr result
-            (WhereMemory J.map J.seeds (Shard.Starts (shard_of s)) self.old self.new) }
-        ensures lost { AnswersBusy result
-            ↔ (lost_of self.old (Shard.Starts (shard_of s)) < lost_of self.new
-            (Shard.Starts (shard_of s))) }
-        ensures stays { Stays self.old self.new }
-        ensures only_seat { IsWhole self.old.share → ¬ AnswersBusy result }
+        ensures tried { TriedAt J.map J.seeds ShardKind.Starts s self.old self.new result }
     {
         make(self, board, ShardKind::Starts, s, &Want { s })
     }
@@ -76,16 +62,7 @@ impl<J: Job> Seat<J> {
             (λ a. IfSome a.1 (λ t. Knows J.map self.new (Fact.Start t))) }
         ensures read_back { IfOk result
             (λ a. Knows J.map self.old (Fact.Start s) → IsFalse a.0) }
-        ensures remembers { Remembers (Knows J.map self.old) (Knows J.map self.new) }
-        ensures truth { KnowsTruth J.map J.seeds self.new }
-        ensures busy { IfErr result (WhereBusy ShardKind.Starts s self.old self.new) }
-        ensures memory { IfErr result
-            (WhereMemory J.map J.seeds (Shard.Starts (shard_of s)) self.old self.new) }
-        ensures lost { AnswersBusy result
-            ↔ (lost_of self.old (Shard.Starts (shard_of s)) < lost_of self.new
-            (Shard.Starts (shard_of s))) }
-        ensures stays { Stays self.old self.new }
-        ensures only_seat { IsWhole self.old.share → ¬ AnswersBusy result }
+        ensures tried { TriedAt J.map J.seeds ShardKind.Starts s self.old self.new result }
     {
         make(self, board, ShardKind::Starts, s, &WantInLine { s })
     }
@@ -97,14 +74,8 @@ impl<J: Job> Seat<J> {
         requires reason { Reason J.map J.seeds (Knows J.map self.old) (Event.Parsed s) }
         ensures event { OnOk result (MadeEvent J.map J.seeds (Event.Parsed s) self.old self.new) }
         ensures brings { OnOk result (Brings (Event.Parsed s) (Knows J.map self.new)) }
-        ensures remembers { Remembers (Knows J.map self.old) (Knows J.map self.new) }
-        ensures truth { KnowsTruth J.map J.seeds self.new }
-        ensures busy { IfErr result (IsBusyAt ShardKind.Starts s self.old self.new) }
-        ensures lost { AnswersBusy result
-            ↔ (lost_of self.old (Shard.Starts (shard_of s)) < lost_of self.new
-            (Shard.Starts (shard_of s))) }
-        ensures stays { Stays self.old self.new }
-        ensures only_seat { IsWhole self.old.share → ¬ AnswersBusy result }
+        ensures tried { TriedAt J.map J.seeds ShardKind.Starts s self.old self.new result }
+        ensures only_busy { ¬ AnswersMemory result }
     {
         make(self, board, ShardKind::Starts, s, &Parsed { s })
     }
@@ -128,16 +99,7 @@ impl<J: Job> Seat<J> {
         ensures brings { OnOk result (Brings (Event.Arrive k s) (Knows J.map self.new)) }
         ensures near { IfOk result
             (λ arrival. Knows J.map self.new (Fact.Anchored (near_after s arrival) k)) }
-        ensures remembers { Remembers (Knows J.map self.old) (Knows J.map self.new) }
-        ensures truth { KnowsTruth J.map J.seeds self.new }
-        ensures busy { IfErr result (WhereBusy ShardKind.Ends k self.old self.new) }
-        ensures memory { IfErr result
-            (WhereMemory J.map J.seeds (Shard.Ends (shard_of k)) self.old self.new) }
-        ensures lost { AnswersBusy result
-            ↔ (lost_of self.old (Shard.Ends (shard_of k)) < lost_of self.new
-            (Shard.Ends (shard_of k))) }
-        ensures stays { Stays self.old self.new }
-        ensures only_seat { IsWhole self.old.share → ¬ AnswersBusy result }
+        ensures tried { TriedAt J.map J.seeds ShardKind.Ends k self.old self.new result }
     {
         self.arrive_along(board, &Along(code), k, s)
     }
@@ -159,16 +121,7 @@ impl<J: Job> Seat<J> {
         ensures brings { OnOk result (Brings (Event.Arrive k s) (Knows J.map self.new)) }
         ensures near { IfOk result
             (λ arrival. Knows J.map self.new (Fact.Anchored (near_after s arrival) k)) }
-        ensures remembers { Remembers (Knows J.map self.old) (Knows J.map self.new) }
-        ensures truth { KnowsTruth J.map J.seeds self.new }
-        ensures busy { IfErr result (WhereBusy ShardKind.Ends k self.old self.new) }
-        ensures memory { IfErr result
-            (WhereMemory J.map J.seeds (Shard.Ends (shard_of k)) self.old self.new) }
-        ensures lost { AnswersBusy result
-            ↔ (lost_of self.old (Shard.Ends (shard_of k)) < lost_of self.new
-            (Shard.Ends (shard_of k))) }
-        ensures stays { Stays self.old self.new }
-        ensures only_seat { IsWhole self.old.share → ¬ AnswersBusy result }
+        ensures tried { TriedAt J.map J.seeds ShardKind.Ends k self.old self.new result }
     {
         let change = Arrive {
             walk,
@@ -185,14 +138,8 @@ impl<J: Job> Seat<J> {
         requires free { ¬ HoldsShard self.old (Shard.Ends (shard_of k)) }
         requires reason { Reason J.map J.seeds (Knows J.map self.old) (Event.Settle k x) }
         ensures event { OnOk result (MadeEvent J.map J.seeds (Event.Settle k x) self.old self.new) }
-        ensures remembers { Remembers (Knows J.map self.old) (Knows J.map self.new) }
-        ensures truth { KnowsTruth J.map J.seeds self.new }
-        ensures busy { IfErr result (IsBusyAt ShardKind.Ends k self.old self.new) }
-        ensures lost { AnswersBusy result
-            ↔ (lost_of self.old (Shard.Ends (shard_of k)) < lost_of self.new
-            (Shard.Ends (shard_of k))) }
-        ensures stays { Stays self.old self.new }
-        ensures only_seat { IsWhole self.old.share → ¬ AnswersBusy result }
+        ensures tried { TriedAt J.map J.seeds ShardKind.Ends k self.old self.new result }
+        ensures only_busy { ¬ AnswersMemory result }
     {
         make(self, board, ShardKind::Ends, k, &Settle { k, x })
     }
@@ -209,15 +156,7 @@ impl<J: Job> Seat<J> {
         ensures brings { OnOk result (Brings (Event.Terminator k) (Knows J.map self.new)) }
         ensures read_back { IfOk result (λ new. Knows J.map self.old (Fact.Terminator k)
             → IsFalse new) }
-        ensures remembers { Remembers (Knows J.map self.old) (Knows J.map self.new) }
-        ensures truth { KnowsTruth J.map J.seeds self.new }
-        ensures busy { IfErr result (WhereBusy ShardKind.Terms k self.old self.new) }
-        ensures memory { IfErr result
-            (WhereMemory J.map J.seeds (Shard.Terminators (shard_of k)) self.old self.new) }
-        ensures lost { AnswersBusy result ↔ (lost_of self.old (Shard.Terminators (shard_of k))
-            < lost_of self.new (Shard.Terminators (shard_of k))) }
-        ensures stays { Stays self.old self.new }
-        ensures only_seat { IsWhole self.old.share → ¬ AnswersBusy result }
+        ensures tried { TriedAt J.map J.seeds ShardKind.Terms k self.old self.new result }
     {
         make(self, board, ShardKind::Terms, k, &Term { k })
     }
@@ -234,15 +173,7 @@ impl<J: Job> Seat<J> {
         ensures brings { OnOk result (Brings (Event.Wait k w) (Knows J.map self.new)) }
         ensures read_back { IfOk result (λ new. Knows J.map self.old (Fact.Waits k w)
             → IsFalse new) }
-        ensures remembers { Remembers (Knows J.map self.old) (Knows J.map self.new) }
-        ensures truth { KnowsTruth J.map J.seeds self.new }
-        ensures busy { IfErr result (WhereBusy ShardKind.Terms k self.old self.new) }
-        ensures memory { IfErr result
-            (WhereMemory J.map J.seeds (Shard.Terminators (shard_of k)) self.old self.new) }
-        ensures lost { AnswersBusy result ↔ (lost_of self.old (Shard.Terminators (shard_of k))
-            < lost_of self.new (Shard.Terminators (shard_of k))) }
-        ensures stays { Stays self.old self.new }
-        ensures only_seat { IsWhole self.old.share → ¬ AnswersBusy result }
+        ensures tried { TriedAt J.map J.seeds ShardKind.Terms k self.old self.new result }
     {
         make(self, board, ShardKind::Terms, k, &Wait { k, w })
     }
@@ -262,15 +193,7 @@ impl<J: Job> Seat<J> {
             (λ due. IsTrue due → Knows J.map self.new (Fact.Returned k)) }
         ensures read_back { IfOk result (λ due. Knows J.map self.old (Fact.Waits k w)
             → IsFalse due) }
-        ensures remembers { Remembers (Knows J.map self.old) (Knows J.map self.new) }
-        ensures truth { KnowsTruth J.map J.seeds self.new }
-        ensures busy { IfErr result (WhereBusy ShardKind.Terms k self.old self.new) }
-        ensures memory { IfErr result
-            (WhereMemory J.map J.seeds (Shard.Terminators (shard_of k)) self.old self.new) }
-        ensures lost { AnswersBusy result ↔ (lost_of self.old (Shard.Terminators (shard_of k))
-            < lost_of self.new (Shard.Terminators (shard_of k))) }
-        ensures stays { Stays self.old self.new }
-        ensures only_seat { IsWhole self.old.share → ¬ AnswersBusy result }
+        ensures tried { TriedAt J.map J.seeds ShardKind.Terms k self.old self.new result }
     {
         make(self, board, ShardKind::Terms, k, &PlaceWaiter { k, w })
     }
@@ -286,13 +209,8 @@ impl<J: Job> Seat<J> {
         ensures brings { OnOk result (Brings (Event.Returned k) (Knows J.map self.new)) }
         ensures read_back { IfOk result (λ new. Knows J.map self.old (Fact.Returned k)
             → IsFalse new) }
-        ensures remembers { Remembers (Knows J.map self.old) (Knows J.map self.new) }
-        ensures truth { KnowsTruth J.map J.seeds self.new }
-        ensures busy { IfErr result (IsBusyAt ShardKind.Terms k self.old self.new) }
-        ensures lost { AnswersBusy result ↔ (lost_of self.old (Shard.Terminators (shard_of k))
-            < lost_of self.new (Shard.Terminators (shard_of k))) }
-        ensures stays { Stays self.old self.new }
-        ensures only_seat { IsWhole self.old.share → ¬ AnswersBusy result }
+        ensures tried { TriedAt J.map J.seeds ShardKind.Terms k self.old self.new result }
+        ensures only_busy { ¬ AnswersMemory result }
     {
         make(self, board, ShardKind::Terms, k, &Returned { k })
     }
@@ -304,13 +222,8 @@ impl<J: Job> Seat<J> {
         requires reason { Reason J.map J.seeds (Knows J.map self.old) (Event.Told k w) }
         ensures event { OnOk result (MadeEvent J.map J.seeds (Event.Told k w) self.old self.new) }
         ensures brings { OnOk result (Brings (Event.Told k w) (Knows J.map self.new)) }
-        ensures remembers { Remembers (Knows J.map self.old) (Knows J.map self.new) }
-        ensures truth { KnowsTruth J.map J.seeds self.new }
-        ensures busy { IfErr result (IsBusyAt ShardKind.Terms k self.old self.new) }
-        ensures lost { AnswersBusy result ↔ (lost_of self.old (Shard.Terminators (shard_of k))
-            < lost_of self.new (Shard.Terminators (shard_of k))) }
-        ensures stays { Stays self.old self.new }
-        ensures only_seat { IsWhole self.old.share → ¬ AnswersBusy result }
+        ensures tried { TriedAt J.map J.seeds ShardKind.Terms k self.old self.new result }
+        ensures only_busy { ¬ AnswersMemory result }
     {
         make(self, board, ShardKind::Terms, k, &Told { k, w })
     }
@@ -326,13 +239,8 @@ impl<J: Job> Seat<J> {
         ensures answer { IfOk result
             (λ more. IsTrue more ↔ HasNextToTell (left self.new).terminators k) }
         ensures brings { OnOk result (Brings (Event.Told k w) (Knows J.map self.new)) }
-        ensures remembers { Remembers (Knows J.map self.old) (Knows J.map self.new) }
-        ensures truth { KnowsTruth J.map J.seeds self.new }
-        ensures busy { IfErr result (IsBusyAt ShardKind.Terms k self.old self.new) }
-        ensures lost { AnswersBusy result ↔ (lost_of self.old (Shard.Terminators (shard_of k))
-            < lost_of self.new (Shard.Terminators (shard_of k))) }
-        ensures stays { Stays self.old self.new }
-        ensures only_seat { IsWhole self.old.share → ¬ AnswersBusy result }
+        ensures tried { TriedAt J.map J.seeds ShardKind.Terms k self.old self.new result }
+        ensures only_busy { ¬ AnswersMemory result }
     {
         make(self, board, ShardKind::Terms, k, &MarkTold { k, w })
     }
@@ -345,13 +253,8 @@ impl<J: Job> Seat<J> {
         ensures event { OnOk result
             (MadeEvent J.map J.seeds (Event.EdgesDone k) self.old self.new) }
         ensures brings { OnOk result (Brings (Event.EdgesDone k) (Knows J.map self.new)) }
-        ensures remembers { Remembers (Knows J.map self.old) (Knows J.map self.new) }
-        ensures truth { KnowsTruth J.map J.seeds self.new }
-        ensures busy { IfErr result (IsBusyAt ShardKind.Terms k self.old self.new) }
-        ensures lost { AnswersBusy result ↔ (lost_of self.old (Shard.Terminators (shard_of k))
-            < lost_of self.new (Shard.Terminators (shard_of k))) }
-        ensures stays { Stays self.old self.new }
-        ensures only_seat { IsWhole self.old.share → ¬ AnswersBusy result }
+        ensures tried { TriedAt J.map J.seeds ShardKind.Terms k self.old self.new result }
+        ensures only_busy { ¬ AnswersMemory result }
     {
         make(self, board, ShardKind::Terms, k, &EdgesDone { k })
     }

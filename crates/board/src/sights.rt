@@ -1,7 +1,6 @@
 //! What a seat reads on the board.
 ghost use Rattle.std.specs.Prelude.{◌≡◌, ◌↔◌, ◌<◌, ◌∷◌, [], IsTrue, OnOk, IfOk};
-ghost use Rattle.std.specs.Prelude.{IfErr, IfSome, OnSome, IfNone, IsSome, Some};
-ghost use Rattle.turn_slots.specs.Share.{IsWhole};
+ghost use Rattle.std.specs.Prelude.{IfSome, OnSome, IfNone, IsSome, Some};
 ghost use Rattle.cfg_model.specs.declared.state.Waiter.{Waiter};
 ghost use Rattle.cfg_model.specs.Builder.Fact.{Fact};
 ghost use Rattle.cfg_model.specs.Builder.Shard.{Shard, shard_of};
@@ -9,12 +8,11 @@ ghost use Rattle.cfg_model.specs.Builder.State.{IsStart, IsMoved, near_at};
 ghost use Rattle.core_state.specs.Least.{IsLeast};
 ghost use Rattle.core_state.specs.Line.{IsNextInLine};
 ghost use Rattle.core_state.specs.Reads.{IsNextToTell};
-ghost use Rattle.core_state.specs.Place.{Remembers};
 ghost use Rattle.core_state.specs.declared.answer.ShardKind.TheVariants as ShardKind;
 ghost use Rattle.board.specs.Slots.{shard_for, shard_in};
-ghost use Rattle.board.specs.Seat.{Knows, HoldsShard, lost_of, found};
-ghost use Rattle.board.specs.Calls.{LookedAt, AnswersBusy, IsBusyAt};
-ghost use Rattle.board.specs.Calls.{Stays, KnowsTruth, shown_waiter};
+ghost use Rattle.board.specs.Seat.{Knows, HoldsShard, found};
+ghost use Rattle.board.specs.Calls.{LookedAt, TriedAt, AnswersMemory};
+ghost use Rattle.board.specs.Calls.{KnowsWaiter, shown_waiter};
 ghost use Rattle.board.specs.Inner.Inside.{IsOut};
 ghost use Rattle.board.specs.Plays.{shown_next};
 ghost use Rattle.board.specs.Pieces.{part_in};
@@ -57,13 +55,8 @@ fn look<J: Job, A, L: Sight<A>>(
     requires free { ¬ HoldsShard seat.old (shard_for kind key) }
     ensures looked { OnOk result (LookedAt J.map J.seeds (shard_for kind key) seat.old seat.new) }
     ensures answer { IfOk result (L.gives sight.now (found seat.new)) }
-    ensures remembers { Remembers (Knows J.map seat.old) (Knows J.map seat.new) }
-    ensures truth { KnowsTruth J.map J.seeds seat.new }
-    ensures busy { IfErr result (IsBusyAt kind key seat.old seat.new) }
-    ensures lost { AnswersBusy result
-        ↔ (lost_of seat.old (shard_for kind key) < lost_of seat.new (shard_for kind key)) }
-    ensures stays { Stays seat.old seat.new }
-    ensures only_seat { IsWhole seat.old.share → ¬ AnswersBusy result }
+    ensures tried { TriedAt J.map J.seeds kind key seat.old seat.new result }
+    ensures only_busy { ¬ AnswersMemory result }
 {
     let number = shard(key);
     let slot = slot_at(kind, number);
@@ -239,9 +232,10 @@ impl Sight<(bool, Option<u64>)> for StartsFrom {
     }
 }
 
-// Each read has the same clauses as a change, but that it makes no event: `looked`, the seat looked
-// at the shard of the key in one turn of it. `brings` and what goes with it say what the seat knows
-// by the answer, and `read_back` what the answer is by what the seat knew. No read wants memory.
+// What each read says: `looked`, after `Ok` the seat has looked at the shard of the key in one turn
+// of it. `answer`: by the value that it found there. Then what the seat knows by the answer, and
+// `read_back`, what the answer is by what the seat knew. `tried`: what holds whatever came of it.
+// `only_busy`: no read wants memory.
 
 impl<J: Job> Seat<J> {
     /// The start of the block that ends at `k`; `None` if no block is known to.
@@ -255,14 +249,8 @@ impl<J: Job> Seat<J> {
         ensures anchored { IfOk result
             (λ near. IfSome near (λ p. Knows J.map self.new (Fact.Anchored p k))) }
         ensures read_back { IfOk result (λ near. Knows J.map self.old (Fact.End k) → IsSome near) }
-        ensures remembers { Remembers (Knows J.map self.old) (Knows J.map self.new) }
-        ensures truth { KnowsTruth J.map J.seeds self.new }
-        ensures busy { IfErr result (IsBusyAt ShardKind.Ends k self.old self.new) }
-        ensures lost { AnswersBusy result
-            ↔ (lost_of self.old (Shard.Ends (shard_of k)) < lost_of self.new
-            (Shard.Ends (shard_of k))) }
-        ensures stays { Stays self.old self.new }
-        ensures only_seat { IsWhole self.old.share → ¬ AnswersBusy result }
+        ensures tried { TriedAt J.map J.seeds ShardKind.Ends k self.old self.new result }
+        ensures only_busy { ¬ AnswersMemory result }
     {
         look(self, board, ShardKind::Ends, k, &Near { k })
     }
@@ -277,14 +265,8 @@ impl<J: Job> Seat<J> {
         ensures end { IfOk result (λ moved. OnSome moved (Knows J.map self.new (Fact.End k))) }
         ensures anchored { IfOk result
             (λ moved. IfSome moved (λ x. Knows J.map self.new (Fact.Anchored x k))) }
-        ensures remembers { Remembers (Knows J.map self.old) (Knows J.map self.new) }
-        ensures truth { KnowsTruth J.map J.seeds self.new }
-        ensures busy { IfErr result (IsBusyAt ShardKind.Ends k self.old self.new) }
-        ensures lost { AnswersBusy result
-            ↔ (lost_of self.old (Shard.Ends (shard_of k)) < lost_of self.new
-            (Shard.Ends (shard_of k))) }
-        ensures stays { Stays self.old self.new }
-        ensures only_seat { IsWhole self.old.share → ¬ AnswersBusy result }
+        ensures tried { TriedAt J.map J.seeds ShardKind.Ends k self.old self.new result }
+        ensures only_busy { ¬ AnswersMemory result }
     {
         look(self, board, ShardKind::Ends, k, &Moved { k })
     }
@@ -299,26 +281,14 @@ impl<J: Job> Seat<J> {
             (λ next. LookedAt J.map J.seeds (Shard.Terminators (shard_of k))
             (shown_waiter self.old next) self.new) }
         ensures answer { IfOk result (λ next. IsNextToTell (found self.new).terminators k next) }
-        ensures waits { IfOk result
-            (λ next. IfSome next (λ w. Knows J.map self.new (Fact.Waits k w))) }
-        ensures returned { IfOk result
-            (λ next. OnSome next (Knows J.map self.new (Fact.Returned k))) }
-        ensures entered { IfOk result
-            (λ next. OnSome next (Knows J.map self.new (Fact.Terminator k))) }
-        ensures waiter { IfOk result
-            (λ next. IfSome next (λ w. Knows J.map self.new (Fact.Terminator w.terminator))) }
+        ensures known { IfOk result (λ next. IfSome next (KnowsWaiter J.map self.new k)) }
         ensures all_told { IfOk result
             (λ next. IfNone next (Knows J.map self.old (Fact.Returned k) → (w : Waiter)
             → Knows J.map self.old (Fact.Waits k w) → Knows J.map self.new (Fact.Told k w))) }
         ensures read_back { IfOk result
             (λ next. IfSome next (λ w. ¬ Knows J.map self.old (Fact.Told k w))) }
-        ensures remembers { Remembers (Knows J.map self.old) (Knows J.map self.new) }
-        ensures truth { KnowsTruth J.map J.seeds self.new }
-        ensures busy { IfErr result (IsBusyAt ShardKind.Terms k self.old self.new) }
-        ensures lost { AnswersBusy result ↔ (lost_of self.old (Shard.Terminators (shard_of k))
-            < lost_of self.new (Shard.Terminators (shard_of k))) }
-        ensures stays { Stays self.old self.new }
-        ensures only_seat { IsWhole self.old.share → ¬ AnswersBusy result }
+        ensures tried { TriedAt J.map J.seeds ShardKind.Terms k self.old self.new result }
+        ensures only_busy { ¬ AnswersMemory result }
     {
         let number = shard(k);
         let slot = slot_at(ShardKind::Terms, number);
@@ -344,14 +314,8 @@ impl<J: Job> Seat<J> {
         ensures behind { IfOk result (λ next. IfSome next (λ t. a < t)) }
         ensures start { IfOk result
             (λ next. IfSome next (λ t. Knows J.map self.new (Fact.Start t))) }
-        ensures remembers { Remembers (Knows J.map self.old) (Knows J.map self.new) }
-        ensures truth { KnowsTruth J.map J.seeds self.new }
-        ensures busy { IfErr result (IsBusyAt ShardKind.Starts a self.old self.new) }
-        ensures lost { AnswersBusy result
-            ↔ (lost_of self.old (Shard.Starts (shard_of a)) < lost_of self.new
-            (Shard.Starts (shard_of a))) }
-        ensures stays { Stays self.old self.new }
-        ensures only_seat { IsWhole self.old.share → ¬ AnswersBusy result }
+        ensures tried { TriedAt J.map J.seeds ShardKind.Starts a self.old self.new result }
+        ensures only_busy { ¬ AnswersMemory result }
     {
         look(self, board, ShardKind::Starts, a, &StartBehind { a })
     }
@@ -372,14 +336,8 @@ impl<J: Job> Seat<J> {
             (λ seen. IfSome seen.1 (λ t. Knows J.map self.new (Fact.Start t))) }
         ensures read_back { IfOk result
             (λ seen. Knows J.map self.old (Fact.Start a) → IsTrue seen.0) }
-        ensures remembers { Remembers (Knows J.map self.old) (Knows J.map self.new) }
-        ensures truth { KnowsTruth J.map J.seeds self.new }
-        ensures busy { IfErr result (IsBusyAt ShardKind.Starts a self.old self.new) }
-        ensures lost { AnswersBusy result
-            ↔ (lost_of self.old (Shard.Starts (shard_of a)) < lost_of self.new
-            (Shard.Starts (shard_of a))) }
-        ensures stays { Stays self.old self.new }
-        ensures only_seat { IsWhole self.old.share → ¬ AnswersBusy result }
+        ensures tried { TriedAt J.map J.seeds ShardKind.Starts a self.old self.new result }
+        ensures only_busy { ¬ AnswersMemory result }
     {
         look(self, board, ShardKind::Starts, a, &StartsFrom { a })
     }
@@ -393,14 +351,8 @@ impl<J: Job> Seat<J> {
         ensures answer { IfOk result (λ has. IsTrue has ↔ IsStart (found self.new).starts s) }
         ensures brings { IfOk result (λ has. IsTrue has → Knows J.map self.new (Fact.Start s)) }
         ensures read_back { IfOk result (λ has. Knows J.map self.old (Fact.Start s) → IsTrue has) }
-        ensures remembers { Remembers (Knows J.map self.old) (Knows J.map self.new) }
-        ensures truth { KnowsTruth J.map J.seeds self.new }
-        ensures busy { IfErr result (IsBusyAt ShardKind.Starts s self.old self.new) }
-        ensures lost { AnswersBusy result
-            ↔ (lost_of self.old (Shard.Starts (shard_of s)) < lost_of self.new
-            (Shard.Starts (shard_of s))) }
-        ensures stays { Stays self.old self.new }
-        ensures only_seat { IsWhole self.old.share → ¬ AnswersBusy result }
+        ensures tried { TriedAt J.map J.seeds ShardKind.Starts s self.old self.new result }
+        ensures only_busy { ¬ AnswersMemory result }
     {
         look(self, board, ShardKind::Starts, s, &HasStart { s })
     }

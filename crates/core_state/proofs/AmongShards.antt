@@ -1,18 +1,18 @@
 -- Work that is left in the shards of a map, and by the names of work.
-use Rattle.std.proofs.Common.{◌≡◌, ℕ, ◌<◌, refl, List, get_or, subst, sym, ap, ◌∙◌}
+use Rattle.std.proofs.Common.{◌≡◌, ℕ, refl, List, get_or, subst, sym, ap, ◌∙◌}
 use Rattle.std.specs.Prelude.{Option, Some, None, IfSome, IfNone}
 use Rattle.std.specs.Ordering.{nat_cmp}
 use Rattle.std.specs.FinMap as maps
 use Rattle.cfg_model.specs.Builder.Shard.{shard_of}
 use Rattle.cfg_model.specs.Builder.Left.{Work}
 use Rattle.address_map.specs.Found.{IsFoundAmong, IsFoundInPart}
-use Rattle.address_map.proofs.AmongParts.{from_part, to_part}
+use Rattle.address_map.proofs.AmongParts.{from_part}
 use Rattle.core_state.specs.declared.answer.Name.{Name}
 use Rattle.core_state.specs.declared.answer.WorkKind.TheVariants as kinds
 use Rattle.core_state.specs.Joined.{AreShards, joined}
 use Rattle.core_state.specs.Work.{work_of}
 use Rattle.core_state.specs.inner.Remaining.{by_name}
-use Rattle.core_state.proofs.Shards.{shard_below, read_joined}
+use Rattle.core_state.proofs.Shards.{read_joined}
 
 -- the shards of a map, and the map that they are together
 module _ {X : Type 0} (At : ℕ → X → Work → Type 0) (shards : List (maps.FinMap nat_cmp X)) (are : AreShards shards) (m : maps.FinMap nat_cmp X) (seen : joined shards ≡ m) where
@@ -21,17 +21,6 @@ module _ {X : Type 0} (At : ℕ → X → Work → Type 0) (shards : List (maps.
 
   pub among_joined : (work : Work) → IsFoundInPart At shards work → IsFoundAmong At m work
   among_joined = from_part At shards m shard_of read_shard are.own
-
-  pub in_shards : (work : Work) → IsFoundAmong At m work → IsFoundInPart At shards work
-  in_shards = to_part At shards m shard_of read_shard (λ q has. subst (λ n. shard_of q < n) (sym are.count) (shard_below q))
-
-  pub some_joined : {T : Type 0} (o : Option T) (work_by : T → Work) (items : List (maps.FinMap nat_cmp X)) → items ≡ shards → IfSome o (λ x. IsFoundInPart At items (work_by x)) → IfSome o (λ x. IsFoundAmong At m (work_by x))
-  some_joined None work_by items same left = tt
-  some_joined (Some x) work_by items same left = among_joined (work_by x) (subst (λ (ms : List (maps.FinMap nat_cmp X)). IsFoundInPart At ms (work_by x)) same left)
-
-  pub none_joined : {T : Type 0} (o : Option T) (items : List (maps.FinMap nat_cmp X)) → items ≡ shards → IfNone o ((work : Work) → ¬ IsFoundInPart At items work) → IfNone o ((work : Work) → ¬ IsFoundAmong At m work)
-  none_joined None items same none = λ work left. none work (subst (λ (ms : List (maps.FinMap nat_cmp X)). IsFoundInPart At ms work) (sym same) (in_shards work left))
-  none_joined (Some x) items same none = tt
 
 -- each work has a name
 abbrev name_of : Work → Name

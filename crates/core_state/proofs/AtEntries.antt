@@ -4,19 +4,14 @@ use Rattle.std.specs.Prelude.{Option, Some, None, IsTrue, is_some}
 use Rattle.std.specs.FinMap as maps
 use Rattle.std.specs.FinSet as sets
 use Rattle.cfg_model.specs.declared.state.Mark.{Mark}
-use Rattle.cfg_model.specs.declared.state.Mark.TheVariants as marks
 use Rattle.cfg_model.specs.declared.state.Waiter.{Waiter}
 use Rattle.cfg_model.specs.Builder.State.{StartMap, EndEntry, TerminatorEntry}
 use Rattle.cfg_model.specs.Builder.Left.{Work}
 use Rattle.core_state.specs.Least.{IsLeast}
-use Rattle.core_state.specs.inner.Remaining.{LeftAtStart, LeftAtEnd, LeftAtTerminator}
+use Rattle.core_state.specs.inner.Remaining.{LeftAtEnd, LeftAtTerminator}
 
 false_is : false ≡ true → ⊥
 false_is e = cc
-
--- a start that is not wanted
-pub start_free : (s : ℕ) (mark : Mark) → (mark ≡ marks.Wanted → ⊥) → (work : Work) → ¬ LeftAtStart s mark work
-start_free s mark not_wanted work (LeftAtStart.unparsed is) = not_wanted is
 
 module _ (starts : StartMap) (k : ℕ) (entry : EndEntry) where
   -- an end with a displaced start

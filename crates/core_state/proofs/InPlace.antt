@@ -86,13 +86,6 @@ module _ (e f : Waiter × Bool) (m : WaiterMap) (seen : over (e ∷ f ∷ []) ma
 
 -- the pair of a waiter is told
 module _ (w : Waiter) where
-  same_key : (e : Waiter × Bool) → (told_if w e).0 ≡ e.0
-  same_key e = by (eq_by_cmp waiter_cmp w e.0)
-    where
-      by : (b : Bool) → (cond b (e.0, true) e).0 ≡ e.0
-      by true = refl
-      by false = refl
-
   told_is : (e : Waiter × Bool) → eq_by_cmp waiter_cmp w e.0 ≡ true → told_if w e ≡ (w, true)
   told_is e is = ap (λ b. cond b (e.0, true) e) is ∙ ap (λ (v : Waiter). (v, true)) (sym (exact_waiters w e.0 (is_equal (waiter_cmp w e.0) is)))
 
@@ -141,17 +134,6 @@ module _ (w : Waiter) where
           by false false other also =
               ap (λ g. over (g ∷ told_if w f ∷ []) maps.empty) (stays e other) ∙ ap (λ g. over (e ∷ g ∷ []) maps.empty) (stays f also)
               ∙ unchanged (e ∷ f ∷ []) seen (none_at e _ other (none_at f None also refl))
-
-      pub told_apart : AreApart waiter_cmp (told_if w e ∷ told_if w f ∷ [])
-      told_apart = (
-        ap (λ v. find waiter_cmp v (told_if w f ∷ [])) (same_key e) ∙ alone (eq_by_cmp waiter_cmp e.0 f.0) refl apart.0,
-        (refl, tt),
-      )
-        where
-          alone : (b : Bool) → eq_by_cmp waiter_cmp e.0 f.0 ≡ b → cond b (Some f.1) None ≡ None → find waiter_cmp e.0 (told_if w f ∷ []) ≡ None
-          alone true is none = cc none
-          alone false other none =
-              ap (λ v. cond (eq_by_cmp waiter_cmp e.0 v) (Some (told_if w f).1) None) (same_key f) ∙ ap (λ b. cond b (Some (told_if w f).1) None) other
 
 -- the least untold one of two
 pub least_of_two : (e f : Waiter × Bool) → AreApart waiter_cmp (e ∷ f ∷ []) → (a b : Option Waiter)

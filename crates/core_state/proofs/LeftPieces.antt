@@ -1,6 +1,6 @@
 -- The work that is left in a state, by what is left at its entries.
 use Rattle.std.proofs.Common.{◌≡◌, ℕ, List, true, false, refl, subst, sym, ap, ◌∙◌}
-use Rattle.std.specs.Prelude.{Contains, Option, Some, None, IsSome, IsTrue, is_some, IfNone}
+use Rattle.std.specs.Prelude.{Contains, Option, Some, None, IsSome, IsTrue, is_some}
 use Rattle.std.specs.Option.{option_map, option_map_or}
 use mathlib.Core.Logic.{inl, inr}
 use Rattle.std.specs.FinMap as maps
@@ -79,9 +79,3 @@ module _ (seeds : List ℕ) (state : BuilderState) where
   nothing_left known starts ends terminators work (IsLeft.displaced {k = k} x moved) = moved_left k x (maps.get state.ends k) refl moved ends
   nothing_left known starts ends terminators work (IsLeft.undone {k = k} entered apart) = undone_left k (maps.get state.terminators k) refl entered apart terminators
   nothing_left known starts ends terminators work (IsLeft.untold {k = k} w returned untold) = untold_left k w (maps.get state.terminators k) refl returned untold terminators
-
-  pub nothing_after : {T : Type 0} (o : Option T) → ((s : ℕ) → Contains seeds s → IsStart state.starts s)
-      → ((work : Work) → ¬ IsFoundAmong LeftAtStart state.starts work) → ((work : Work) → ¬ IsFoundAmong (LeftAtEnd state.starts) state.ends work) → IfNone o ((work : Work) → ¬ IsFoundAmong LeftAtTerminator state.terminators work)
-      → IfNone o (HasNothingLeft seeds state)
-  nothing_after None known starts ends terminators = nothing_left known starts ends terminators
-  nothing_after (Some x) known starts ends terminators = tt

@@ -15,7 +15,7 @@ pub mod WaiterChanges
 pub mod TermChanges
 pub mod DerivedOrder
 pub mod StatePlace
-pub mod Counting
+pub mod OneShard
 pub mod SharesLooked
 pub mod AtEntries
 pub mod AmongShards

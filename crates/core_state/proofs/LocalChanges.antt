@@ -33,6 +33,9 @@ module _ {X : Type 0} (m : maps.FinMap nat_cmp X) (k : ℕ) where
   map_alters change None = refl
   map_alters change (Some y) = refl
 
+pub put_local : {X : Type 0} (k : ℕ) (x : X) → IsLocal (λ (m : maps.FinMap nat_cmp X). maps.insert m k x) k
+put_local k x = record { pick = λ _. Some x; is = λ m. refl }
+
 pub want_local : (s : ℕ) → IsLocal (λ (m : StartMap). with_start m s) s
 want_local s = record { pick = if_new marks.Wanted; is = λ m. new_alters m s marks.Wanted (maps.get m s) }
 

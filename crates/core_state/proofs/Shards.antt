@@ -38,12 +38,6 @@ module _ {X : Type 0} (ms : List (maps.FinMap nat_cmp X)) (are : AreShards ms) (
   pub new_there : (new : maps.FinMap nat_cmp X) → AreShards (set ms i new) → maps.get (joined (set ms i new)) k ≡ maps.get new k
   new_there new still = parts.new_there shard_of ms are.own k i place inside old here new still.own
 
-  pub insert_whole : (new : maps.FinMap nat_cmp X) (x : X) → new ≡ maps.insert old k x → (whole : maps.FinMap nat_cmp X) → joined ms ≡ whole → joined (set ms i new) ≡ maps.insert whole k x
-  insert_whole = parts.insert_whole shard_of ms are.own k i place inside old here
-
-  pub still_inserted : (new : maps.FinMap nat_cmp X) (x : X) → new ≡ maps.insert old k x → AreShards (set ms i new)
-  still_inserted new x is = with_count new (parts.still_inserted shard_of ms are.own k i place inside old here new x is)
-
   module _ (change : maps.FinMap nat_cmp X → maps.FinMap nat_cmp X) (local : IsLocal change k) (new : maps.FinMap nat_cmp X) (is : new ≡ change old) where
     pub still_after : AreShards (set ms i new)
     still_after = with_count new (parts.still_after shard_of ms are.own k i place inside old here change local new is)

@@ -49,9 +49,6 @@ module _ (shares share : ℕ) (state : BuilderState) where
   abbrev pub ArePassed : ℕ → Type 0
   ArePassed n = (i : ℕ) → i < n → i % shares ≡ share → HasNothingAt (λ a. shard_of a ≡ i) state
 
-  pub none_passed : ArePassed 0
-  none_passed i below own = absurd (omega (arith, below))
-
   pub passed_own : (n : ℕ) → ArePassed n → HasNothingAt (λ a. shard_of a ≡ n) state → ArePassed (n + 1)
   passed_own n passed none = below_more (λ i. i % shares ≡ share → HasNothingAt (λ a. shard_of a ≡ i) state) n passed (λ own. none)
 
@@ -85,3 +82,13 @@ module _ (shares : ℕ) (some : 0 < shares) (seeds : List ℕ) (state : BuilderS
   nothing_in_all none =
       nothing_left seeds state (λ s there. (at none s).seeds_start s there refl) (λ work left. (at none left.key).entries.starts work left refl)
       (λ work left. (at none left.key).entries.ends work left refl) (λ work left. (at none left.key).entries.terminators work left refl)
+
+-- the one share of one has all addresses
+rem_one : (n : ℕ) → n % 1 ≡ 0
+rem_one n = omega arith
+
+pub nothing_in_one : (seeds : List ℕ) (state : BuilderState) → HasNothingIn 1 0 seeds state → HasNothingLeft seeds state
+nothing_in_one seeds state none =
+    nothing_left seeds state (λ s there. none.seeds_start s there (rem_one (shard_of s)))
+    (λ work left. none.entries.starts work left (rem_one (shard_of left.key))) (λ work left. none.entries.ends work left (rem_one (shard_of left.key)))
+    (λ work left. none.entries.terminators work left (rem_one (shard_of left.key)))

@@ -35,12 +35,6 @@ all_known Known (fact ∷ facts) each = (each fact (head_in fact facts), all_kno
     later other (k, below, is) = (suc k, omega arith, is)
 
 module _ (map : InstructionMap) (seeds : List ℕ) where
-  pub kept_still : (old new : BuilderState) → AreKept map seeds (Some old) → new ≡ old → AreKept map seeds (Some new)
-  kept_still old new kept same state e = kept state (ap Some (sym same) ∙ e)
-
-  pub known_still : (old new : BuilderState) → new ≡ old → Remembers (Holds map old) (Holds map new)
-  known_still old new same fact h = subst (λ (s : BuilderState). Holds map s fact) (sym same) h
-
   module _ (event : Event) (old new : BuilderState) (kept : AreKept map seeds (Some old)) (reason : Reason map seeds (Holds map old) event) (step : Steps map old event new) where
     allowed : May map seeds old event
     allowed = reasons_suffice map seeds old event (kept old refl).blocks reason
@@ -61,10 +55,6 @@ module _ (map : InstructionMap) (seeds : List ℕ) where
   -- who stands at an end is anchored there
   stands_anchored : (state : BuilderState) → AreKept map seeds (Some state) → (k x : ℕ) → IsNear state.ends k x ⊎ IsMoved state.ends k x → HasEnd state.ends k × IsAnchored map state.ends x k
   stands_anchored state kept k x stands = standing_is_known map seeds state k x (kept state refl).blocks stands
-
-  pub near_end : (state : BuilderState) → AreKept map seeds (Some state) → (k : ℕ) (o : Option ℕ) → o ≡ near_at state.ends k → OnSome o (HasEnd state.ends k)
-  near_end state kept k None e = tt
-  near_end state kept k (Some p) e = (stands_anchored state kept k p (inl (sym e))).0
 
   pub near_anchored : (state : BuilderState) → AreKept map seeds (Some state) → (k : ℕ) (o : Option ℕ) → o ≡ near_at state.ends k → IfSome o (λ p. IsAnchored map state.ends p k)
   near_anchored state kept k None e = tt
@@ -109,18 +99,6 @@ module _ (map : InstructionMap) (seeds : List ℕ) where
       ])
 
   -- a waiter that is to be told
-  pub next_waits : (state : BuilderState) (k : ℕ) (o : Option Waiter) → IsNextToTell state.terminators k o → IfSome o (λ w. Holds map state (Fact.Waits k w))
-  next_waits state k None next = tt
-  next_waits state k (Some w) next = ap is_some next.0.1
-
-  pub next_returned : (state : BuilderState) (k : ℕ) (o : Option Waiter) → IsNextToTell state.terminators k o → OnSome o (Holds map state (Fact.Returned k))
-  next_returned state k None next = tt
-  next_returned state k (Some w) next = next.0.0
-
-  pub next_entered : (state : BuilderState) → AreKept map seeds (Some state) → (k : ℕ) (o : Option Waiter) → IsNextToTell state.terminators k o → OnSome o (Holds map state (Fact.Terminator k))
-  next_entered state kept k None next = tt
-  next_entered state kept k (Some w) next = ((kept state refl).waits k w (ap is_some next.0.1)).entered
-
   pub next_waiter : (state : BuilderState) → AreKept map seeds (Some state) → (k : ℕ) (o : Option Waiter) → IsNextToTell state.terminators k o → IfSome o (λ w. Holds map state (Fact.Terminator w.terminator))
   next_waiter state kept k None next = tt
   next_waiter state kept k (Some w) next = ((kept state refl).waits k w (ap is_some next.0.1)).waiter

@@ -15,8 +15,8 @@ ghost use Rattle.core_state.specs.inner.Remaining.{LeftAtEnd};
 use crate::Memory;
 use crate::along::{Walk, meet_along};
 use crate::answer::{Arrival, Name, WorkKind};
-use crate::maps::Maps;
 use crate::split_end::SplitEnd;
+use crate::state::State;
 use std::alloc::Global;
 use std::marker::Model;
 use std::mem::size_of;
@@ -137,11 +137,11 @@ impl End {
 
     /// Work that is left at this end, which is at `k`: to place a displaced start, or to make the
     /// near one a start.
-    pub(crate) fn left(&self, k: u64, shards: &Maps) -> Option<Name>
+    pub(crate) fn left(&self, k: u64, state: &State) -> Option<Name>
         ensures some { IfSome result
-            (λ name. LeftAtEnd shards.now.starts k self.now (work_of name)) }
+            (λ name. LeftAtEnd state.now.maps.starts k self.now (work_of name)) }
         ensures none { IfNone result
-            ((work : Work) → ¬ LeftAtEnd shards.now.starts k self.now work) }
+            ((work : Work) → ¬ LeftAtEnd state.now.maps.starts k self.now work) }
     {
         if self.least_moved().is_some() {
             return Some(Name {
@@ -150,7 +150,7 @@ impl End {
             });
         }
         let near = self.near();
-        match shards.start(near) {
+        match state.start(near) {
             Some(_) => None,
             None => Some(Name {
                 kind: WorkKind::Want,

@@ -17,7 +17,7 @@ use crate::Memory;
 use crate::along::{Along, Walk};
 use crate::answer::{Arrival, Name};
 use crate::end::End;
-use crate::maps::Maps;
+use crate::state::State;
 use crate::walk::Keys;
 use address_map::{AddressMap, Look};
 use cfg_model::Chains;
@@ -110,13 +110,13 @@ impl Ends {
     }
 
     /// Work that is left at an end. It goes over the shard once.
-    pub(crate) fn left(&self, shards: &Maps) -> Option<Name>
+    pub(crate) fn left(&self, state: &State) -> Option<Name>
         ensures some { IfSome result
-            (λ name. IsFoundAmong (LeftAtEnd shards.now.starts) self.now (work_of name)) }
+            (λ name. IsFoundAmong (LeftAtEnd state.now.maps.starts) self.now (work_of name)) }
         ensures none { IfNone result
-            ((work : Work) → ¬ IsFoundAmong (LeftAtEnd shards.now.starts) self.now work) }
+            ((work : Work) → ¬ IsFoundAmong (LeftAtEnd state.now.maps.starts) self.now work) }
     {
-        self.ends.find_by(&LookAtEnd(shards))
+        self.ends.find_by(&LookAtEnd(state))
     }
 }
 
@@ -128,14 +128,14 @@ impl Keys for Ends {
     }
 }
 
-/// The look at an end, with the starts of these maps.
+/// The look at an end, with the starts of this state.
 #[derive(Clone, Copy)]
-struct LookAtEnd<'a>(&'a Maps);
+struct LookAtEnd<'a>(&'a State);
 
 impl Look<End, Name> for LookAtEnd<'_> {
     ghost use Rattle.core_state.specs.inner.Remaining.{by_name, LeftAtEnd};
 
-    ghost finds = { λ look. by_name (LeftAtEnd look.0.now.starts) };
+    ghost finds = { λ look. by_name (LeftAtEnd look.0.now.maps.starts) };
 
     fn look_at(&self, k: u64, end: &End) -> Option<Name> {
         end.left(k, self.0)

@@ -20,8 +20,6 @@ mod end;
 pub mod ends;
 pub mod laws;
 mod left;
-mod left_sharing;
-mod maps;
 pub mod place;
 mod row;
 mod several;

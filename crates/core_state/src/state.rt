@@ -1,6 +1,7 @@
 //! The state of a builder: its maps, and the number of changes that were made of them.
 
-ghost use Rattle.std.specs.Prelude.{◌≡◌, ◌↔◌, ℕ, IsTrue, OnOk, OnErr, IfOk, IfSome, IfNone};
+ghost use Rattle.std.specs.Prelude.{◌≡◌, ◌↔◌, ◌<◌, ℕ, All, length, IsTrue};
+ghost use Rattle.std.specs.Prelude.{OnOk, OnErr, IfOk, IfSome, IfNone};
 ghost use Rattle.std.specs.FinMap as maps;
 ghost use Rattle.cfg_model.specs.Program.Chain.{OnChain};
 ghost use Rattle.cfg_model.specs.Builder.State.{empty_state, IsStart, HasEnd, IsNear, IsMoved};
@@ -14,21 +15,25 @@ ghost use Rattle.core_state.specs.Least.{IsLeast, IsAbove};
 ghost use Rattle.core_state.specs.Line.{IsNextInLine};
 ghost use Rattle.core_state.specs.Reads.{done_at, returned_at, IsNextToTell, HasNextToTell};
 ghost use Rattle.core_state.specs.Work.{work_of};
+ghost use Rattle.core_state.specs.inner.Shares.{HasNothingAt};
 ghost use Rattle.cfg_model.specs.Builder.Left.{IsLeft, HasNothingLeft};
+ghost use Rattle.cfg_model.specs.Builder.Shard.{shard_of};
 
-use crate::Memory;
 use crate::along::{Along, Walk};
 use crate::answer::{Arrival, Name};
 use crate::ends::Ends;
-use crate::left::left_of;
-use crate::left_sharing::left_by;
-use crate::maps::Maps;
+use crate::left::{left_by, left_of};
 use crate::starts::Starts;
 use crate::terms::Terms;
+use crate::walk::key_after;
+use crate::{Memory, shard};
 use cfg_model::{Chains, Mark, Waiter};
 use std::alloc::Global;
 use std::marker::Model;
 use std::thread::Threads;
+
+/// How many shards there are of each kind.
+pub(crate) const SHARDS: usize = 64;
 
 /// The state of a builder: the starts, the ends and the terminators that are known, each kind in 64
 /// shards by address, and how many changes were made.
@@ -37,18 +42,31 @@ use std::thread::Threads;
 /// not. One that is refused for want of memory does not count.
 #[derive(Drop)]
 pub struct State {
-    maps: Maps,
+    starts: Vec<Starts>,
+    ends: Vec<Ends>,
+    terms: Vec<Terms>,
     changes: u64,
 }
 
 impl Model for State {
     ghost use Rattle.core_state.specs.Counted.{CountedState, coded_counted};
+    ghost use Rattle.core_state.specs.Joined.{AreShards, joined};
 
     ghost Value = { CountedState };
 
     ghost coded = { coded_counted };
 
-    ghost view = { λ s. record { maps = s.maps; changes = s.changes } };
+    ghost view = { λ s. record {
+      maps = record {
+        starts = joined s.starts.items;
+        ends = joined s.ends.items;
+        terminators = joined s.terms.items;
+      };
+      changes = s.changes;
+    } };
+
+    ghost invariant = { λ s. AreShards s.starts.items × AreShards s.ends.items
+        × AreShards s.terms.items };
 }
 
 impl State {
@@ -56,10 +74,10 @@ impl State {
     pub fn new(alloc: Global) -> Result<Self, Memory>
         ensures { IfOk result (λ state. state ≡ record { maps = empty_state; changes = 0 }) }
     {
-        Ok(State {
-            maps: Maps::new(alloc)?,
-            changes: 0,
-        })
+        let starts = empty_starts(alloc)?;
+        let ends = empty_ends(alloc)?;
+        let terms = empty_terms(alloc)?;
+        Ok(Self::of_shards(starts, ends, terms))
     }
 
     /// The state that has exactly these shards. Its count of changes is 0.
@@ -76,7 +94,9 @@ impl State {
         ensures changes { result.changes ≡ 0 }
     {
         State {
-            maps: Maps::of_shards(starts, ends, terms),
+            starts,
+            ends,
+            terms,
             changes: 0,
         }
     }
@@ -96,7 +116,7 @@ impl State {
         ensures counted { OnOk result (self.new.changes ≡ one_more self.old.changes) }
         ensures unchanged { OnErr result (self.new ≡ self.old) }
     {
-        let new = self.maps.want(s)?;
+        let new = self.starts[shard(s) as usize].want(s)?;
         self.changes = self.changes.saturating_add(1);
         Ok(new)
     }
@@ -107,7 +127,7 @@ impl State {
         ensures parsed { Leads self.old.maps (Event.Parsed s) self.new.maps }
         ensures counted { self.new.changes ≡ one_more self.old.changes }
     {
-        self.maps.parsed(s);
+        self.starts[shard(s) as usize].parsed(s);
         self.changes = self.changes.saturating_add(1);
     }
 
@@ -139,7 +159,7 @@ impl State {
         ensures counted { OnOk result (self.new.changes ≡ one_more self.old.changes) }
         ensures unchanged { OnErr result (self.new ≡ self.old) }
     {
-        let arrival = self.maps.arrive_along(walk, k, s)?;
+        let arrival = self.ends[shard(k) as usize].arrive_along(walk, k, s)?;
         self.changes = self.changes.saturating_add(1);
         Ok(arrival)
     }
@@ -150,7 +170,7 @@ impl State {
         ensures settled { Leads self.old.maps (Event.Settle k x) self.new.maps }
         ensures counted { self.new.changes ≡ one_more self.old.changes }
     {
-        self.maps.settle(k, x);
+        self.ends[shard(k) as usize].settle(k, x);
         self.changes = self.changes.saturating_add(1);
     }
 
@@ -162,7 +182,7 @@ impl State {
         ensures counted { OnOk result (self.new.changes ≡ one_more self.old.changes) }
         ensures unchanged { OnErr result (self.new ≡ self.old) }
     {
-        let new = self.maps.term(k)?;
+        let new = self.terms[shard(k) as usize].term(k)?;
         self.changes = self.changes.saturating_add(1);
         Ok(new)
     }
@@ -176,7 +196,7 @@ impl State {
         ensures counted { OnOk result (self.new.changes ≡ one_more self.old.changes) }
         ensures unchanged { OnErr result (self.new ≡ self.old) }
     {
-        let new = self.maps.wait(k, w)?;
+        let new = self.terms[shard(k) as usize].wait(k, w)?;
         self.changes = self.changes.saturating_add(1);
         Ok(new)
     }
@@ -192,7 +212,7 @@ impl State {
         ensures counted { OnOk result (self.new.changes ≡ one_more self.old.changes) }
         ensures unchanged { OnErr result (self.new ≡ self.old) }
     {
-        let due = self.maps.place_waiter(k, w)?;
+        let due = self.terms[shard(k) as usize].place_waiter(k, w)?;
         self.changes = self.changes.saturating_add(1);
         Ok(due)
     }
@@ -204,7 +224,7 @@ impl State {
         ensures answer { IsTrue result ↔ ¬ IsReturned self.old.maps.terminators k }
         ensures counted { self.new.changes ≡ one_more self.old.changes }
     {
-        let new = self.maps.returned(k);
+        let new = self.terms[shard(k) as usize].returned(k);
         self.changes = self.changes.saturating_add(1);
         new
     }
@@ -215,7 +235,7 @@ impl State {
         ensures told { Leads self.old.maps (Event.Told k w) self.new.maps }
         ensures counted { self.new.changes ≡ one_more self.old.changes }
     {
-        self.maps.told(k, w);
+        self.terms[shard(k) as usize].told(k, w);
         self.changes = self.changes.saturating_add(1);
     }
 
@@ -227,7 +247,7 @@ impl State {
         ensures answer { IsTrue result ↔ HasNextToTell self.new.maps.terminators k }
         ensures counted { self.new.changes ≡ one_more self.old.changes }
     {
-        let left = self.maps.mark_told(k, w);
+        let left = self.terms[shard(k) as usize].mark_told(k, w);
         self.changes = self.changes.saturating_add(1);
         left
     }
@@ -238,7 +258,7 @@ impl State {
         ensures done { Leads self.old.maps (Event.EdgesDone k) self.new.maps }
         ensures counted { self.new.changes ≡ one_more self.old.changes }
     {
-        self.maps.edges_done(k);
+        self.terms[shard(k) as usize].edges_done(k);
         self.changes = self.changes.saturating_add(1);
     }
 
@@ -246,7 +266,7 @@ impl State {
     pub fn start(&self, s: u64) -> Option<Mark>
         ensures { result ≡ maps.get self.now.maps.starts s }
     {
-        self.maps.start(s)
+        self.starts[shard(s) as usize].start(s)
     }
 
     /// The least start above `a` in the line of 64 bytes that `a` lies in; `None` exactly if there
@@ -254,21 +274,21 @@ impl State {
     pub fn start_behind(&self, a: u64) -> Option<u64>
         ensures { IsNextInLine self.now.maps.starts a result }
     {
-        self.maps.start_behind(a)
+        self.starts[shard(a) as usize].start_behind(a)
     }
 
     /// The start of the block that ends at `k`; `None` exactly if no block is known to.
     pub fn near(&self, k: u64) -> Option<u64>
         ensures { result ≡ near_at self.now.maps.ends k }
     {
-        self.maps.near(k)
+        self.ends[shard(k) as usize].near(k)
     }
 
     /// The least displaced start of the end `k`; `None` exactly if there is none.
     pub fn moved(&self, k: u64) -> Option<u64>
         ensures { IsLeast (IsMoved self.now.maps.ends k) result }
     {
-        self.maps.moved(k)
+        self.ends[shard(k) as usize].moved(k)
     }
 
     /// Whether the ways on of the terminator `k` are dealt with; `None` exactly if `k` is not
@@ -276,14 +296,14 @@ impl State {
     pub fn done(&self, k: u64) -> Option<bool>
         ensures { result ≡ done_at self.now.maps.terminators k }
     {
-        self.maps.done(k)
+        self.terms[shard(k) as usize].done(k)
     }
 
     /// Whether the terminator `k` is known to return; `None` exactly if `k` is not entered.
     pub fn has_returned(&self, k: u64) -> Option<bool>
         ensures { result ≡ returned_at self.now.maps.terminators k }
     {
-        self.maps.has_returned(k)
+        self.terms[shard(k) as usize].has_returned(k)
     }
 
     /// The first waiter that is to be told that `k` returns: the one with the least terminator, and
@@ -292,7 +312,7 @@ impl State {
     pub fn untold(&self, k: u64) -> Option<Waiter>
         ensures { IsNextToTell self.now.maps.terminators k result }
     {
-        self.maps.untold(k)
+        self.terms[shard(k) as usize].untold(k)
     }
 
     /// The least start above `a`, or the least of all if there is no `a`; `None` exactly if there
@@ -300,7 +320,7 @@ impl State {
     pub fn start_after(&self, a: Option<u64>) -> Option<u64>
         ensures { IsLeast (λ s. IsStart self.now.maps.starts s × IsAbove a s) result }
     {
-        self.maps.start_after(a)
+        key_after(self.starts.as_slice(), a)
     }
 
     /// The least end above `a`, or the least of all if there is no `a`; `None` exactly if there is
@@ -308,7 +328,7 @@ impl State {
     pub fn end_after(&self, a: Option<u64>) -> Option<u64>
         ensures { IsLeast (λ k. HasEnd self.now.maps.ends k × IsAbove a k) result }
     {
-        self.maps.end_after(a)
+        key_after(self.ends.as_slice(), a)
     }
 
     /// The least terminator above `a`, or the least of all if there is no `a`; `None` exactly if
@@ -316,7 +336,7 @@ impl State {
     pub fn term_after(&self, a: Option<u64>) -> Option<u64>
         ensures { IsLeast (λ k. IsEntered self.now.maps.terminators k × IsAbove a k) result }
     {
-        self.maps.term_after(a)
+        key_after(self.terms.as_slice(), a)
     }
 
     /// Some work that is left if these addresses are to be starts; `None` exactly if nothing is.
@@ -326,7 +346,7 @@ impl State {
         ensures some { IfSome result (λ name. IsLeft seeds.now self.now.maps (work_of name)) }
         ensures none { IfNone result (HasNothingLeft seeds.now self.now.maps) }
     {
-        left_of(&self.maps, seeds)
+        left_of(self, seeds)
     }
 
     /// Some work that is left if these addresses are to be starts, as [`State::left`] finds it.
@@ -344,6 +364,46 @@ impl State {
             (λ left. IfSome left (λ name. IsLeft seeds.now self.now.maps (work_of name))) }
         ensures none { IfOk result (λ left. IfNone left (HasNothingLeft seeds.now self.now.maps)) }
     {
-        left_by(rt, alloc, &self.maps, seeds, workers)
+        left_by(rt, alloc, self, seeds, workers)
     }
+
+    /// Work that is left in the shard with this number, of any kind.
+    pub(crate) fn left_in(&self, number: usize) -> Option<Name>
+        requires { number < 64 }
+        ensures some { IfSome result
+            (λ name. (seeds : _) → IsLeft seeds self.now.maps (work_of name)) }
+        ensures none { IfNone result (HasNothingAt (λ a. shard_of a ≡ number) self.now.maps) }
+    {
+        if let Some(name) = self.starts[number].left() {
+            return Some(name);
+        }
+        if let Some(name) = self.ends[number].left(self) {
+            return Some(name);
+        }
+        self.terms[number].left()
+    }
+}
+
+/// All shards, without starts.
+fn empty_starts(alloc: Global) -> Result<Vec<Starts>, Memory>
+    ensures count { IfOk result (λ v. length v.items ≡ 64) }
+    ensures empty { IfOk result (λ v. All (λ m. m ≡ maps.empty) v.items) }
+{
+    Ok((0..SHARDS).map(|_| Starts::empty(alloc)).collect(alloc)?)
+}
+
+/// All shards, without ends.
+fn empty_ends(alloc: Global) -> Result<Vec<Ends>, Memory>
+    ensures count { IfOk result (λ v. length v.items ≡ 64) }
+    ensures empty { IfOk result (λ v. All (λ m. m ≡ maps.empty) v.items) }
+{
+    Ok((0..SHARDS).map(|_| Ends::empty(alloc)).collect(alloc)?)
+}
+
+/// All shards, without terminators.
+fn empty_terms(alloc: Global) -> Result<Vec<Terms>, Memory>
+    ensures count { IfOk result (λ v. length v.items ≡ 64) }
+    ensures empty { IfOk result (λ v. All (λ m. m ≡ maps.empty) v.items) }
+{
+    Ok((0..SHARDS).map(|_| Terms::empty(alloc)).collect(alloc)?)
 }

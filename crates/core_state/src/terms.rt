@@ -155,8 +155,10 @@ impl Terms {
 
     /// Work that is left at a terminator. It goes over the shard once.
     pub(crate) fn left(&self) -> Option<Name>
-        ensures some { IfSome result (λ name. IsFoundAmong LeftAtTerminator self.now (work_of name)) }
-        ensures none { IfNone result ((work : Work) → ¬ IsFoundAmong LeftAtTerminator self.now work) }
+        ensures some { IfSome result
+            (λ name. IsFoundAmong LeftAtTerminator self.now (work_of name)) }
+        ensures none { IfNone result
+            ((work : Work) → ¬ IsFoundAmong LeftAtTerminator self.now work) }
     {
         self.terms.find_by(&LookAtTerminator)
     }

@@ -3,7 +3,7 @@ use Rattle.std.proofs.Common.{◌≡◌, ℕ, ◌+◌, ◌<◌, ◌≤◌, List,
 use Rattle.std.proofs.lemmas.Bool.{cases_lt}
 use Rattle.std.proofs.lemmas.List.{set_past}
 use Rattle.std.proofs.lemmas.List.Sums.{sum_by-set}
-use Rattle.std.specs.Prelude.{sum, ◌↔◌, Option, Some, None, Result, Ok, Err, IfOk, IfErr, OnOk, slice_set, slice_index}
+use Rattle.std.specs.Prelude.{sum, Option, Some, None, Result, Ok, Err, IfOk, IfErr, OnOk, slice_set, slice_index}
 use Rattle.std.specs.Option.{IfNone}
 use Rattle.cfg_model.specs.Program.Instructions.{InstructionMap}
 use Rattle.cfg_model.specs.declared.state.Waiter.{Waiter}
@@ -15,7 +15,7 @@ use Rattle.core_state.specs.declared.answer.PlaceEnd.TheVariants.{Busy, Memory}
 use Rattle.core_state.specs.Place as place
 use Rattle.board.specs.Slots.{slot_of, shard_for}
 use Rattle.board.specs.Seat.{SeatState, Knows, lost_of}
-use Rattle.board.specs.Calls.{MadeEvent, AnswersBusy, IsBusyAt, WhereBusy, KnowsTruth}
+use Rattle.board.specs.Calls.{MadeEvent, TriedAt, KnowsTruth}
 use Rattle.crew.specs.inner.Worker.{KnowsSoundly, all_lost}
 
 -- One count that is one more makes the sum one more. Beyond the list there is none.
@@ -37,25 +37,26 @@ never_falls xs i =
     (cases_lt i (length xs))
 
 -- A refusal for want of a shard comes where the count of lost tries rose.
-pub where_busy : {T : Type 0} (kind : ShardKind) (key : ℕ) (old new : SeatState) (result : Result T PlaceEnd)
-    → IfErr result (WhereBusy kind key old new)
-    → (AnswersBusy result ↔ (lost_of old (shard_for kind key) < lost_of new (shard_for kind key)))
+pub where_busy : {T : Type 0} (map : InstructionMap) (seeds : List ℕ) (kind : ShardKind) (key : ℕ)
+    (old new : SeatState) (result : Result T PlaceEnd) → TriedAt map seeds kind key old new result
     → IfErr result (place.IsBusyAt kind key (all_lost old) (all_lost new))
-where_busy kind key old new (Ok x) busy lost = tt
-where_busy kind key old new (Err Memory) busy lost = tt
-where_busy kind key old new (Err (Busy k number)) busy lost =
-    let less = subst (λ (s : SeatState). lost_of old (shard_for kind key) < lost_of s (shard_for kind key)) busy.2 (lost.0 tt) in
+where_busy map seeds kind key old new (Ok x) tried = tt
+where_busy map seeds kind key old new (Err Memory) tried = tt
+where_busy map seeds kind key old new (Err (Busy k number)) tried =
+    let busy = tried.busy in
+    let less = subst (λ (s : SeatState). lost_of old (shard_for kind key) < lost_of s (shard_for kind key)) busy.2 (tried.lost.0 tt) in
     (busy.0, busy.1, subst (λ (s : SeatState). all_lost old < all_lost s) (sym busy.2) (rises old.notes.lost (slot_of (shard_for kind key)) less))
 
 -- A change loses no tries but where it is refused.
 pub never_fewer : {T : Type 0} (map : InstructionMap) (seeds : List ℕ) (event : Event) (kind : ShardKind) (key : ℕ)
     (old new : SeatState) (result : Result T PlaceEnd) → OnOk result (MadeEvent map seeds event old new)
-    → IfErr result (IsBusyAt kind key old new) → all_lost old ≤ all_lost new
-never_fewer map seeds event kind key old new (Ok x) made busy =
+    → TriedAt map seeds kind key old new result → all_lost old ≤ all_lost new
+never_fewer map seeds event kind key old new (Ok x) made tried =
     subst (λ (s : SeatState). all_lost old ≤ all_lost s) (sym made.had.turn) (omega arith)
-never_fewer map seeds event kind key old new (Err Memory) made busy = absurd busy
-never_fewer map seeds event kind key old new (Err (Busy k number)) made busy =
-    subst (λ (s : SeatState). all_lost old ≤ all_lost s) (sym busy.2) (never_falls old.notes.lost (slot_of (shard_for kind key)))
+never_fewer map seeds event kind key old new (Err Memory) made tried =
+    subst (λ (s : SeatState). all_lost old ≤ all_lost s) (sym tried.memory.had.turn) (omega arith)
+never_fewer map seeds event kind key old new (Err (Busy k number)) made tried =
+    subst (λ (s : SeatState). all_lost old ≤ all_lost s) (sym tried.busy.2) (never_falls old.notes.lost (slot_of (shard_for kind key)))
 
 -- Where no waiter is left to be told, what the seat knows of it is true.
 pub all_told : (map : InstructionMap) (seeds : List ℕ) (k : ℕ) (old seat new : SeatState) → seat ≡ old

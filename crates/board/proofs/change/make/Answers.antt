@@ -49,26 +49,8 @@ returns-clause-answer g c = (all g c).1.answer
 pub returns-clause-brings : goal.returns-clause-brings
 returns-clause-brings g c = (all g c).1.brings
 
-pub returns-clause-remembers : goal.returns-clause-remembers
-returns-clause-remembers g c = (all g c).1.remembers
-
-pub returns-clause-truth : goal.returns-clause-truth
-returns-clause-truth g c = (all g c).0.truth
-
-pub returns-clause-busy : goal.returns-clause-busy
-returns-clause-busy g c = (all g c).1.busy
-
-pub returns-clause-lost : goal.returns-clause-lost
-returns-clause-lost g c = (all g c).1.lost
-
-pub returns-clause-memory : goal.returns-clause-memory
-returns-clause-memory g c = (all g c).1.memory
+pub returns-clause-tried : goal.returns-clause-tried
+returns-clause-tried g c = (all g c).1.tried
 
 pub returns-clause-spends : goal.returns-clause-spends
 returns-clause-spends g c = (all g c).1.spends
-
-pub returns-clause-stays : goal.returns-clause-stays
-returns-clause-stays g c = (all g c).1.stays
-
-pub returns-clause-only_seat : goal.returns-clause-only_seat
-returns-clause-only_seat g c _ = (all g c).1.never

@@ -1,4 +1,5 @@
 use Rattle.std.proofs.Common.{sym, ap, ◌∙◌, subst}
+use Rattle.std.specs.Prelude.{Ok}
 use Rattle.cfg_model.specs.Builder.Shard.{shard_of}
 use Rattle.board.specs.Slots.{shard_at, shard_for, slot_of}
 use Rattle.board.specs.Seat.{Notes, HasSlot}
@@ -6,7 +7,7 @@ use Rattle.board.specs.Inner.Inside.{state_of, IsOut}
 use Rattle.board.proofs.Rounds.{taken_out}
 use Rattle.board.proofs.Calls.{Round}
 use Rattle.board.proofs.Looks.{look_round, look_same, look_answer}
-use Rattle.board.proofs.Told.{turn_remembers, turn_stays, none_lost}
+use Rattle.board.proofs.Told.{turn_tried}
 use Rattle.board.proofs.sights.look.Given.{Over}
 use Rattle.board.proofs.sights.look.Goals.{After-give}
 use Rattle.board.proofs.sights.look.Goals as goal
@@ -45,17 +46,6 @@ returns-clause-answer g c =
     (c.give.ensures.own ∙ (c.look_out-answer.ensures.own ∙ c.take.ensures.own)) c.args.seat.now c.seat.view_is
     (λ part. g.L.Sight.gives c.args.sight.now part c.look_out-answer.result) c.look_out-answer.ensures.answer
 
-pub returns-clause-remembers : goal.returns-clause-remembers
-returns-clause-remembers g c = turn_remembers g.J.Job.map g.J.Job.seeds (shard_for c.args.kind c.args.key) c.args.seat.now (state_of c.give.new.seat) (turned g c).first (turned g c).second (turned g c).turn
-
-pub returns-clause-truth : goal.returns-clause-truth
-returns-clause-truth g c = (turned g c).settled.truth
-
-pub returns-clause-lost : goal.returns-clause-lost
-returns-clause-lost g c = (
-  (λ busy. absurd busy),
-  (λ more. none_lost g.J.Job.map g.J.Job.seeds (shard_for c.args.kind c.args.key) c.args.seat.now (state_of c.give.new.seat) (turned g c).first (turned g c).second (turned g c).turn (shard_for c.args.kind c.args.key) more),
-)
-
-pub returns-clause-stays : goal.returns-clause-stays
-returns-clause-stays g c = turn_stays g.J.Job.map g.J.Job.seeds (shard_for c.args.kind c.args.key) c.args.seat.now (state_of c.give.new.seat) (turned g c).first (turned g c).second (turned g c).turn
+pub returns-clause-tried : goal.returns-clause-tried
+returns-clause-tried g c =
+    turn_tried g.J.Job.map g.J.Job.seeds c.args.kind c.args.key c.args.seat.now (state_of c.give.new.seat) (turned g c).first (turned g c).second (turned g c).turn (turned g c).settled.truth (Ok c.look_out-answer.result) tt tt (λ busy. busy)

@@ -12,7 +12,7 @@ use Rattle.board.specs.Inner.Inside.{state_of, IsSettled}
 use Rattle.board.proofs.Rounds.{taken_out, taken_here}
 use Rattle.board.proofs.Calls.{Round}
 use Rattle.board.proofs.Looks.{look_round, look_same, look_answer}
-use Rattle.board.proofs.Untold.{shown_seat, shown_state, shown_holds, shown_slots, shown_took, shown_settled, shown_out, told_waits, told_returned, told_entered, told_waiter, told_all, told_back, told_remembers, told_stays, told_lost}
+use Rattle.board.proofs.Untold.{shown_seat, shown_state, shown_holds, shown_slots, shown_took, shown_settled, shown_out, told_known, told_all, told_back, told_tried}
 use Rattle.board.proofs.seat.Seat.untold.Given.{Over}
 use Rattle.board.proofs.seat.Seat.untold.Goals.{After-give}
 use Rattle.board.proofs.seat.Seat.untold.Goals as goal
@@ -73,17 +73,8 @@ returns-clause-answer g c =
     (λ part. IsNextToTell part.terminators c.args.k c.untold_out-next.result)
     (λ piece here. c.untold_out-next.ensures.next piece (sym (shown_slots c.take.new.seat.me c.untold_out-next.result) ∙ here))
 
-pub returns-clause-waits : goal.returns-clause-waits
-returns-clause-waits g c = told_waits g.J.Job.map g.J.Job.seeds c.args.k c.args.self.now (state_of c.give.new.seat) c.untold_out-next.result (returns-clause-looked g c) (returns-clause-answer g c)
-
-pub returns-clause-returned : goal.returns-clause-returned
-returns-clause-returned g c = told_returned g.J.Job.map g.J.Job.seeds c.args.k c.args.self.now (state_of c.give.new.seat) c.untold_out-next.result (returns-clause-looked g c) (returns-clause-answer g c)
-
-pub returns-clause-entered : goal.returns-clause-entered
-returns-clause-entered g c = told_entered g.J.Job.map g.J.Job.seeds c.args.k c.args.self.now (state_of c.give.new.seat) c.untold_out-next.result (returns-clause-looked g c) (returns-clause-answer g c)
-
-pub returns-clause-waiter : goal.returns-clause-waiter
-returns-clause-waiter g c = told_waiter g.J.Job.map g.J.Job.seeds c.args.k c.args.self.now (state_of c.give.new.seat) c.untold_out-next.result (returns-clause-looked g c)
+pub returns-clause-known : goal.returns-clause-known
+returns-clause-known g c = told_known g.J.Job.map g.J.Job.seeds c.args.k c.args.self.now (state_of c.give.new.seat) c.untold_out-next.result (returns-clause-looked g c) (returns-clause-answer g c)
 
 pub returns-clause-all_told : goal.returns-clause-all_told
 returns-clause-all_told g c = told_all g.J.Job.map g.J.Job.seeds c.args.k c.args.self.now (state_of c.give.new.seat) c.untold_out-next.result (returns-clause-looked g c) (returns-clause-answer g c)
@@ -91,17 +82,6 @@ returns-clause-all_told g c = told_all g.J.Job.map g.J.Job.seeds c.args.k c.args
 pub returns-clause-read_back : goal.returns-clause-read_back
 returns-clause-read_back g c = told_back g.J.Job.map g.J.Job.seeds c.args.k c.args.self.now (state_of c.give.new.seat) c.untold_out-next.result (returns-clause-looked g c) (returns-clause-answer g c)
 
-pub returns-clause-remembers : goal.returns-clause-remembers
-returns-clause-remembers g c = told_remembers g.J.Job.map g.J.Job.seeds c.args.k c.args.self.now (state_of c.give.new.seat) c.untold_out-next.result (returns-clause-looked g c)
-
-pub returns-clause-stays : goal.returns-clause-stays
-returns-clause-stays g c = told_stays g.J.Job.map g.J.Job.seeds c.args.k c.args.self.now (state_of c.give.new.seat) c.untold_out-next.result (returns-clause-looked g c)
-
-pub returns-clause-truth : goal.returns-clause-truth
-returns-clause-truth g c = (turned g c).settled.truth
-
-pub returns-clause-lost : goal.returns-clause-lost
-returns-clause-lost g c = (
-  (λ busy. absurd busy),
-  (λ more. told_lost g.J.Job.map g.J.Job.seeds c.args.k c.args.self.now (state_of c.give.new.seat) c.untold_out-next.result (returns-clause-looked g c) (Shard.Terminators (shard_of c.args.k)) more),
-)
+pub returns-clause-tried : goal.returns-clause-tried
+returns-clause-tried g c =
+    told_tried g.J.Job.map g.J.Job.seeds c.args.k c.args.self.now (state_of c.give.new.seat) c.untold_out-next.result (returns-clause-looked g c) (turned g c).settled.truth

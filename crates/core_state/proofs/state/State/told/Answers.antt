@@ -1,6 +1,10 @@
-use Rattle.cfg_model.specs.Builder.Event.{Event}
-use Rattle.core_state.proofs.Counting.{counted_leads}
+use Rattle.cfg_model.specs.Builder.Event.{entry_with_told}
+use Rattle.core_state.proofs.LocalChanges.{change_local}
+use Rattle.core_state.proofs.OneShard.{terms_kept, terms_changed}
 use Rattle.core_state.proofs.state.State.told.Goals as goal
 
+pub invariant_of-self : goal.invariant_of-self
+invariant_of-self c = terms_kept c.self.invariant c.self.view_is c.args.k c.shard.ensures c.index_mut.ensures.value (change_local c.args.k (entry_with_told c.args.w)) c.told.ensures
+
 pub returns-clause-told : goal.returns-clause-told
-returns-clause-told c = counted_leads (Event.Told c.args.k c.args.w) _ _ _ c.self.view_is c.told.ensures
+returns-clause-told c map = terms_changed c.self.invariant c.self.view_is c.args.k c.shard.ensures c.index_mut.ensures.value (change_local c.args.k (entry_with_told c.args.w)) c.told.ensures

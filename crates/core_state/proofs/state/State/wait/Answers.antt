@@ -1,6 +1,23 @@
-use Rattle.cfg_model.specs.Builder.Event.{Event}
-use Rattle.core_state.proofs.Counting.{counted_leads}
+use Rattle.std.proofs.Common.{ap, subst, ◌∙◌}
+use Rattle.std.specs.Prelude.{Option, IsSome, IsTrue, is_some, ◌↔◌}
+use Rattle.std.specs.Option.{option_map_or}
+use Rattle.std.specs.FinMap as maps
+use Rattle.cfg_model.specs.Builder.State.{TerminatorEntry}
+use Rattle.cfg_model.specs.Builder.Event.{entry_with_waiter}
+use Rattle.core_state.proofs.LocalChanges.{change_local}
+use Rattle.core_state.proofs.OneShard.{term_there, terms_kept, terms_changed}
 use Rattle.core_state.proofs.state.State.wait.Goals as goal
 
+pub wait-requires : goal.wait-requires
+wait-requires c = ap is_some (term_there c.self.invariant c.self.view_is c.args.k c.shard.ensures c.index_mut.ensures.value) ∙ c.requires
+
+pub invariant_of-self-2 : goal.invariant_of-self-2
+invariant_of-self-2 c = terms_kept c.self.invariant c.self.view_is c.args.k c.shard.ensures c.index_mut.ensures.value (change_local c.args.k (entry_with_waiter c.args.w)) c.in_ok-new.ensures.waits
+
 pub returns-clause-waits : goal.returns-clause-waits
-returns-clause-waits c = counted_leads (Event.Wait c.args.k c.args.w) _ _ _ c.self.view_is c.in_ok-new.ensures.waits
+returns-clause-waits c map = terms_changed c.self.invariant c.self.view_is c.args.k c.shard.ensures c.index_mut.ensures.value (change_local c.args.k (entry_with_waiter c.args.w)) c.in_ok-new.ensures.waits
+
+pub returns-clause-answer : goal.returns-clause-answer
+returns-clause-answer c =
+    subst (λ (o : Option TerminatorEntry). IsTrue c.in_ok-new.new ↔ ¬ IsSome (maps.get (option_map_or (λ e. e.waiters) o maps.empty) c.args.w))
+    (term_there c.self.invariant c.self.view_is c.args.k c.shard.ensures c.index_mut.ensures.value) c.in_ok-new.ensures.answer

@@ -13,9 +13,9 @@ use Rattle.crew.proofs.worker.WorkerPlace.arrive.Goals as goal
 pub invariant_of-self : goal.invariant_of-self
 invariant_of-self g c = (
   c.self.invariant.0,
-  stays_at g.S.WorkerIds.board g.S.WorkerIds.share c.self.inside.seat c.arrive_along.new.self c.self.invariant.1 c.arrive_along.ensures.stays,
+  stays_at g.S.WorkerIds.board g.S.WorkerIds.share c.self.inside.seat c.arrive_along.new.self c.self.invariant.1 c.arrive_along.ensures.tried.stays,
   c.self.invariant.2,
-  still_cached g.J.Job.map g.J.Job.seeds c.self.inside.cache c.self.inside.seat c.arrive_along.new.self c.self.invariant.3 c.arrive_along.ensures.remembers,
+  still_cached g.J.Job.map g.J.Job.seeds c.self.inside.cache c.self.inside.seat c.arrive_along.new.self c.self.invariant.3 c.arrive_along.ensures.tried.remembers,
 )
 
 pub arrive_along-requires-clause-reason : goal.arrive_along-requires-clause-reason
@@ -24,4 +24,4 @@ arrive_along-requires-clause-reason g c = seat_reason g.J.Job.map g.J.Job.seeds 
 pub returns-clause-busy : goal.returns-clause-busy
 returns-clause-busy g c =
     subst (λ (s : SeatState). IfErr c.arrive_along.result (IsBusyAt Ends c.args.k (all_lost s) (all_lost c.arrive_along.new.self))) c.self.view_is
-    (where_busy Ends c.args.k c.self.inside.seat c.arrive_along.new.self c.arrive_along.result c.arrive_along.ensures.busy c.arrive_along.ensures.lost)
+    (where_busy g.J.Job.map g.J.Job.seeds Ends c.args.k c.self.inside.seat c.arrive_along.new.self c.arrive_along.result c.arrive_along.ensures.tried)

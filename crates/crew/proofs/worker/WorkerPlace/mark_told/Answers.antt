@@ -11,9 +11,9 @@ use Rattle.crew.proofs.worker.WorkerPlace.mark_told.Goals as goal
 pub invariant_of-self : goal.invariant_of-self
 invariant_of-self g c = (
   c.self.invariant.0,
-  stays_at g.S.WorkerIds.board g.S.WorkerIds.share c.self.inside.seat c.mark_told.new.self c.self.invariant.1 c.mark_told.ensures.stays,
+  stays_at g.S.WorkerIds.board g.S.WorkerIds.share c.self.inside.seat c.mark_told.new.self c.self.invariant.1 c.mark_told.ensures.tried.stays,
   c.self.invariant.2,
-  still_cached g.J.Job.map g.J.Job.seeds c.self.inside.cache c.self.inside.seat c.mark_told.new.self c.self.invariant.3 c.mark_told.ensures.remembers,
+  still_cached g.J.Job.map g.J.Job.seeds c.self.inside.cache c.self.inside.seat c.mark_told.new.self c.self.invariant.3 c.mark_told.ensures.tried.remembers,
 )
 
 pub mark_told-requires-clause-reason : goal.mark_told-requires-clause-reason
@@ -22,4 +22,4 @@ mark_told-requires-clause-reason g c = seat_reason g.J.Job.map g.J.Job.seeds c.s
 pub returns-clause-counted : goal.returns-clause-counted
 returns-clause-counted g c =
     subst (λ (s : SeatState). all_lost s ≤ all_lost c.mark_told.new.self) c.self.view_is
-    (never_fewer g.J.Job.map g.J.Job.seeds (Event.Told c.args.k c.args.w) Terms c.args.k c.self.inside.seat c.mark_told.new.self c.mark_told.result c.mark_told.ensures.event c.mark_told.ensures.busy)
+    (never_fewer g.J.Job.map g.J.Job.seeds (Event.Told c.args.k c.args.w) Terms c.args.k c.self.inside.seat c.mark_told.new.self c.mark_told.result c.mark_told.ensures.event c.mark_told.ensures.tried)

@@ -11,9 +11,9 @@ use Rattle.crew.proofs.worker.WorkerPlace.told.Goals as goal
 pub invariant_of-self : goal.invariant_of-self
 invariant_of-self g c = (
   c.self.invariant.0,
-  stays_at g.S.WorkerIds.board g.S.WorkerIds.share c.self.inside.seat c.told.new.self c.self.invariant.1 c.told.ensures.stays,
+  stays_at g.S.WorkerIds.board g.S.WorkerIds.share c.self.inside.seat c.told.new.self c.self.invariant.1 c.told.ensures.tried.stays,
   c.self.invariant.2,
-  still_cached g.J.Job.map g.J.Job.seeds c.self.inside.cache c.self.inside.seat c.told.new.self c.self.invariant.3 c.told.ensures.remembers,
+  still_cached g.J.Job.map g.J.Job.seeds c.self.inside.cache c.self.inside.seat c.told.new.self c.self.invariant.3 c.told.ensures.tried.remembers,
 )
 
 pub told-requires-clause-reason : goal.told-requires-clause-reason
@@ -22,4 +22,4 @@ told-requires-clause-reason g c = seat_reason g.J.Job.map g.J.Job.seeds c.self.i
 pub returns-clause-counted : goal.returns-clause-counted
 returns-clause-counted g c =
     subst (λ (s : SeatState). all_lost s ≤ all_lost c.told.new.self) c.self.view_is
-    (never_fewer g.J.Job.map g.J.Job.seeds (Event.Told c.args.k c.args.w) Terms c.args.k c.self.inside.seat c.told.new.self c.told.result c.told.ensures.event c.told.ensures.busy)
+    (never_fewer g.J.Job.map g.J.Job.seeds (Event.Told c.args.k c.args.w) Terms c.args.k c.self.inside.seat c.told.new.self c.told.result c.told.ensures.event c.told.ensures.tried)

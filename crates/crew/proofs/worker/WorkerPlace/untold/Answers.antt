@@ -21,10 +21,10 @@ returns-in-Some-clause-waits g c =
 pub invariant_of-self-2 : goal.invariant_of-self-2
 invariant_of-self-2 g c = (
   c.self.invariant.0,
-  stays_at g.S.WorkerIds.board g.S.WorkerIds.share c.self.inside.seat c.untold.new.self c.self.invariant.1 c.untold.ensures.stays,
+  stays_at g.S.WorkerIds.board g.S.WorkerIds.share c.self.inside.seat c.untold.new.self c.self.invariant.1 c.untold.ensures.tried.stays,
   c.self.invariant.2,
-  still_cached g.J.Job.map g.J.Job.seeds c.self.inside.cache c.self.inside.seat c.untold.new.self c.self.invariant.3 c.untold.ensures.remembers,
+  still_cached g.J.Job.map g.J.Job.seeds c.self.inside.cache c.self.inside.seat c.untold.new.self c.self.invariant.3 c.untold.ensures.tried.remembers,
 )
 
 pub returns-clause-all_told : goal.returns-clause-all_told
-returns-clause-all_told g c = all_told g.J.Job.map g.J.Job.seeds c.args.k c.args.self.now c.self.inside.seat c.untold.new.self c.self.view_is c.untold.result c.untold.ensures.all_told c.untold.ensures.truth
+returns-clause-all_told g c = all_told g.J.Job.map g.J.Job.seeds c.args.k c.args.self.now c.self.inside.seat c.untold.new.self c.self.view_is c.untold.result c.untold.ensures.all_told c.untold.ensures.tried.truth
