@@ -1,88 +1,78 @@
--- Walks from all addresses that control is sent to go over all that is reached, and find all leaders.
-use Rattle.std.proofs.Common.{◌≡◌, ℕ, List, [], Option, Some, None, refl, sym, ap, ◌∙◌, subst, inl, inr, arith}
-use Rattle.std.specs.Prelude.{◌↔◌, Contains, option_to_list}
-use Rattle.std.proofs.lemmas.List.Elements.{All-contains, Contains-append_cases}
-use Rattle.std.proofs.lemmas.Option.{same_Some}
-use Rattle.cfg_model.specs.declared.flow.Flow.{Flow}
-use Rattle.cfg_model.specs.declared.flow.Flow.TheVariants.{Straight, Branch, Jump, Call, IndirectCall, Table, Return, Unknown, Stop}
-use Rattle.cfg_model.specs.Program.Instructions.{InstructionMap, flow_at, length_at, targets_at}
-use Rattle.cfg_model.specs.Program.Chain.{GoesOnTo}
-use Rattle.cfg_model.specs.Program.Successors.{successors_of_flow}
+-- Walks over the blocks that overlap find all leaders.
+use Rattle.std.proofs.Common.{◌≢◌, ℕ, ◌⊎◌, List, length, get_or, sym, subst, inl, inr}
+use Rattle.std.specs.Prelude.{◌↔◌, Contains}
+use Rattle.std.proofs.lemmas.Bool.{cases_order}
+use Rattle.cfg_model.specs.Program.Instructions.{InstructionMap, IsLawful}
+use Rattle.cfg_model.specs.Program.Chain.{GoesOnTo, OnChain}
 use Rattle.cfg_model.specs.Program.Reach.{Reached}
-use Rattle.cfg_model.specs.Graph.Leader.{IsLeader, StartsBlock}
-use Rattle.cfg_model.proofs.Program.Listed.{none_in, in_cases, head_in}
-use Rattle.reached_terms.specs.Sent.{IsSent}
-use Rattle.reached_graph.specs.Inner.Leaders.{AreSent}
+use Rattle.cfg_model.specs.Graph.Block.{RunsTo}
+use Rattle.cfg_model.specs.Graph.Leader.{IsLeader}
+use Rattle.reached_graph.specs.declared.leaders.Leaders.{Leaders}
+use Rattle.reached_graph.specs.Inner.Blocks.{HoldMixed, IsMixed}
+use Rattle.reached_graph.specs.Inner.Leaders.{AreMarkedBlocks, AreSent}
 use Rattle.reached_graph.specs.Inner.Walks.{AreWalked, Nowhere}
+use Rattle.reached_graph.proofs.Apart.{apart_on, chain_of, lies_at, lies_on, mixed_blocks, LiesOn}
+use Rattle.reached_graph.proofs.Reaching.{reached_holds, starts_found}
 
-listed : (o : Option ℕ) (s : ℕ) → Contains (option_to_list o) s → o ≡ Some s
-listed None s c = absurd (none_in s c)
-listed (Some t) s c = elim (in_cases t [] s c) [ inl e ↦ ap Some e | inr none ↦ absurd (none_in s none) ]
-
-module _ (map : InstructionMap) (seeds sent : List ℕ) (IsWalked IsStart : ℕ → Type 0) (leaders : List ℕ)
-    (done : AreWalked map seeds sent IsWalked IsStart leaders Nowhere) (all : (a : ℕ) → Contains sent a → IsWalked a) (are : AreSent map seeds sent) where
-  sent_walked : (a : ℕ) → IsSent map seeds a → IsWalked a
-  sent_walked a is = all a ((are a).1 is)
-
-  next_walked : (a next : ℕ) → IsWalked a → GoesOnTo map a next → IsWalked next
-  next_walked a next walked goes = elim (done.onward a next walked goes) [
-    | inl none ↦ absurd none
+module _ (map : InstructionMap) (seeds : List ℕ) (IsCut IsWalked IsStart : ℕ → Type 0) (done : AreWalked map seeds IsCut IsWalked IsStart Nowhere) where
+  next_walked : (a next : ℕ) → IsWalked a → GoesOnTo map a next → ¬ IsCut next → IsWalked next
+  next_walked a next walked goes none = elim (done.onward a next walked goes) [
+    | inl nowhere ↦ absurd nowhere
     | inr more ↦ elim more [
       | inl on ↦ on
-      | inr starts ↦ elim (done.begun next starts) [ inl on ↦ on | inr c ↦ all next c ]
+      | inr starts ↦ elim (done.begun next starts) [ inl on ↦ on | inr cut ↦ absurd (none cut) ]
     ]
   ]
 
-  successor_walked : (k s : ℕ) → Reached map seeds k → IsWalked k → (o : Option Flow) → flow_at map k ≡ o → Contains (successors_of_flow (targets_at map k) o) s → IsWalked s
-  successor_walked k s r walked None e c = absurd (none_in s c)
-  successor_walked k s r walked (Some (Straight next)) e c = elim (in_cases next [] s c) [
-    | inl same ↦ subst IsWalked same (next_walked k next walked e)
-    | inr none ↦ absurd (none_in s none)
-  ]
-  successor_walked k s r walked (Some (Branch taken fall)) e c =
-      elim (Contains-append_cases (option_to_list taken) (option_to_list fall) s c) [
-        | inl in_taken ↦ sent_walked s (IsSent.target r e in_taken)
-        | inr in_fall ↦ sent_walked s (IsSent.fall r e (listed fall s in_fall))
-      ]
-  successor_walked k s r walked (Some (Jump target)) e c = sent_walked s (IsSent.target r e c)
-  successor_walked k s r walked (Some (Call target fall)) e c = absurd (none_in s c)
-  successor_walked k s r walked (Some (IndirectCall fall)) e c = sent_walked s (IsSent.fall r e (listed fall s c))
-  successor_walked k s r walked (Some (Table entries full is_open)) e c = sent_walked s (IsSent.target r e c)
-  successor_walked k s r walked (Some Return) e c = absurd (none_in s c)
-  successor_walked k s r walked (Some Unknown) e c = absurd (none_in s c)
-  successor_walked k s r walked (Some Stop) e c = absurd (none_in s c)
+  -- a walk that begins at a block goes over all of it
+  along : {s k : ℕ} → RunsTo map IsCut s k → IsWalked s → IsWalked k
+  along RunsTo.here walked = walked
+  along (RunsTo.on {s = s} {next = next} goes none rest) walked = along rest (next_walked s next walked goes none)
 
-  pub reached_walked : {a : ℕ} → Reached map seeds a → IsWalked a
-  reached_walked (Reached.seed {a = a} c) = sent_walked a (IsSent.seed c)
-  reached_walked (Reached.onward {a = a} {b = b} r successor) = successor_walked a b r (reached_walked r) (flow_at map a) refl successor
-  reached_walked (Reached.called {a = a} {target = target} r call) = sent_walked target (IsSent.target r call (head_in target []))
-  reached_walked (Reached.past_call {a = a} {target = target} {fall = fall} r call back) = sent_walked fall (IsSent.past_call r call back)
+  module _ (lawful : IsLawful map) (blocks : Leaders) (are : AreMarkedBlocks map IsCut blocks) (mixed : List ℕ) (hold : HoldMixed blocks.starts.items blocks.lasts.items (length blocks.starts.items) mixed)
+      (begun : (a : ℕ) → Contains mixed a → IsWalked a) where
+    abbrev Lies : ℕ → Type 0
+    Lies = LiesOn map lawful IsCut blocks.starts.items are.rise are.exact
 
-  sent_starts : (a : ℕ) → IsSent map seeds a → IsStart a
-  sent_starts a is = done.given a ((are a).1 is)
+    lies_walked : (a : ℕ) (lies : Lies a) → IsMixed blocks.starts.items blocks.lasts.items lies.place → IsWalked a
+    lies_walked a lies is = along lies.runs (begun (get_or blocks.starts.items lies.place 0) (hold.all lies.place lies.within is))
 
-  two_four : ◌≡◌ {A = Option ℕ} (Some 2) (Some 4) → ⊥
-  two_four e = absurd (omega (arith, same_Some 2 4 e))
+    joins : (a b next : ℕ) → IsWalked a → IsWalked b → a ≢ b → GoesOnTo map a next → GoesOnTo map b next → IsStart next
+    joins a b next walked too apart goes goes_too = elim (done.joined a b next walked too apart goes goes_too) [
+      | inl none ↦ absurd none
+      | inr more ↦ elim more [ inl none ↦ absurd none | inr starts ↦ starts ]
+    ]
 
-  found : {a : ℕ} → StartsBlock map seeds a → IsStart a
-  found (StartsBlock.seed {a = a} c) = sent_starts a (IsSent.seed c)
-  found (StartsBlock.target {a = a} r e c) = sent_starts a (IsSent.target r e c)
-  found (StartsBlock.fall {a = a} r e c) = sent_starts a (IsSent.fall r e c)
-  found (StartsBlock.past_call {a = a} r call back) = sent_starts a (IsSent.past_call r call back)
-  found (StartsBlock.join {short = short} {long = long} {a = a} r goes two r_long goes_long four) =
-      elim (done.joined short long a (reached_walked r) (reached_walked r_long) (λ e. two_four (sym two ∙ ap (length_at map) e ∙ four)) goes goes_long) [
-        | inl none ↦ absurd none
-        | inr more ↦ elim more [ inl none ↦ absurd none | inr starts ↦ starts ]
+    module _ (a b next : ℕ) (apart : a ≢ b) (goes : GoesOnTo map a next) (goes_too : GoesOnTo map b next) (none : ¬ IsCut next) where
+      join_on : Lies a → Lies b → IsStart next
+      join_on lies other = elim (cases_order lies.place other.place) [
+        | inl same ↦ absurd (apart_on map lawful IsCut blocks.starts.items are.rise are.exact (get_or blocks.starts.items lies.place 0) a b next (chain_of lies.runs)
+            (subst (λ i. OnChain map (get_or blocks.starts.items i 0) b) (sym same) (chain_of other.runs)) apart goes goes_too)
+        | inr rest ↦ elim rest [
+          | inl less ↦
+              let both = mixed_blocks map lawful IsCut blocks.starts.items are.rise are.exact blocks.lasts.items are.cut a b next goes goes_too none lies other less in
+              joins a b next (lies_walked a lies both.0) (lies_walked b other both.1) apart goes goes_too
+          | inr more ↦
+              let both = mixed_blocks map lawful IsCut blocks.starts.items are.rise are.exact blocks.lasts.items are.cut b a next goes_too goes none other lies more in
+              joins a b next (lies_walked a lies both.1) (lies_walked b other both.0) apart goes goes_too
+        ]
       ]
 
-  pub starts_lead : (a : ℕ) → IsStart a ↔ IsLeader map seeds a
-  starts_lead a = (
-    λ starts. All-contains (IsLeader map seeds) leaders a done.leads ((done.listed a).0 starts),
-    λ lead. found lead.starts,
-  )
+    module _ (sent : AreSent map seeds IsCut) (is_known : (a next : ℕ) → GoesOnTo map a next → IsCut next ⊎ ¬ IsCut next) where
+      all_lie : {a : ℕ} → Reached map seeds a → Lies a
+      all_lie reached = reached_holds map seeds Lies
+          (λ a is. lies_at map lawful IsCut blocks.starts.items are.rise are.exact a ((sent a).1 is))
+          (λ a next lies goes. lies_on map lawful IsCut blocks.starts.items are.rise are.exact a next (is_known a next goes) lies goes)
+          reached
 
-  pub leaders_listed : (a : ℕ) → Contains leaders a ↔ IsLeader map seeds a
-  leaders_listed a = (
-    λ c. All-contains (IsLeader map seeds) leaders a done.leads c,
-    λ lead. (done.listed a).0 (found lead.starts),
-  )
+      join_starts : (a b next : ℕ) → Reached map seeds a → Reached map seeds b → a ≢ b → GoesOnTo map a next → GoesOnTo map b next → IsStart next
+      join_starts a b next r s apart goes goes_too = elim (is_known a next goes) [
+        | inl cut ↦ done.given next cut
+        | inr none ↦ join_on a b next apart goes goes_too none (all_lie r) (all_lie s)
+      ]
+
+      pub starts_lead : (a : ℕ) → IsStart a ↔ IsLeader map seeds a
+      starts_lead a = (
+        λ starts. done.leads a starts,
+        λ lead. starts_found map seeds IsStart (λ b is. done.given b ((sent b).1 is)) join_starts lead.starts,
+      )

@@ -1,8 +1,13 @@
-mod Listing
 mod Marking
+mod Reaching
+mod Sending
 mod Walking
 mod Found
-mod Sending
 mod Cutting
+mod Apart
+mod Pushed
+mod Mixed
+mod Leading
 mod Making
+mod Calling
 mod Sorting

@@ -1,12 +1,10 @@
 -- Marks by the numbers of addresses, as they are set.
-use Rattle.std.proofs.Common.{◌≡◌, ℕ, ◌+◌, ◌<◌, Bool, true, false, List, [], ◌∷◌, ◌++◌, length, get_or, set, take, replicate, IsSome, sym, ap, ◌∙◌, subst, inl, inr, arith}
-use Rattle.std.specs.Prelude.{◌↔◌, Contains}
+use Rattle.std.proofs.Common.{◌≡◌, ℕ, Bool, true, false, List, length, get_or, set, replicate, IsSome, sym, ◌∙◌, subst, inl, inr, arith}
 use Rattle.std.proofs.lemmas.Bool.{cases_eq, cases_lt, false≢true}
-use Rattle.std.proofs.lemmas.List.{get_or-set_same, get_or-set_other, get_or-replicate, get_or_past, length-replicate, take_more}
-use Rattle.std.proofs.lemmas.List.Elements.{Contains-append_left, Contains-push, Contains-push_cases}
+use Rattle.std.proofs.lemmas.List.{get_or-set_same, get_or-set_other, get_or-replicate, get_or_past, length-replicate}
 use Rattle.cfg_model.specs.Program.Instructions.{InstructionMap}
-use Rattle.reached_terms.specs.Numbering.{IsNumbering}
-use Rattle.reached_graph.specs.Inner.Marks.{IsMarked, IsAdded}
+use Rattle.reached_terms.specs.Numbering.{IsMarked, IsNumbering}
+use Rattle.reached_graph.specs.Inner.Marks.{IsAdded}
 
 module _ (map : InstructionMap) (number : ℕ → ℕ) where
   -- one mark is set
@@ -28,30 +26,6 @@ module _ (map : InstructionMap) (number : ℕ → ℕ) where
     where
       here : get_or (set marks (number a) true) (number a) false ≡ true
       here = get_or-set_same marks (number a) true false (numbering.below a has)
-
-  -- those of the first addresses of a list are set, and then that of one more
-  pub mark_more : (marks : List Bool) → IsNumbering map number (length marks) → (xs : List ℕ) (i a : ℕ) → i < length xs → a ≡ get_or xs i 0 → IsSome (map a)
-      → ((x : ℕ) → IsMarked map number marks x ↔ Contains (take i xs) x) → (x : ℕ) → IsMarked map number (set marks (number a) true) x ↔ Contains (take (i + 1) xs) x
-  mark_more marks numbering xs i a within is has before x =
-      subst (λ ys. IsMarked map number (set marks (number a) true) x ↔ Contains ys x) (sym more) (there, back)
-    where
-      more : take (i + 1) xs ≡ take i xs ++ a ∷ []
-      more = take_more xs i 0 within ∙ ap (λ y. take i xs ++ y ∷ []) (sym is)
-
-      added : IsAdded (IsMarked map number marks) (IsMarked map number (set marks (number a) true)) a
-      added = set_added marks numbering a has
-
-      there : IsMarked map number (set marks (number a) true) x → Contains (take i xs ++ a ∷ []) x
-      there on = elim (added.only x on) [
-        | inl e ↦ subst (Contains (take i xs ++ a ∷ [])) (sym e) (Contains-push (take i xs) a)
-        | inr old ↦ Contains-append_left (take i xs) (a ∷ []) x ((before x).0 old)
-      ]
-
-      back : Contains (take i xs ++ a ∷ []) x → IsMarked map number (set marks (number a) true) x
-      back c = elim (Contains-push_cases (take i xs) a x c) [
-        | inl old ↦ added.kept x ((before x).1 old)
-        | inr e ↦ subst (IsMarked map number (set marks (number a) true)) e added.here
-      ]
 
   -- none is set
   pub none_marked : (n x : ℕ) → IsMarked map number (replicate n false) x → ⊥

@@ -1,7 +1,8 @@
--- Where control is sent an instruction stands, and what is reached or sent to, before any walk.
-use Rattle.std.proofs.Common.{◌≡◌, ℕ, List, [], Option, Some, get_or, sym, subst, inl, inr}
-use Rattle.std.specs.Prelude.{◌↔◌, All, Contains, IsSome, option_to_list}
-use Rattle.std.proofs.lemmas.List.Elements.{All-contains, Contains-append_left, Contains-append_right, Contains-get_or}
+-- Where control is sent is reached, and a block starts.
+use Rattle.std.proofs.Common.{◌≡◌, ℕ, Bool, false, List, [], length, replicate, Option, Some, sym, subst, inl, inr}
+use Rattle.std.proofs.lemmas.List.{length-replicate}
+use Rattle.std.specs.Prelude.{Contains, option_to_list}
+use Rattle.std.proofs.lemmas.List.Elements.{Contains-append_left, Contains-append_right}
 use Rattle.cfg_model.specs.declared.flow.Flow.{Flow}
 use Rattle.cfg_model.specs.declared.flow.Flow.TheVariants.{Straight, Branch, Jump, Call, IndirectCall, Table, Return, Unknown, Stop}
 use Rattle.cfg_model.specs.Program.Instructions.{InstructionMap, IsLawful, flow_at, targets_at}
@@ -9,10 +10,13 @@ use Rattle.cfg_model.specs.Program.Reach.{Reached}
 use Rattle.cfg_model.specs.Graph.Function.{IsEntry}
 use Rattle.cfg_model.specs.Graph.Leader.{IsLeader, StartsBlock, targets_by, fall_by}
 use Rattle.cfg_model.proofs.Program.Listed.{none_in, in_cases, head_in}
-use Rattle.cfg_model.proofs.Program.Known.{successor_from_flow, successor_known, target_known, fall_known}
+use Rattle.cfg_model.proofs.Program.Known.{successor_from_flow}
 use Rattle.reached_terms.specs.Sent.{IsSent}
 use Rattle.reached_graph.specs.Inner.Leaders.{AreSent}
-use Rattle.reached_graph.specs.Inner.Walks.{AreWalked, Nowhere}
+use Rattle.reached_terms.specs.Numbering.{IsMarked, IsNumbering}
+use Rattle.reached_graph.specs.declared.walks.Walks.{Walks}
+use Rattle.reached_graph.specs.Inner.Walks.{AreFit, AreWalked, HaveWalked, Nowhere}
+use Rattle.reached_graph.proofs.Marking.{none_marked}
 
 -- what control is sent to is reached, and so a leader
 
@@ -51,14 +55,12 @@ sent_leads {map} {seeds} (IsSent.fall {k = k} {a = a} {flow = flow} r e c) = rec
 sent_leads (IsSent.past_call r call back) = record { reached = Reached.past_call r call back; starts = StartsBlock.past_call r call back }
 
 -- before any walk
-pub none_walked : (map : InstructionMap) (seeds sent : List ℕ) (IsWalked IsStart : ℕ → Type 0) → AreSent map seeds sent → ((a : ℕ) → ¬ IsWalked a) → ((a : ℕ) → IsStart a ↔ Contains sent a)
-    → AreWalked map seeds sent IsWalked IsStart sent Nowhere
-none_walked map seeds sent IsWalked IsStart are none starts = record {
+pub none_walked : (map : InstructionMap) (seeds : List ℕ) (IsGiven IsWalked : ℕ → Type 0) → AreSent map seeds IsGiven → ((a : ℕ) → ¬ IsWalked a) → AreWalked map seeds IsGiven IsWalked IsGiven Nowhere
+none_walked map seeds IsGiven IsWalked are none = record {
   reached = λ a walked. absurd (none a walked);
-  leads = λ k d within. sent_leads ((are (get_or sent k d)).0 (Contains-get_or sent k d within));
-  listed = starts;
-  given = λ a c. (starts a).1 c;
-  begun = λ a st. inr ((starts a).0 st);
+  leads = λ a st. sent_leads ((are a).0 st);
+  given = λ a is. is;
+  begun = λ a st. inr st;
   came = λ a walked. absurd (none a walked);
   onward = λ a next walked goes. absurd (none a walked);
   joined = λ a b next walked too apart goes goes_too. absurd (none a walked);
@@ -69,13 +71,14 @@ pub entry_reached : (map : InstructionMap) (seeds : List ℕ) (a : ℕ) → IsEn
 entry_reached map seeds a (IsEntry.seed c) = Reached.seed c
 entry_reached map seeds a (IsEntry.called r call) = Reached.called r call
 
--- so an instruction stands there
-
-reached_stands : {map : InstructionMap} {seeds : List ℕ} {a : ℕ} → IsLawful map → All (λ b. IsSome (map b)) seeds → Reached map seeds a → IsSome (map a)
-reached_stands {map} {seeds} lawful known (Reached.seed {a = a} c) = All-contains (λ b. IsSome (map b)) seeds a known c
-reached_stands {map} lawful known (Reached.onward {a = a} {b = b} r successor) = successor_known map lawful a b successor
-reached_stands {map} lawful known (Reached.called {a = a} {target = target} r call) = target_known map lawful a target call
-reached_stands {map} lawful known (Reached.past_call {a = a} {target = target} {fall = fall} r call back) = fall_known map lawful a target fall call
-
-pub sent_stand : (map : InstructionMap) (seeds sent : List ℕ) → IsLawful map → All (λ b. IsSome (map b)) seeds → AreSent map seeds sent → All (λ b. IsSome (map b)) sent
-sent_stand map seeds sent lawful known are = λ k d within. reached_stands lawful known (sent_leads ((are (get_or sent k d)).0 (Contains-get_or sent k d within))).reached
+-- as they begin
+pub walks_new : (map : InstructionMap) (number : ℕ → ℕ) (marks : List Bool) (w : Walks) → IsLawful map → IsNumbering map number (length marks)
+    → w.walked.items ≡ replicate (length marks) false → w.starts.items ≡ marks → AreFit map number w × ((seeds : List ℕ) → AreSent map seeds (IsMarked map number marks) → HaveWalked map number seeds marks w Nowhere)
+walks_new map number marks w lawful numbering walked starts = (
+  record {
+    lawful = lawful;
+    numbering = rw walked (subst (IsNumbering map number) (sym (length-replicate (length marks) false)) numbering);
+    starts = rw (walked, starts) (sym (length-replicate (length marks) false));
+  },
+  λ seeds are. rw (walked, starts) (none_walked map seeds (IsMarked map number marks) (IsMarked map number (replicate (length marks) false)) are (none_marked map number (length marks))),
+)

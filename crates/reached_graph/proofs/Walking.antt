@@ -1,8 +1,8 @@
 -- How far the walks have come, step by step.
-use Rattle.std.proofs.Common.{◌≡◌, ◌≢◌, ℕ, ◌+◌, ◌<◌, List, [], ◌∷◌, ◌++◌, length, get_or, take, Some, refl, sym, ap, ◌∙◌, subst, inl, inr}
-use Rattle.std.specs.Prelude.{All, Contains}
+use Rattle.std.proofs.Common.{◌≡◌, ◌≢◌, ℕ, ◌+◌, ◌<◌, Bool, List, [], ◌∷◌, ◌++◌, length, get_or, take, Some, refl, sym, ap, ◌∙◌, subst, inl, inr}
+use Rattle.std.specs.Prelude.{Contains}
 use Rattle.std.proofs.lemmas.List.{take_more}
-use Rattle.std.proofs.lemmas.List.Elements.{All-contains, All-push, Contains-append_left, Contains-push, Contains-push_cases}
+use Rattle.std.proofs.lemmas.List.Elements.{Contains-push_cases}
 use Rattle.cfg_model.specs.Program.Instructions.{InstructionMap, IsLawful}
 use Rattle.cfg_model.specs.Program.Chain.{EndsChain, GoesOnTo, IsTerminator}
 use Rattle.cfg_model.specs.declared.flow.Flow.{Flow}
@@ -14,25 +14,22 @@ use Rattle.cfg_model.proofs.Program.ChainFacts.{one_next}
 use Rattle.cfg_model.proofs.Program.ChainEnds.{goes_not_ends}
 use Rattle.cfg_model.proofs.Graphs.LeaderFacts.{joined}
 use Rattle.reached_graph.specs.declared.walks.Walks.{Walks}
-use Rattle.reached_graph.specs.Inner.Marks.{IsMarked, IsAdded}
+use Rattle.reached_terms.specs.Numbering.{IsMarked}
+use Rattle.reached_graph.specs.Inner.Marks.{IsAdded}
 use Rattle.reached_graph.specs.Inner.Walks.{AreFit, AreWalked, HaveWalked, At, IsBegun, IsFresh, IsStopped, IsWalkFrom, IsWalkOn, Nowhere}
 
-module _ (map : InstructionMap) (seeds sent : List ℕ) (IsWalked IsStart : ℕ → Type 0) (leaders : List ℕ) where
+module _ (map : InstructionMap) (seeds : List ℕ) (IsGiven IsWalked IsStart : ℕ → Type 0) where
   abbrev Was : (ℕ → Type 0) → Type 0
-  Was = AreWalked map seeds sent IsWalked IsStart leaders
-
-  start_leads : {IsOpen : ℕ → Type 0} → Was IsOpen → (a : ℕ) → IsStart a → IsLeader map seeds a
-  start_leads old a starts = All-contains (IsLeader map seeds) leaders a old.leads ((old.listed a).0 starts)
+  Was = AreWalked map seeds IsGiven IsWalked IsStart
 
   -- a walk begins
-  pub walk_begins : (Now : ℕ → Type 0) (s : ℕ) → ¬ IsWalked s → IsAdded IsWalked Now s → Contains sent s → Was Nowhere → AreWalked map seeds sent Now IsStart leaders (At s)
+  pub walk_begins : (Now : ℕ → Type 0) (s : ℕ) → ¬ IsWalked s → IsAdded IsWalked Now s → IsGiven s → Was Nowhere → AreWalked map seeds IsGiven Now IsStart (At s)
   walk_begins Now s off added there old = record {
     reached = λ a walked. elim (added.only a walked) [
-      | inl e ↦ subst (Reached map seeds) (sym e) (start_leads old s (old.given s there)).reached
+      | inl e ↦ subst (Reached map seeds) (sym e) (old.leads s (old.given s there)).reached
       | inr before ↦ old.reached a before
     ];
     leads = old.leads;
-    listed = old.listed;
     given = old.given;
     begun = λ a starts. elim (old.begun a starts) [
       | inl walked ↦ inl (added.kept a walked)
@@ -69,7 +66,6 @@ module _ (map : InstructionMap) (seeds sent : List ℕ) (IsWalked IsStart : ℕ 
   walk_ends here ends old = record {
     reached = old.reached;
     leads = old.leads;
-    listed = old.listed;
     given = old.given;
     begun = old.begun;
     came = λ a walked. elim (old.came a walked) [
@@ -98,7 +94,6 @@ module _ (map : InstructionMap) (seeds sent : List ℕ) (IsWalked IsStart : ℕ 
     walk_stops starts = record {
       reached = old.reached;
       leads = old.leads;
-      listed = old.listed;
       given = old.given;
       begun = old.begun;
       came = λ a walked. elim (old.came a walked) [
@@ -131,14 +126,13 @@ module _ (map : InstructionMap) (seeds sent : List ℕ) (IsWalked IsStart : ℕ 
           | inr more ↦ elim more [ inl on ↦ absurd (off on) | inr st ↦ absurd (no_start st) ]
         ]
 
-        pub walk_goes : AreWalked map seeds sent Now IsStart leaders (At next)
+        pub walk_goes : AreWalked map seeds IsGiven Now IsStart (At next)
         walk_goes = record {
           reached = λ a walked. elim (added.only a walked) [
             | inl e ↦ subst (Reached map seeds) (sym e) (Reached.onward (old.reached here walked_here) (next_is_successor map here next goes_on))
             | inr before ↦ old.reached a before
           ];
           leads = old.leads;
-          listed = old.listed;
           given = old.given;
           begun = λ a starts. elim (old.begun a starts) [
             | inl walked ↦ inl (added.kept a walked)
@@ -181,27 +175,20 @@ module _ (map : InstructionMap) (seeds sent : List ℕ) (IsWalked IsStart : ℕ 
             ]
 
       -- it comes to where a walk was
-      module _ (Now : ℕ → Type 0) (lawful : IsLawful map) (was : IsWalked next) (added : IsAdded IsStart Now next) (more_leaders : List ℕ) (are : more_leaders ≡ leaders ++ next ∷ []) where
+      module _ (Now : ℕ → Type 0) (lawful : IsLawful map) (was : IsWalked next) (added : IsAdded IsStart Now next) where
         next_leads : IsLeader map seeds next
         next_leads = elim (old.came next was) [
           | inl st ↦ absurd (no_start st)
           | inr from ↦ joined map seeds lawful from.0 here next (old.reached from.0 from.1) (old.reached here walked_here) from.3 goes_on from.2
         ]
 
-        pub walk_joins : AreWalked map seeds sent IsWalked Now more_leaders Nowhere
+        pub walk_joins : AreWalked map seeds IsGiven IsWalked Now Nowhere
         walk_joins = record {
           reached = old.reached;
-          leads = subst (All (IsLeader map seeds)) (sym are) (All-push (IsLeader map seeds) leaders next old.leads next_leads);
-          listed = λ a. (
-            λ starts. subst (λ xs. Contains xs a) (sym are) (elim (added.only a starts) [
-              | inl e ↦ subst (Contains (leaders ++ next ∷ [])) (sym e) (Contains-push leaders next)
-              | inr before ↦ Contains-append_left leaders (next ∷ []) a ((old.listed a).0 before)
-            ]),
-            λ c. elim (Contains-push_cases leaders next a (subst (λ xs. Contains xs a) are c)) [
-              | inl before ↦ added.kept a ((old.listed a).1 before)
-              | inr e ↦ subst Now e added.here
-            ],
-          );
+          leads = λ a starts. elim (added.only a starts) [
+            | inl e ↦ subst (IsLeader map seeds) (sym e) next_leads
+            | inr before ↦ old.leads a before
+          ];
           given = λ a c. added.kept a (old.given a c);
           begun = λ a starts. elim (added.only a starts) [
             | inl e ↦ inl (subst IsWalked (sym e) was)
@@ -226,27 +213,27 @@ module _ (map : InstructionMap) (seeds sent : List ℕ) (IsWalked IsStart : ℕ 
 
 -- the same of the walks
 
-module _ (map : InstructionMap) (number : ℕ → ℕ) (seeds sent : List ℕ) (old new : Walks) where
-  pub walks_begin : (s : ℕ) → IsBegun map number s old new → Contains sent s → HaveWalked map number seeds sent old Nowhere → HaveWalked map number seeds sent new (At s)
+module _ (map : InstructionMap) (number : ℕ → ℕ) (seeds : List ℕ) (sent : List Bool) (old new : Walks) where
+  pub walks_begin : (s : ℕ) → IsBegun map number s old new → IsMarked map number sent s → HaveWalked map number seeds sent old Nowhere → HaveWalked map number seeds sent new (At s)
   walks_begin s begun there have =
-      rw (begun.starts, begun.leaders)
-      (walk_begins map seeds sent (IsMarked map number old.walked.items) (IsMarked map number old.starts.items) old.leaders.items (IsMarked map number new.walked.items) s begun.off begun.walked there have)
+      rw begun.starts
+      (walk_begins map seeds (IsMarked map number sent) (IsMarked map number old.walked.items) (IsMarked map number old.starts.items) (IsMarked map number new.walked.items) s begun.off begun.walked there have)
 
   module _ (lawful : IsLawful map) (here next : ℕ) (goes : GoesOnTo map here next) (walked : IsMarked map number old.walked.items here) (have : HaveWalked map number seeds sent old (At here)) where
     pub walks_go : IsFresh map number next old new → HaveWalked map number seeds sent new (At next)
     walks_go fresh =
         let begun : IsBegun map number next old new = fresh.begun in
-        rw (begun.starts, begun.leaders)
-        (walk_goes map seeds sent (IsMarked map number old.walked.items) (IsMarked map number old.starts.items) old.leaders.items here next goes have walked fresh.no_start (IsMarked map number new.walked.items) lawful begun.off begun.walked)
+        rw begun.starts
+        (walk_goes map seeds (IsMarked map number sent) (IsMarked map number old.walked.items) (IsMarked map number old.starts.items) here next goes have walked fresh.no_start (IsMarked map number new.walked.items) lawful begun.off begun.walked)
 
     pub walks_stop : IsStopped map number next old new → HaveWalked map number seeds sent new Nowhere
     walks_stop stopped = elim stopped [
       | inl (starts, same) ↦
           subst (λ (w : Walks). HaveWalked map number seeds sent w Nowhere) (sym same)
-          (walk_stops map seeds sent (IsMarked map number old.walked.items) (IsMarked map number old.starts.items) old.leaders.items here next goes have starts)
+          (walk_stops map seeds (IsMarked map number sent) (IsMarked map number old.walked.items) (IsMarked map number old.starts.items) here next goes have starts)
       | inr join ↦
           rw join.walked
-          (walk_joins map seeds sent (IsMarked map number old.walked.items) (IsMarked map number old.starts.items) old.leaders.items here next goes have walked join.no_start (IsMarked map number new.starts.items) lawful join.was_walked join.starts new.leaders.items join.leaders)
+          (walk_joins map seeds (IsMarked map number sent) (IsMarked map number old.walked.items) (IsMarked map number old.starts.items) here next goes have walked join.no_start (IsMarked map number new.starts.items) lawful join.was_walked join.starts)
     ]
 
 -- what a walk that stops leaves walked over

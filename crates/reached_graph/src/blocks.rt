@@ -1,41 +1,68 @@
 //! One block, from its leader up to its last instruction.
 
-ghost use Rattle.std.specs.Prelude.{◌≡◌, ◌↔◌, IsSome, IsTrue, Some, length};
-ghost use Rattle.cfg_model.specs.Graph.Block.{IsBlockOf};
+ghost use Rattle.std.specs.Prelude.{◌≡◌, ◌↔◌, IfSome, IsSome, IsTrue, Some, length};
+ghost use Rattle.cfg_model.specs.Graph.Block.{IsBlockOf, IsLastOf};
+ghost use Rattle.cfg_model.specs.Program.Chain.{GoesOnTo, OnChain};
 ghost use Rattle.cfg_model.specs.Program.Instructions.{IsLawful, flow_at};
-ghost use Rattle.reached_terms.specs.Numbering.{IsNumbering};
-ghost use Rattle.reached_graph.specs.Inner.Marks.{IsMarked};
-ghost use Rattle.reached_graph.specs.Inner.Blocks.{IsEndOf};
+ghost use Rattle.reached_terms.specs.Numbering.{IsMarked, IsNumbering};
+ghost use Rattle.reached_graph.specs.Inner.Blocks.{StopsAt};
 
+use crate::walks::next_of;
 use cfg_model::{Block, Chains, EndKind, Flow, block_by};
 use reached_terms::Numbered;
 
-/// Where a block ends.
-#[derive(Clone, Copy)]
-pub(crate) struct BlockEnd {
-    /// The address of its last instruction.
-    pub(crate) last: u64,
-    /// The flow of that, which is decoded once.
-    pub(crate) flow: Flow,
+/// The last address of the block from `s`, if the next one above starts at `next`. `None` if
+/// control goes straight on over that.
+/// Time: linear in the instructions of the block if that goes on into the next, and else that of
+/// [`term`](Chains::term).
+pub(crate) fn last_before<C: Chains>(code: &C, s: u64, next: Option<u64>) -> Option<u64>
+    requires { IsSome (C.map code.now s) }
+    ensures { IfSome result (StopsAt (C.map code.now) s next) }
+{
+    let k = code.term(s);
+    match next {
+        Some(next) if next <= k => last_to(code, s, next),
+        _ => Some(k),
+    }
 }
 
-/// The end of the block from `s`, if blocks start where the marks are set: before the next of them,
-/// or at the first instruction that is not straight.
-/// Time: linear in the instructions of the block.
-pub(crate) fn end_of<C: Numbered>(code: &C, marks: &[bool], s: u64) -> BlockEnd
-    requires numbering { IsNumbering (C.map code.now) (C.number code.now) (length marks.now) }
-    requires stands { IsSome (C.map code.now s) }
-    ensures { IsEndOf (C.map code.now) (IsMarked (C.map code.now) (C.number code.now) marks.now) s
-        result }
+/// The address on the chain of `s` from which control goes straight on to `t`, if there is one.
+/// Time: linear in the instructions in between.
+fn last_to<C: Chains>(code: &C, s: u64, t: u64) -> Option<u64>
+    requires { IsSome (C.map code.now s) }
+    ensures { IfSome result (λ k. OnChain (C.map code.now) s k × GoesOnTo (C.map code.now) k t) }
 {
     let mut at = s;
-    loop {
-        let flow = code.flow(at);
-        match flow {
-            Flow::Straight { next } if !is_marked(code, marks, next) => at = next,
-            _ => return BlockEnd { last: at, flow },
+    while let Flow::Straight { next } = code.flow(at) {
+        if next == t {
+            return Some(at);
         }
+        if next > t {
+            return None;
+        }
+        at = next;
     }
+    None
+}
+
+/// The last address of the block from `s`, if blocks start where the marks are set: before the next
+/// of them, or at the first instruction that is not straight.
+/// Time: linear in the instructions of the block.
+pub(crate) fn last_of<C: Numbered>(code: &C, marks: &[bool], s: u64) -> u64
+    requires numbering { IsNumbering (C.map code.now) (C.number code.now) (length marks.now) }
+    requires stands { IsSome (C.map code.now s) }
+    ensures { IsLastOf (C.map code.now) (IsMarked (C.map code.now) (C.number code.now) marks.now) s
+        result }
+{
+    let k = code.term(s);
+    let mut at = s;
+    while let Some(next) = next_of(code, at, k) {
+        if is_marked(code, marks, next) {
+            return at;
+        }
+        at = next;
+    }
+    at
 }
 
 /// Whether the mark of the address `a` is set.

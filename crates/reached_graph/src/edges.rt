@@ -1,36 +1,35 @@
 //! The edges of a block, and all edges in the order of a graph.
 
-ghost use Rattle.std.specs.Prelude.{◌≡◌, ◌↔◌, ℕ, List, Contains, IsTrue, OnOk, Some};
+ghost use Rattle.std.specs.Prelude.{◌≡◌, ◌↔◌, ℕ, List, Contains, OnOk, Some};
 ghost use Rattle.cfg_model.specs.Graph.Edge.{Leaves};
 ghost use Rattle.cfg_model.specs.Graph.Graph.{EdgeBefore};
 ghost use Rattle.cfg_model.specs.Graph.Listing.{Gains, Lists};
 ghost use Rattle.cfg_model.specs.Program.Instructions.{IsLawful, flow_at};
 ghost use Rattle.cfg_model.specs.Program.Reach.{Reached};
 ghost use Rattle.cfg_model.specs.Program.Status.{Returns};
-ghost use Rattle.cfg_model.specs.Program.Successors.{IsCall};
-ghost use Rattle.reached_graph.specs.Inner.Ways.{TellsReached};
+ghost use Rattle.reached_graph.specs.Inner.Ways.{IfCalls, TellsReached};
 
-use crate::blocks::BlockEnd;
 use cfg_model::{Chains, Edge, Flow, Memory, add_edges_by, edges_in_order};
 
-/// Gains the edges of the block that starts at `s` and has this end.
+/// Gains the edges of the block from `s` to the instruction at `k`, whose flow this is.
 pub(crate) fn add_ways<C: Chains, F: Fn(u64) -> bool>(
     code: &C,
     returns: &F,
     s: u64,
-    end: BlockEnd,
+    k: u64,
+    flow: Flow,
     edges: &mut Vec<Edge>,
 ) -> Result<(), Memory>
     requires lawful { IsLawful (C.map code.now) }
-    requires flow { flow_at (C.map code.now) end.last ≡ Some end.flow }
-    requires returns { (seeds : List ℕ) × Reached (C.map code.now) seeds end.last
+    requires flow { flow_at (C.map code.now) k ≡ Some flow }
+    requires returns { (seeds : List ℕ) × Reached (C.map code.now) seeds k
         × TellsReached (C.map code.now) seeds (F.pre returns.now) (F.post returns.now) }
     ensures { OnOk result (Gains edges.old.items edges.new.items
-        (Leaves (C.map code.now) (Returns (C.map code.now)) s end.last)) }
+        (Leaves (C.map code.now) (Returns (C.map code.now)) s k)) }
 {
-    let back = callee_returns(code, returns, end);
+    let back = callee_returns(flow, returns);
     let before = edges.len();
-    add_edges_by(code, s, end.last, end.flow, back, edges)?;
+    add_edges_by(code, s, k, flow, back, edges)?;
     sort_from(edges, before);
     Ok(())
 }
@@ -44,16 +43,12 @@ fn sort_from(edges: &mut Vec<Edge>, from: usize)
     edges[from..].sort_unstable();
 }
 
-/// If a known address is called at the end of a block: whether it returns.
-fn callee_returns<C: Chains, F: Fn(u64) -> bool>(code: &C, returns: &F, end: BlockEnd) -> bool
-    requires flow { flow_at (C.map code.now) end.last ≡ Some end.flow }
-    requires returns { (seeds : List ℕ) × Reached (C.map code.now) seeds end.last
-        × TellsReached (C.map code.now) seeds (F.pre returns.now) (F.post returns.now) }
-    ensures { (target : _) (fall : _) → IsCall (C.map code.now) end.last target fall
-        → IsTrue result ↔ Returns (C.map code.now) target }
+/// What `returns` says of the target, if this is the flow of a call of a known address.
+fn callee_returns<F: Fn(u64) -> bool>(flow: Flow, returns: &F) -> bool
+    requires { IfCalls flow (λ target. F.pre returns.now target) }
+    ensures { IfCalls flow (λ target. F.post returns.now target result) }
 {
-    let _ = code;
-    match end.flow {
+    match flow {
         Flow::Call { target, .. } => returns(target),
         _ => false,
     }

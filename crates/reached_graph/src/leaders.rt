@@ -1,65 +1,217 @@
 //! The leaders of a program: the addresses where its blocks start.
 
-ghost use Rattle.std.specs.Prelude.{◌↔◌, ℕ, List, All, Contains, IfOk, IsSome};
+ghost use Rattle.std.specs.Prelude.{◌≡◌, ◌↔◌, ◌<◌, ◌≤◌, ◌+◌, ℕ, List, length, get_or, slice_get};
+ghost use Rattle.std.specs.Prelude.{Contains, IfOk, OnOk, IsSome, IsTrue};
 ghost use Rattle.std.specs.List.Sorted.{IsStrictlyIncreasing};
-ghost use Rattle.reached_graph.specs.Inner.Leaders.{AreLeaders, AreSent};
-ghost use Rattle.reached_graph.specs.Inner.Marks.{IsMarked, IsMarkedAt};
+ghost use Rattle.cfg_model.specs.Graph.Block.{IsLastOf};
+ghost use Rattle.cfg_model.specs.Graph.Leader.{IsLeader};
+ghost use Rattle.cfg_model.specs.Program.Instructions.{IsLawful};
+ghost use Rattle.reached_terms.specs.Numbering.{IsMarked, IsNumbering};
+ghost use Rattle.reached_terms.specs.Reached.{AreReachedTerms};
+ghost use Rattle.reached_graph.specs.Inner.Blocks.{AreCutAt, HoldMixed, IsMixed};
+ghost use Rattle.reached_graph.specs.Inner.Leaders.{AreLeaders, AreMarkedBlocks};
 
+use crate::blocks::{last_before, last_of};
 use crate::walks::Walks;
 use cfg_model::Memory;
-use reached_terms::Numbered;
+use reached_terms::{Numbered, ReachedTerms, marked_addresses};
 use std::alloc::Global;
 
-/// The leaders of a program.
+/// The leaders of a program, and where their blocks end.
 #[derive(Drop)]
 pub(crate) struct Leaders {
-    /// Whether the address with this number is a leader.
-    pub(crate) marks: Vec<bool>,
     /// The leaders, rising.
-    pub(crate) addresses: Vec<u64>,
+    pub(crate) starts: Vec<u64>,
+    /// The address of the last instruction of the block of each.
+    pub(crate) lasts: Vec<u64>,
+}
+
+/// The leaders of the program `code`, from what it reaches: the addresses where its blocks start,
+/// rising. [`Memory`] if memory ran out. Time and memory: those of finding the blocks, as of
+/// [`graph_from`](crate::graph_from).
+pub fn leaders_of<C: Numbered>(
+    alloc: Global,
+    code: &C,
+    reached: &ReachedTerms,
+) -> Result<Vec<u64>, Memory>
+    requires { (seeds : List ℕ)
+        × AreReachedTerms (C.map code.now) (C.number code.now) seeds reached.now }
+    ensures rising { IfOk result (λ v. IsStrictlyIncreasing v.items) }
+    ensures exact { IfOk result (λ v. (seeds : List ℕ)
+        → AreReachedTerms (C.map code.now) (C.number code.now) seeds reached.now
+        → (a : ℕ) → Contains v.items a ↔ IsLeader (C.map code.now) seeds a) }
+{
+    Ok(Leaders::of(alloc, code, reached)?.starts)
 }
 
 impl Leaders {
-    /// The leaders of the program `code`, from all addresses that control is sent to.
-    /// Time: linear in the reached instructions and in the numbers.
-    /// Memory: two bytes for each number, and 16 for each leader.
-    pub(crate) fn of<C: Numbered>(alloc: Global, code: &C, sent: &[u64]) -> Result<Leaders, Memory>
-        requires { All (λ a. IsSome (C.map code.now a)) sent.now }
+    /// The leaders of the program `code`, from what it reaches.
+    ///
+    /// All are addresses that control is sent to, but those where two streams join. Two streams can
+    /// join only where two blocks overlap that are cut where control is sent: so only the blocks
+    /// that overlap are walked over.
+    /// Time: linear in the numbers, in the instructions of the blocks that go straight on to the
+    /// next, and in those of the blocks that overlap. Memory, but for the spare room of vectors:
+    /// 16 bytes for each leader; if blocks overlap, up to 40, and two for each number.
+    pub(crate) fn of<C: Numbered>(
+        alloc: Global,
+        code: &C,
+        reached: &ReachedTerms,
+    ) -> Result<Leaders, Memory>
+        requires { (seeds : List ℕ)
+            × AreReachedTerms (C.map code.now) (C.number code.now) seeds reached.now }
         ensures { IfOk result (λ leaders. (seeds : List ℕ)
-            → AreSent (C.map code.now) seeds sent.now
-            → AreLeaders (C.map code.now) (C.number code.now) seeds leaders) }
+            → AreReachedTerms (C.map code.now) (C.number code.now) seeds reached.now
+            → AreLeaders (C.map code.now) seeds leaders) }
     {
-        let walks = Walks::of(alloc, code, sent)?;
-        let addresses = marked(alloc, code, &walks.starts)?;
-        Ok(Leaders {
-            marks: walks.starts,
-            addresses,
-        })
-    }
-}
-
-/// The addresses whose marks are set, rising.
-/// Time: linear in the numbers.
-fn marked<C: Numbered>(alloc: Global, code: &C, marks: &[bool]) -> Result<Vec<u64>, Memory>
-    ensures rising { IfOk result (λ v. IsStrictlyIncreasing v.items) }
-    ensures exact { IfOk result (λ v. (a : ℕ) → Contains v.items a
-        ↔ IsMarked (C.map code.now) (C.number code.now) marks.now a) }
-{
-    let mut addresses = Vec::new(alloc);
-    for n in 0..code.numbers() {
-        if let Some(a) = marked_at(code, marks, n) {
-            addresses.push(a)?;
+        know_laws(code);
+        let leaders = Leaders::cut(alloc, code, reached.sent())?;
+        let mixed = mixed_starts(alloc, &leaders.starts, &leaders.lasts)?;
+        if mixed.is_empty() {
+            return Ok(leaders);
         }
+        let walks = Walks::of(alloc, code, reached.sent(), &mixed)?;
+        Ok(Leaders::cut(alloc, code, &walks.starts)?)
     }
-    Ok(addresses)
+
+    /// The blocks that start exactly where the marks are set, and are cut there.
+    fn cut<C: Numbered>(alloc: Global, code: &C, marks: &[bool]) -> Result<Leaders, Memory>
+        requires lawful { IsLawful (C.map code.now) }
+        requires numbering { IsNumbering (C.map code.now) (C.number code.now) (length marks.now) }
+        ensures { IfOk result
+            (AreMarkedBlocks (C.map code.now) (IsMarked (C.map code.now) (C.number code.now)
+            marks.now)) }
+    {
+        let starts = marked_addresses(alloc, code, marks)?;
+        let lasts = lasts_cut(alloc, code, marks, &starts)?;
+        Ok(Leaders { starts, lasts })
+    }
 }
 
-/// The address with the number `n`, if there is one and its mark is set.
-fn marked_at<C: Numbered>(code: &C, marks: &[bool], n: u32) -> Option<u64>
-    ensures { IsMarkedAt (C.map code.now) (C.number code.now) marks.now n result }
+/// Each answer of a program shows its laws, so this asks it for one.
+fn know_laws<C: Numbered>(code: &C)
+    ensures lawful { IsLawful (C.map code.now) }
+    ensures apart { (count : ℕ)
+        → ((a : ℕ) → IsSome (C.map code.now a) → C.number code.now a < count)
+        → IsNumbering (C.map code.now) (C.number code.now) count }
 {
-    match marks.get(n as usize) {
-        Some(true) => code.address(n),
-        _ => None,
+    let _ = code.numbers();
+}
+
+/// The start after the one at place `i`, if there is one.
+fn next_after(starts: &[u64], i: usize) -> Option<u64>
+    requires { i < length starts.now }
+    ensures { result ≡ slice_get starts.now (i + 1) }
+{
+    starts.get(i + 1).copied()
+}
+
+/// The last addresses of the blocks that start at these addresses, which are all those whose marks
+/// are set, and are cut there.
+fn lasts_cut<C: Numbered>(
+    alloc: Global,
+    code: &C,
+    marks: &[bool],
+    starts: &[u64],
+) -> Result<Vec<u64>, Memory>
+    requires lawful { IsLawful (C.map code.now) }
+    requires numbering { IsNumbering (C.map code.now) (C.number code.now) (length marks.now) }
+    requires rise { IsStrictlyIncreasing starts.now }
+    requires exact { (a : ℕ) → Contains starts.now a
+        ↔ IsMarked (C.map code.now) (C.number code.now) marks.now a }
+    ensures { IfOk result (λ v. AreCutAt (C.map code.now)
+        (IsMarked (C.map code.now) (C.number code.now) marks.now) starts.now v.items) }
+{
+    let mut lasts = Vec::with_capacity(alloc, starts.len())?;
+    for i in 0..starts.len() {
+        lasts.push(last_at(code, marks, starts, i))?;
     }
+    Ok(lasts)
+}
+
+/// The last address of the block from the start at place `i`. It is decoded only if it goes
+/// straight on to the next start or over that.
+fn last_at<C: Numbered>(code: &C, marks: &[bool], starts: &[u64], i: usize) -> u64
+    requires lawful { IsLawful (C.map code.now) }
+    requires numbering { IsNumbering (C.map code.now) (C.number code.now) (length marks.now) }
+    requires rise { IsStrictlyIncreasing starts.now }
+    requires exact { (a : ℕ) → Contains starts.now a
+        ↔ IsMarked (C.map code.now) (C.number code.now) marks.now a }
+    requires stands { IsSome (C.map code.now (get_or starts.now i 0)) }
+    requires within { i < length starts.now }
+    ensures { IsLastOf (C.map code.now) (IsMarked (C.map code.now) (C.number code.now) marks.now)
+        (get_or starts.now i 0) result }
+{
+    match last_before(code, starts[i], next_after(starts, i)) {
+        Some(last) => last,
+        None => last_of(code, marks, starts[i]),
+    }
+}
+
+/// The starts of the blocks that overlap others.
+fn mixed_starts(alloc: Global, starts: &[u64], lasts: &[u64]) -> Result<Vec<u64>, Memory>
+    requires sizes { length lasts.now ≡ length starts.now }
+    ensures { IfOk result (λ v. HoldMixed starts.now lasts.now (length starts.now) v.items) }
+{
+    let mut mixed = Vec::new(alloc);
+    let mut top = 0;
+    for i in 0..starts.len() {
+        add_mixed(&mut mixed, starts, lasts, i, top)?;
+        top = higher(top, lasts[i]);
+    }
+    Ok(mixed)
+}
+
+/// Adds the start at place `i` if its block overlaps another. No last address before it is above
+/// `top`.
+fn add_mixed(
+    mixed: &mut Vec<u64>,
+    starts: &[u64],
+    lasts: &[u64],
+    i: usize,
+    top: u64,
+) -> Result<(), Memory>
+    requires within { i < length starts.now }
+    requires sizes { length lasts.now ≡ length starts.now }
+    requires top { (k : ℕ) → k < i → get_or lasts.now k 0 ≤ top }
+    requires held { HoldMixed starts.now lasts.now i mixed.old.items }
+    ensures { OnOk result (HoldMixed starts.now lasts.now (i + 1) mixed.new.items) }
+{
+    if !is_mixed(starts, lasts, i, top) {
+        return Ok(());
+    }
+    mixed.push(starts[i])?;
+    Ok(())
+}
+
+/// Whether the block at place `i` overlaps another. No last address before it is above `top`.
+fn is_mixed(starts: &[u64], lasts: &[u64], i: usize, top: u64) -> bool
+    requires within { i < length starts.now }
+    requires sizes { length lasts.now ≡ length starts.now }
+    requires top { (k : ℕ) → k < i → get_or lasts.now k 0 ≤ top }
+    ensures { IsMixed starts.now lasts.now i → IsTrue result }
+{
+    if starts[i] <= top {
+        return true;
+    }
+    is_over(starts, i, lasts[i])
+}
+
+/// Whether the next start after the one at place `i` is at most `last`.
+fn is_over(starts: &[u64], i: usize, last: u64) -> bool
+    requires { i < length starts.now }
+    ensures { i + 1 < length starts.now → get_or starts.now (i + 1) 0 ≤ last → IsTrue result }
+{
+    match next_after(starts, i) {
+        Some(next) => next <= last,
+        None => false,
+    }
+}
+
+/// The higher one of two addresses.
+fn higher(a: u64, b: u64) -> u64
+    ensures first { a ≤ result }
+    ensures second { b ≤ result }
+{
+    if a < b { b } else { a }
 }

@@ -9,7 +9,7 @@ use Rattle.cfg_model.specs.Program.Reach.{Reached}
 use Rattle.cfg_model.proofs.Program.Along.{next_is_successor}
 use Rattle.reached_terms.specs.declared.marks.Way.{Way}
 use Rattle.reached_terms.specs.declared.marks.Marks.{Marks}
-use Rattle.reached_terms.specs.Inner.Marks.{IsOn, AreNoted, AreKept, AreRight, AreTold, IsDone}
+use Rattle.reached_terms.specs.Inner.Marks.{IsOn, AreKept, AreRight, AreTold, IsDone}
 use Rattle.reached_terms.specs.Inner.Steps.{Grow, Step}
 use Rattle.reached_terms.proofs.Bits.{on_set, on_kept, on_cases, one_less}
 use Rattle.reached_terms.proofs.Growth.{done-grow}
@@ -40,8 +40,8 @@ module _ (map : InstructionMap) (number : ℕ → ℕ) (a k : ℕ) (old new : Ma
   same_untold : new.untold.items ≡ old.untold.items
   same_untold = ap (λ v. v.items) untold
 
-  same_sent : new.sent.list.items ≡ old.sent.list.items
-  same_sent = ap (λ s. s.list.items) sent
+  same_sent : new.sent.items ≡ old.sent.items
+  same_sent = ap (λ v. v.items) sent
 
   stays : (n : ℕ) → IsOn old.reached.items n → IsOn new.reached.items n
   stays n on = rw reached (on_kept old.reached.items (number k) within n on)
@@ -66,7 +66,7 @@ module _ (map : InstructionMap) (number : ℕ → ℕ) (a k : ℕ) (old new : Ma
     untold = rw same_untold kept.untold;
     last = rw (size, same_ways, same_waiting) kept.last;
     before = rw same_ways kept.before;
-    sent = subst (AreNoted map number) (sym sent) kept.sent;
+    sent = rw (size, same_sent) kept.sent;
   }
 
   arrive_grow : Grow old new

@@ -7,7 +7,7 @@ use Rattle.std.proofs.lemmas.List.Elements.{All-push, Contains-append_left, Cont
 use Rattle.cfg_model.specs.Program.Instructions.{InstructionMap}
 use Rattle.reached_terms.specs.declared.marks.Way.{Way}
 use Rattle.reached_terms.specs.declared.marks.Marks.{Marks}
-use Rattle.reached_terms.specs.Inner.Marks.{IsOn, IsNumberOf, HasWay, IsWay, IsLast, AreNoted, AreKept, AreRight, AreTold, LeadsBy, ReturnsBy, IsDone, IsDoneBy}
+use Rattle.reached_terms.specs.Inner.Marks.{IsOn, IsNumberOf, HasWay, IsWay, IsLast, AreKept, AreRight, AreTold, LeadsBy, ReturnsBy, IsDone, IsDoneBy}
 use Rattle.reached_terms.specs.Inner.Steps.{Grow, Step, IsMarked, IsLinked, left_to_tell}
 use Rattle.reached_terms.proofs.Bits.{on_set, on_kept, on_cases, one_less, none_less, is_on}
 use Rattle.reached_terms.proofs.Growth.{done-grow, step-on}
@@ -35,8 +35,8 @@ module _ (map : InstructionMap) (number : ℕ → ℕ) (n : ℕ) (old new : Mark
   same_waiting : new.waiting.items ≡ old.waiting.items
   same_waiting = ap (λ v. v.items) marked.waiting
 
-  same_sent : new.sent.list.items ≡ old.sent.list.items
-  same_sent = ap (λ s. s.list.items) marked.sent
+  same_sent : new.sent.items ≡ old.sent.items
+  same_sent = ap (λ v. v.items) marked.sent
 
   -- who is still to be told is, or was before
   untold_cases : (was : Bool) → get_or old.returns.items n true ≡ was → (was ≡ true) × (new.untold.items ≡ old.untold.items) ⊎ ((was ≡ false) × (new.untold.items ≡ old.untold.items ++ n ∷ []))
@@ -62,7 +62,7 @@ module _ (map : InstructionMap) (number : ℕ → ℕ) (n : ℕ) (old new : Mark
     untold = mark_untold (IsNumberOf map number) is_number kept.untold;
     last = rw (same_reached, same_ways, same_waiting) kept.last;
     before = rw same_ways kept.before;
-    sent = subst (AreNoted map number) (sym marked.sent) kept.sent;
+    sent = rw (same_reached, same_sent) kept.sent;
   }
 
   mark_grow : Grow old new
@@ -158,8 +158,8 @@ module _ (map : InstructionMap) (number : ℕ → ℕ) (from to : ℕ) (fall : O
   l_untold : new.untold.items ≡ old.untold.items
   l_untold = ap (λ v. v.items) linked.untold
 
-  l_sent : new.sent.list.items ≡ old.sent.list.items
-  l_sent = ap (λ s. s.list.items) linked.sent
+  l_sent : new.sent.items ≡ old.sent.items
+  l_sent = ap (λ v. v.items) linked.sent
 
   link_last : (n d : ℕ) → n < length old.reached.items → IsLast (old.ways.items ++ way ∷ []) n (length (old.ways.items ++ way ∷ [])) (get_or (set old.waiting.items to (length old.ways.items + 1)) n d)
   link_last n d inside = elim (cases_eq n to) [
@@ -199,7 +199,7 @@ module _ (map : InstructionMap) (number : ℕ → ℕ) (from to : ℕ) (fall : O
     untold = rw l_untold kept.untold;
     last = rw (l_reached, linked.ways, linked.waiting) link_last;
     before = rw linked.ways link_before;
-    sent = subst (AreNoted map number) (sym linked.sent) kept.sent;
+    sent = rw (l_reached, l_sent) kept.sent;
   }
 
   link_grow : Grow old new

@@ -3,7 +3,7 @@ use Rattle.std.proofs.Common.{◌≡◌, ℕ, ◌+◌, ◌<◌, ◌≤◌, List,
 use Rattle.std.specs.Prelude.{All, Contains}
 use Rattle.std.proofs.lemmas.Bool.{cases_order}
 use Rattle.std.proofs.lemmas.List.{get_or_default, take_more, take_all}
-use Rattle.std.proofs.lemmas.List.Elements.{Contains-push_cases}
+use Rattle.std.proofs.lemmas.List.Elements.{All-contains, Contains-push_cases}
 use Rattle.cfg_model.specs.Program.Instructions.{InstructionMap}
 use Rattle.cfg_model.specs.Program.Chain.{IsTerminator, IsTerminatorOf}
 use Rattle.cfg_model.specs.Program.Reach.{Reached}
@@ -18,13 +18,13 @@ use Rattle.reached_terms.proofs.Sending.{reached_stands}
 
 -- The terminator of s is marked, and control is sent to s.
 pub IsFrom : InstructionMap → (ℕ → ℕ) → Marks → ℕ → Type 0
-IsFrom map number m s = (k : ℕ) × IsTerminatorOf map s k × IsOn m.reached.items (number k) × Contains m.sent.list.items s
+IsFrom map number m s = (k : ℕ) × IsTerminatorOf map s k × IsOn m.reached.items (number k) × IsOn m.sent.items (number s)
 
 pub from-grow : (map : InstructionMap) (number : ℕ → ℕ) (old new : Marks) → Grow old new → (s : ℕ) → IsFrom map number old s → IsFrom map number new s
 unfolding IsFrom
-from-grow map number old new grow s from = (from.0, from.1, grow.reached (number from.0) from.2, grow.sent s from.3)
+from-grow map number old new grow s from = (from.0, from.1, grow.reached (number from.0) from.2, grow.sent (number s) from.3)
 
-pub from-arrived : (map : InstructionMap) (number : ℕ → ℕ) (m : Marks) (s n : ℕ) → IsArrived map number m s n → Contains m.sent.list.items s → IsFrom map number m s
+pub from-arrived : (map : InstructionMap) (number : ℕ → ℕ) (m : Marks) (s n : ℕ) → IsArrived map number m s n → IsOn m.sent.items (number s) → IsFrom map number m s
 unfolding IsFrom
 from-arrived map number m s n at sent = (at.end, at.ends, subst (λ k. IsOn m.reached.items k) at.is at.reached, sent)
 
@@ -37,7 +37,7 @@ pub record IsSeeded (map : InstructionMap) (number : ℕ → ℕ) (seeds seen : 
   pub from : (s : ℕ) → Contains seen s → IsFrom map number m s
 
 module _ (map : InstructionMap) (number : ℕ → ℕ) (seeds : List ℕ) where
-  pub seed-on : (i : ℕ) (old new : Marks) (n : ℕ) → i < length seeds → IsSeeded map number seeds (take i seeds) old → Step map number (λ all. IsSent map all (get_or seeds i 0)) old new → IsArrived map number new (get_or seeds i 0) n → Contains new.sent.list.items (get_or seeds i 0)
+  pub seed-on : (i : ℕ) (old new : Marks) (n : ℕ) → i < length seeds → IsSeeded map number seeds (take i seeds) old → Step map number (λ all. IsSent map all (get_or seeds i 0)) old new → IsArrived map number new (get_or seeds i 0) n → IsOn new.sent.items (number (get_or seeds i 0))
       → new.untold ≡ old.untold → IsSeeded map number seeds (take (i + 1) seeds) new
   seed-on i old new n within so_far step at sent untold = record {
     kept = step.kept;
@@ -110,16 +110,17 @@ module _ (map : InstructionMap) (number : ℕ → ℕ) (seeds : List ℕ) where
         let is : get_or m.order.items at 0 ≡ k = get_or_default m.order.items at 0 k there.1 ∙ there.2 in
         subst (IsVisited map number m) is (closing.visited at (omega (arith, there.1, past)) there.1)
 
-    pub closed : All (λ s. IsSome (map s)) seeds → AreReachedTerms map number seeds (record { reached = m.reached.items; returns = m.returns.items; sent = m.sent.list.items })
+    pub closed : All (λ s. IsSome (map s)) seeds → AreReachedTerms map number seeds (record { reached = m.reached.items; returns = m.returns.items; sent = m.sent.items })
     unfolding IsFrom
     closed known =
         let so_far = closing.seeded in
         record {
           below = so_far.kept.numbering.below;
           sizes = so_far.kept.returns;
+          sent_size = so_far.kept.sent;
           known = λ a reached. reached_stands so_far.kept.lawful known reached;
-          reached = exact map number seeds m so_far.kept so_far.right (so_far.told 0) so_far.none all_visited so_far.from;
-          returns = returns_exact map number seeds m so_far.kept so_far.right (so_far.told 0) so_far.none all_visited so_far.from;
-          sent = sent_exact map number seeds m so_far.kept so_far.right (so_far.told 0) so_far.none all_visited so_far.from;
-          once = so_far.kept.sent.once;
+          reached = exact map number seeds known m so_far.kept so_far.right (so_far.told 0) so_far.none all_visited so_far.from;
+          ends = λ a on. (All-contains (λ k. IsTerminator map k × IsOn m.reached.items (number k)) m.order.items a so_far.kept.order (so_far.kept.listed a on.0 on.1)).0;
+          returns = returns_exact map number seeds known m so_far.kept so_far.right (so_far.told 0) so_far.none all_visited so_far.from;
+          sent = sent_exact map number seeds known m so_far.kept so_far.right (so_far.told 0) so_far.none all_visited so_far.from;
         }

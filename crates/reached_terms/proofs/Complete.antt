@@ -1,6 +1,6 @@
 -- Where all that was found is visited and told, everything reached is marked.
 use Rattle.std.proofs.Common.{◌≡◌, ℕ, ◌⊎◌, ◌↔◌, List, [], length, get_or, Option, Some, None, IsSome, refl, sym, ap, subst, arith, inl, inr}
-use Rattle.std.specs.Prelude.{Contains}
+use Rattle.std.specs.Prelude.{All, Contains}
 use Rattle.std.specs.Option.{option_map}
 use Rattle.cfg_model.specs.declared.flow.Flow.{Flow}
 use Rattle.cfg_model.specs.declared.flow.Flow.TheVariants.{Straight, Branch, Jump, Call, IndirectCall, Table, Return, Unknown, Stop}
@@ -12,11 +12,10 @@ use Rattle.cfg_model.specs.Program.Status.{Returns}
 use Rattle.cfg_model.proofs.Program.ChainEnds.{end_from, one_end}
 use Rattle.cfg_model.proofs.Program.ChainPlaces.{ends_at}
 use Rattle.cfg_model.proofs.Program.Listed.{none_in, in_cases}
-use Rattle.std.proofs.lemmas.List.Elements.{All-contains}
 use Rattle.reached_terms.specs.declared.marks.Way.{Way}
 use Rattle.reached_terms.specs.declared.marks.Marks.{Marks}
 use Rattle.reached_terms.specs.Sent.{IsSent}
-use Rattle.reached_terms.proofs.Sending.{sends, falls}
+use Rattle.reached_terms.proofs.Sending.{sends, falls, sent_reached, reached_stands}
 use Rattle.reached_terms.specs.Inner.Marks.{IsOn, HasWay, AreKept, AreRight, AreTold, IsVisited, IsDoneBy, IsLed}
 
 -- ---- terminators
@@ -60,10 +59,10 @@ call_ends map a target fall call = subst EndsChain (sym call) tt
 
 -- ---- the closure
 
-module _ (map : InstructionMap) (number : ℕ → ℕ) (seeds : List ℕ) (m : Marks)
+module _ (map : InstructionMap) (number : ℕ → ℕ) (seeds : List ℕ) (known : All (λ s. IsSome (map s)) seeds) (m : Marks)
     (kept : AreKept map number m) (right : AreRight map number seeds m) (told : AreTold map number m 0 0) (none : length m.untold.items ≡ 0)
     (visited : (k : ℕ) → Contains m.order.items k → IsVisited map number m k)
-    (from_seeds : (s : ℕ) → Contains seeds s → (k : ℕ) × IsTerminatorOf map s k × IsOn m.reached.items (number k) × Contains m.sent.list.items s) where
+    (from_seeds : (s : ℕ) → Contains seeds s → (k : ℕ) × IsTerminatorOf map s k × IsOn m.reached.items (number k) × IsOn m.sent.items (number s)) where
   done_at : (from to : ℕ) (fall : Option ℕ) (has : HasWay m.ways.items from to fall) → IsOn m.returns.items to → IsDoneBy map number m has.way.from has.way.fall
   done_at from to fall has on =
       let i = has.there.0 in
@@ -132,20 +131,20 @@ module _ (map : InstructionMap) (number : ℕ → ℕ) (seeds : List ℕ) (m : M
       let led : IsLed map number m (number a) fall = done (number a) (number called.end) (Some fall) called.way (returns_marked returns called.end called.ends called.reached) in
       same_end fall led.end t led.ends ends led.reached
 
-  -- where control is sent is listed
-  sent_listed : (a : ℕ) → IsSent map seeds a → Contains m.sent.list.items a
-  sent_listed a (IsSent.seed there) = (from_seeds a there).3
-  sent_listed a (IsSent.target {k = k} {flow = flow} reached at there) =
+  -- where control is sent is marked
+  sent_marked : (a : ℕ) → IsSent map seeds a → IsOn m.sent.items (number a)
+  sent_marked a (IsSent.seed there) = (from_seeds a there).3
+  sent_marked a (IsSent.target {k = k} {flow = flow} reached at there) =
       let from = sends map k a flow at there in
       let visit = visit_of k from.0 (reached_marked reached k (record { reaches = OnChain.here; ends = from.0 })) in
       elim from.1 [
         | inl next ↦ (visit.onward a next).sent
         | inr call ↦ (visit.called a call.0 call.1).sent
       ]
-  sent_listed a (IsSent.fall {k = k} {flow = flow} reached at is) =
+  sent_marked a (IsSent.fall {k = k} {flow = flow} reached at is) =
       let from = falls map k a flow at is in
       ((visit_of k from.0 (reached_marked reached k (record { reaches = OnChain.here; ends = from.0 }))).onward a from.1).sent
-  sent_listed a (IsSent.past_call {k = k} {target = target} reached call returns) =
+  sent_marked a (IsSent.past_call {k = k} {target = target} reached call returns) =
       let stops = call_ends map k target (Some a) call in
       let called = (visit_of k stops (reached_marked reached k (record { reaches = OnChain.here; ends = stops }))).called target (Some a) call in
       let led : IsLed map number m (number k) a = done (number k) (number called.end) (Some a) called.way (returns_marked returns called.end called.ends called.reached) in
@@ -165,5 +164,5 @@ module _ (map : InstructionMap) (number : ℕ → ℕ) (seeds : List ℕ) (m : M
         returns_marked returns k here (reached_marked reached k here),
   )
 
-  pub sent_exact : (a : ℕ) → Contains m.sent.list.items a ↔ IsSent map seeds a
-  sent_exact a = (λ there. All-contains (IsSent map seeds) m.sent.list.items a right.sent there, λ sent. sent_listed a sent)
+  pub sent_exact : (a : ℕ) → (IsSome (map a) × IsOn m.sent.items (number a)) ↔ IsSent map seeds a
+  sent_exact a = (λ on. right.sent a on.0 on.1, λ sent. (reached_stands kept.lawful known (sent_reached map seeds a sent), sent_marked a sent))

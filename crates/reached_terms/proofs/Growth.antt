@@ -37,14 +37,14 @@ module _ (map : InstructionMap) (number : ℕ → ℕ) (old new : Marks) (grow :
   way-grow from to fall has = record { way = has.way; there = grow.ways has.way has.there; from_is = has.from_is; to_is = has.to_is; fall_is = has.fall_is }
 
   pub led-grow : (n b : ℕ) → IsLed map number old n b → IsLed map number new n b
-  led-grow n b led = record { end = led.end; ends = led.ends; reached = grow.reached (number led.end) led.reached; way = way-grow n (number led.end) None led.way; sent = grow.sent b led.sent }
+  led-grow n b led = record { end = led.end; ends = led.ends; reached = grow.reached (number led.end) led.reached; way = way-grow n (number led.end) None led.way; sent = grow.sent (number b) led.sent }
 
   fall-grow : (n t : ℕ) (fall : Option ℕ) → IfSome fall (λ f. HasWay old.ways.items n t (Some f)) → IfSome fall (λ f. HasWay new.ways.items n t (Some f))
   fall-grow n t None way = way
   fall-grow n t (Some f) way = way-grow n t (Some f) way
 
   pub called-grow : (n target : ℕ) (fall : Option ℕ) → IsCalled map number old n target fall → IsCalled map number new n target fall
-  called-grow n target fall called = record { end = called.end; ends = called.ends; reached = grow.reached (number called.end) called.reached; way = fall-grow n (number called.end) fall called.way; sent = grow.sent target called.sent }
+  called-grow n target fall called = record { end = called.end; ends = called.ends; reached = grow.reached (number called.end) called.reached; way = fall-grow n (number called.end) fall called.way; sent = grow.sent (number target) called.sent }
 
   pub led_any-grow : (n : ℕ) (b : Option ℕ) → IfSome b (IsLed map number old n) → IfSome b (IsLed map number new n)
   led_any-grow n None led = led

@@ -1,6 +1,6 @@
 -- Why what is given to a change is so.
 use Rattle.std.proofs.Common.{◌≡◌, ℕ, List, [], ◌∷◌, ◌++◌, Option, Some, None, IsSome, refl, sym, ◌∙◌, subst, arith, ◌+◌, ◌<◌, ◌≤◌, length, take, get_or}
-use Rattle.std.specs.Prelude.{OnOk, Result, Ok, Err, All, Contains}
+use Rattle.std.specs.Prelude.{OnOk, Result, Ok, Err, All}
 use Rattle.std.proofs.lemmas.List.{get_or_append_left, length_push, take_all, take_more}
 use Rattle.std.proofs.lemmas.List.Elements.{All-push, Contains-push}
 use Rattle.cfg_model.specs.Program.Instructions.{Instruction, InstructionMap, IsLawful, targets_at}
@@ -51,23 +51,23 @@ module _ (map : InstructionMap) (number : ℕ → ℕ) where
       (on.0, on.1 f f_has f_is)
 
   -- where one arrived and linked
-  pub led : (old new : Marks) (n b to : ℕ) → IsArrived map number old b to → Contains old.sent.list.items b → Grow old new → HasWay new.ways.items n to None → IsLed map number new n b
+  pub led : (old new : Marks) (n b to : ℕ) → IsArrived map number old b to → IsOn old.sent.items (number b) → Grow old new → HasWay new.ways.items n to None → IsLed map number new n b
   led old new n b to at sent grow way = record {
     end = at.end;
     ends = at.ends;
     reached = grow.reached (number at.end) (subst (λ k. IsOn old.reached.items k) at.is at.reached);
     way = subst (λ k. HasWay new.ways.items n k None) at.is way;
-    sent = grow.sent b sent;
+    sent = grow.sent (number b) sent;
   }
 
   -- the same of the target of a call that has a fall
-  pub called : (old new : Marks) (n target to f : ℕ) → IsArrived map number old target to → Contains old.sent.list.items target → Grow old new → HasWay new.ways.items n to (Some f) → IsCalled map number new n target (Some f)
+  pub called : (old new : Marks) (n target to f : ℕ) → IsArrived map number old target to → IsOn old.sent.items (number target) → Grow old new → HasWay new.ways.items n to (Some f) → IsCalled map number new n target (Some f)
   called old new n target to f at sent grow way = record {
     end = at.end;
     ends = at.ends;
     reached = grow.reached (number at.end) (subst (λ k. IsOn old.reached.items k) at.is at.reached);
     way = subst (λ k. HasWay new.ways.items n k (Some f)) at.is way;
-    sent = grow.sent target sent;
+    sent = grow.sent (number target) sent;
   }
 
   -- an address at which one arrived, and one way more

@@ -10,4 +10,6 @@ pub mod Sending
 pub mod Returning
 pub mod Telling
 pub mod Closing
+pub mod Filtered
+pub mod Listing
 pub mod CodeNumbers

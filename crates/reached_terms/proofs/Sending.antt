@@ -1,10 +1,9 @@
 -- Where control is sent: from which instructions, and that it is reached.
-use Rattle.std.proofs.Common.{◌≡◌, ℕ, ◌<◌, ◌⊎◌, Bool, true, false, List, [], ◌∷◌, ◌++◌, length, get_or, set, Option, Some, IsSome, refl, sym, ap, ◌∙◌, subst, arith, inl, inr}
+use Rattle.std.proofs.Common.{◌≡◌, ℕ, ◌<◌, ◌⊎◌, true, List, [], length, get_or, set, Option, Some, IsSome, refl, sym, ap, ◌∙◌, subst, arith, inl, inr}
 use Rattle.std.specs.Prelude.{All, Contains, option_to_list}
 use Rattle.std.proofs.lemmas.Option.{none-some}
-use Rattle.std.proofs.lemmas.List.{get_or_append_left, get_or_default, get_or_push, length_push, length-set}
-use Rattle.std.proofs.lemmas.List.Elements.{All-contains, All-push, Contains-append_left, Contains-push}
-use Rattle.std.proofs.lemmas.Bool.{cases_order}
+use Rattle.std.proofs.lemmas.List.{length-set}
+use Rattle.std.proofs.lemmas.List.Elements.{All-contains, Contains-append_left}
 use Rattle.cfg_model.specs.declared.flow.Flow.{Flow}
 use Rattle.cfg_model.specs.declared.flow.Flow.TheVariants.{Straight, Branch, Jump, Call, IndirectCall, Table, Return, Unknown, Stop}
 use Rattle.cfg_model.specs.Program.Instructions.{InstructionMap, IsLawful, flow_at, targets_at}
@@ -14,16 +13,13 @@ use Rattle.cfg_model.specs.Program.Reach.{Reached}
 use Rattle.cfg_model.specs.Graph.Leader.{targets_by, fall_by}
 use Rattle.cfg_model.proofs.Program.Known.{successor_from_flow, successor_known, target_known, fall_known}
 use Rattle.cfg_model.proofs.Program.Listed.{none_in, in_cases}
-use Rattle.reached_terms.specs.declared.sent.Sent.{Sent}
 use Rattle.reached_terms.specs.declared.marks.Way.{Way}
 use Rattle.reached_terms.specs.declared.marks.Marks.{Marks}
-use Rattle.reached_terms.specs.Numbering.{IsNumbering}
-use Rattle.reached_terms.specs.Reached.{AreEachOnce}
 use Rattle.reached_terms.specs.Sent.{IsSent}
-use Rattle.reached_terms.specs.Inner.Marks.{IsOn, AreNoted, AreKept, AreRight, AreTold, IsDone}
-use Rattle.reached_terms.specs.Inner.Steps.{Grow, Step, IsNoted}
+use Rattle.reached_terms.specs.Inner.Marks.{IsOn, AreKept, AreRight, AreTold, IsDone}
+use Rattle.reached_terms.specs.Inner.Steps.{Grow, Step}
 use Rattle.reached_terms.proofs.Growth.{done-grow, step-on}
-use Rattle.reached_terms.proofs.Bits.{on_set, on_kept, on_cases, off_read}
+use Rattle.reached_terms.proofs.Bits.{on_kept, on_cases}
 use Rattle.reached_terms.proofs.Visits.{in_second, in_one}
 
 -- an instruction that sends control on ends its chain, and goes on there or calls it
@@ -78,50 +74,12 @@ reached_stands {map} lawful known (Reached.past_call {a = a} {target = target} {
 
 -- ---- an address that is noted
 
--- one more address, which was not listed
-once_more : (xs : List ℕ) (a : ℕ) → AreEachOnce xs → (Contains xs a → ⊥) → AreEachOnce (xs ++ a ∷ [])
-once_more xs a once other i j d less inside same =
-    let size = length_push xs a in
-    let before : i < length xs = omega arith in
-    let first : get_or (xs ++ a ∷ []) i d ≡ get_or xs i d = get_or_append_left xs (a ∷ []) d i before in
-    elim (cases_order j (length xs)) [
-      | inl last ↦ other (i, before, get_or_default xs i a d before ∙ sym first ∙ same ∙ get_or_push xs a d j (sym last))
-      | inr rest ↦ elim rest [
-        | inl within ↦ once i j d less within (sym first ∙ same ∙ get_or_append_left xs (a ∷ []) d j within)
-        | inr past ↦ absurd (omega arith)
-      ]
-    ]
-
-module _ (map : InstructionMap) (number : ℕ → ℕ) (a : ℕ) (has : IsSome (map a)) (old new : Sent) (kept : AreNoted map number old)
-    (on : Bool) (read : on ≡ get_or old.marks.items (number a) on) (off : on ≡ false)
-    (marks : new.marks.items ≡ set old.marks.items (number a) true) (list : new.list.items ≡ old.list.items ++ a ∷ []) where
-  n_within : number a < length old.marks.items
-  n_within = kept.numbering.below a has
-
-  -- an address that was not marked is listed and marked
-  pub noted-new : IsNoted map number a old new
-  noted-new = record {
-    kept = record {
-      numbering = rw marks (subst (IsNumbering map number) (sym (length-set old.marks.items (number a) true)) kept.numbering);
-      listed = λ b b_has b_on. elim (on_cases old.marks.items (number a) n_within (number b) (rw marks at b_on)) [
-        | inl same ↦
-            let is : b ≡ a = kept.numbering.apart b a b_has has same in
-            rw list (subst (Contains (old.list.items ++ a ∷ [])) (sym is) (Contains-push old.list.items a))
-        | inr before ↦ rw list (Contains-append_left old.list.items (a ∷ []) b (kept.listed b b_has before))
-      ];
-      marked = rw list (All-push (λ b. IsOn new.marks.items (number b)) old.list.items a
-          (λ i d inside. rw marks (on_kept old.marks.items (number a) n_within (number (get_or old.list.items i d)) (kept.marked i d inside)))
-          (rw marks (on_set old.marks.items (number a) n_within)));
-      once = rw list (once_more old.list.items a kept.once
-          (λ there. off_read old.marks.items (number a) on n_within read off (All-contains (λ b. IsOn old.marks.items (number b)) old.list.items a kept.marked there)));
-    };
-    there = rw list (Contains-push old.list.items a);
-    list = inr list;
-  }
-
-module _ (map : InstructionMap) (number : ℕ → ℕ) (a : ℕ) (old new : Marks) (kept : AreKept map number old)
+module _ (map : InstructionMap) (number : ℕ → ℕ) (a : ℕ) (has : IsSome (map a)) (old new : Marks) (kept : AreKept map number old)
     (reached : new.reached ≡ old.reached) (returns : new.returns ≡ old.returns) (waiting : new.waiting ≡ old.waiting) (order : new.order ≡ old.order) (ways : new.ways ≡ old.ways) (untold : new.untold ≡ old.untold)
-    (noted : IsNoted map number a old.sent new.sent) where
+    (sent : new.sent.items ≡ set old.sent.items (number a) true) where
+  within : number a < length old.sent.items
+  within = omega (arith, kept.numbering.below a has, kept.sent)
+
   s_reached : new.reached.items ≡ old.reached.items
   s_reached = ap (λ v. v.items) reached
 
@@ -153,7 +111,7 @@ module _ (map : InstructionMap) (number : ℕ → ℕ) (a : ℕ) (old new : Mark
     untold = rw s_untold kept.untold;
     last = rw (s_reached, s_ways, s_waiting) kept.last;
     before = rw s_ways kept.before;
-    sent = noted.kept;
+    sent = rw (s_reached, sent) (length-set old.sent.items (number a) true ∙ kept.sent);
   }
 
   note_grow : Grow old new
@@ -166,10 +124,7 @@ module _ (map : InstructionMap) (number : ℕ → ℕ) (a : ℕ) (old new : Mark
     same_ways = λ i d inside. rw s_ways refl;
     more = rw s_order (omega arith);
     same = λ i d inside. rw s_order refl;
-    sent = λ b there. elim noted.list [
-      | inl same ↦ rw same there
-      | inr more ↦ rw more (Contains-append_left old.sent.list.items (a ∷ []) b there)
-    ];
+    sent = λ n on. rw sent (on_kept old.sent.items (number a) within n on);
   }
 
   note_right : (seeds : List ℕ) → AreRight map number seeds old → IsSent map seeds a → AreRight map number seeds new
@@ -178,9 +133,11 @@ module _ (map : InstructionMap) (number : ℕ → ℕ) (a : ℕ) (old new : Mark
     returns = rw s_returns right.returns;
     ways = rw s_ways right.ways;
     untold = rw s_untold right.untold;
-    sent = elim noted.list [
-      | inl same ↦ rw same right.sent
-      | inr more ↦ rw more (All-push (IsSent map seeds) old.sent.list.items a right.sent given)
+    sent = λ b b_has on. elim (on_cases old.sent.items (number a) within (number b) (rw sent at on)) [
+      | inl same ↦
+          let is : b ≡ a = kept.numbering.apart b a b_has has same in
+          subst (IsSent map seeds) (sym is) given
+      | inr before ↦ right.sent b b_has before
     ];
   }
 
@@ -201,7 +158,8 @@ module _ (map : InstructionMap) (number : ℕ → ℕ) (a : ℕ) (old new : Mark
   pub note-step : Step map number (λ seeds. IsSent map seeds a) old new
   note-step = record { kept = note_kept; grow = note_grow; right = note_right; told = note_told; left = rw (s_returns, s_untold) (omega arith) }
 
-  -- and its terminator is marked
-  pub note-reach : (last : Marks) → Step map number (λ seeds. Reached map seeds a) new last → Step map number (λ seeds. IsSent map seeds a) old last
-  note-reach last step = step-on map number (λ seeds. IsSent map seeds a) (λ seeds. Reached map seeds a) (λ seeds. IsSent map seeds a) old new last note-step step
-      (λ seeds right given. given) (λ seeds right given. sent_reached map seeds a given)
+-- and its terminator is marked
+pub note-reach : (map : InstructionMap) (number : ℕ → ℕ) (a : ℕ) (old mid last : Marks) → Step map number (λ seeds. IsSent map seeds a) old mid → Step map number (λ seeds. Reached map seeds a) mid last
+    → Step map number (λ seeds. IsSent map seeds a) old last
+note-reach map number a old mid last noted step = step-on map number (λ seeds. IsSent map seeds a) (λ seeds. Reached map seeds a) (λ seeds. IsSent map seeds a) old mid last noted step
+    (λ seeds right given. given) (λ seeds right given. sent_reached map seeds a given)

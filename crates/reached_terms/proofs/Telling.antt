@@ -7,7 +7,7 @@ use Rattle.std.proofs.lemmas.List.Elements.{Contains-push, Contains-push_cases}
 use Rattle.cfg_model.specs.Program.Instructions.{InstructionMap}
 use Rattle.reached_terms.specs.declared.marks.Way.{Way}
 use Rattle.reached_terms.specs.declared.marks.Marks.{Marks}
-use Rattle.reached_terms.specs.Inner.Marks.{IsOn, IsNumberOf, IsWay, IsLast, AreNoted, AreKept, AreRight, AreTold, LeadsBy, ReturnsBy, IsDone}
+use Rattle.reached_terms.specs.Inner.Marks.{IsOn, IsNumberOf, IsWay, IsLast, AreKept, AreRight, AreTold, LeadsBy, ReturnsBy, IsDone}
 use Rattle.reached_terms.specs.Inner.Steps.{Grow, Step, left_to_tell}
 use Rattle.reached_terms.proofs.Growth.{grow-none, grow-on, done-grow}
 
@@ -138,8 +138,8 @@ module _ (map : InstructionMap) (number : ℕ → ℕ) (n : ℕ) (old new : Mark
   p_ways : new.ways.items ≡ old.ways.items
   p_ways = ap (λ v. v.items) ways
 
-  p_sent : new.sent.list.items ≡ old.sent.list.items
-  p_sent = ap (λ s. s.list.items) sent
+  p_sent : new.sent.items ≡ old.sent.items
+  p_sent = ap (λ v. v.items) sent
 
   rest_of : (P : ℕ → Type 0) → All P old.untold.items → All P new.untold.items
   rest_of P all k d below =
@@ -168,7 +168,7 @@ module _ (map : InstructionMap) (number : ℕ → ℕ) (n : ℕ) (old new : Mark
     untold = rest_of (IsNumberOf map number) kept.untold;
     last = rw (p_reached, p_ways, p_waiting) kept.last;
     before = rw p_ways kept.before;
-    sent = subst (AreNoted map number) (sym sent) kept.sent;
+    sent = rw (p_reached, p_sent) kept.sent;
   }
 
   pub popped-grow : Grow old new
@@ -260,8 +260,8 @@ module _ (map : InstructionMap) (number : ℕ → ℕ) (old new : Marks)
   n_order : new.order.items ≡ old.order.items
   n_order = ap (λ v. v.items) order
 
-  n_sent : new.sent.list.items ≡ old.sent.list.items
-  n_sent = ap (λ s. s.list.items) sent
+  n_sent : new.sent.items ≡ old.sent.items
+  n_sent = ap (λ v. v.items) sent
 
   n_grow : Grow old new
   n_grow = record {

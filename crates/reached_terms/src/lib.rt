@@ -4,21 +4,22 @@
 //! An instruction of a chain is reached if and only if control comes to the chain's end, and returns
 //! if the end does. So the closure of a program is found over its terminators alone: what is known
 //! of each is kept in arrays, by the number of its address, and whoever waits for it to return is
-//! linked to it. Each address at which a chain is entered on the way is noted, once. Of all this
-//! the marks of what is reached and of what returns are kept, and these addresses.
+//! linked to it. Each address at which a chain is entered on the way is marked. Of all this the
+//! marks are kept: of what is reached, of what returns, and of where control is sent.
 //!
 //! - `numbered`: a program whose addresses are numbered.
-//! - `sent`: the addresses to which control is sent.
+//! - `marked`: the addresses that are marked, in their order.
 //! - `marks`: what is known of the terminators, and the changes of it.
 //! - `reached`: the closure from the seeds.
 //! - `file_code`: the numbers of the code of a file.
 #![tactic(auto)]
 
 mod file_code;
+mod marked;
 mod marks;
 mod numbered;
 mod reached;
-mod sent;
 
+pub use marked::marked_addresses;
 pub use numbered::Numbered;
 pub use reached::ReachedTerms;

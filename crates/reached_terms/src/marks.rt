@@ -1,6 +1,6 @@
 //! What is known of the terminators of a program, by number, and the changes of it.
 
-ghost use Rattle.std.specs.Prelude.{◌≡◌, ◌↔◌, ◌+◌, ◌≤◌, ◌<◌, ℕ, List, length, get_or, Contains, IsTrue};
+ghost use Rattle.std.specs.Prelude.{◌≡◌, ◌↔◌, ◌+◌, ◌≤◌, ◌<◌, ℕ, List, length, get_or, IsTrue};
 ghost use Rattle.std.specs.Prelude.{IfOk, OnOk, IsSome, IfSome, All, option_to_list, ⊤, None, Some};
 ghost use Rattle.cfg_model.specs.Program.Instructions.{InstructionMap, IsLawful, targets_at};
 ghost use Rattle.cfg_model.specs.Program.Chain.{IsTerminator};
@@ -15,7 +15,6 @@ ghost use Rattle.reached_terms.specs.Inner.Steps.{Grow, IsArrived, IsLinked, IsM
 ghost use Rattle.reached_terms.specs.Inner.Steps.{left_to_tell};
 
 use crate::numbered::Numbered;
-use crate::sent::Sent;
 use cfg_model::{Flow, Memory};
 use std::alloc::Global;
 
@@ -48,8 +47,8 @@ pub(crate) struct Marks {
     pub(crate) ways: Vec<Way>,
     /// The numbers of those that return, but whose callers have not been told yet.
     pub(crate) untold: Vec<u32>,
-    /// Where control is sent.
-    pub(crate) sent: Sent,
+    /// Whether control is sent to the address with this number.
+    pub(crate) sent: Vec<bool>,
 }
 
 impl Marks {
@@ -71,7 +70,7 @@ impl Marks {
             order: Vec::new(alloc),
             ways: Vec::new(alloc),
             untold: Vec::new(alloc),
-            sent: Sent::new(alloc, numbers)?,
+            sent: vec![in alloc; false; count]?,
         })
     }
 
@@ -84,11 +83,23 @@ impl Marks {
             (λ seeds. IsSent (C.map code.now) seeds a) self.old self.new) }
         ensures there { IfOk result
             (IsArrived (C.map code.now) (C.number code.now) self.new a) }
-        ensures sent { IfOk result (λ _. Contains self.new.sent.list.items a) }
+        ensures sent { IfOk result (λ _. IsOn self.new.sent.items (C.number code.now a)) }
         ensures untold { IfOk result (λ _. self.new.untold ≡ self.old.untold) }
     {
-        self.sent.note(code, a)?;
+        self.note(code, a);
         self.reach(code, a)
+    }
+
+    /// Notes that control is sent to `a`.
+    fn note<C: Numbered>(&mut self, code: &C, a: u64)
+        requires kept { AreKept (C.map code.now) (C.number code.now) self.old }
+        requires has { IsSome (C.map code.now a) }
+        ensures step { Step (C.map code.now) (C.number code.now)
+            (λ seeds. IsSent (C.map code.now) seeds a) self.old self.new }
+        ensures sent { IsOn self.new.sent.items (C.number code.now a) }
+        ensures untold { self.new.untold ≡ self.old.untold }
+    {
+        self.sent[code.number(a) as usize] = true;
     }
 
     /// Marks the terminator of the reached address `a` as reached, and answers its number.

@@ -1,6 +1,8 @@
 //! What a program reaches from its seeds.
 
 ghost use Rattle.std.specs.Prelude.{◌≡◌, ◌↔◌, ℕ, List, length, IfOk, OnOk, IsSome, IsTrue, All};
+ghost use Rattle.std.specs.Prelude.{Contains};
+ghost use Rattle.std.specs.List.Sorted.{IsStrictlyIncreasing};
 ghost use Rattle.cfg_model.specs.Program.Chain.{IsTerminator};
 ghost use Rattle.cfg_model.specs.Program.Reach.{Reached};
 ghost use Rattle.cfg_model.specs.Program.Status.{Returns};
@@ -8,6 +10,7 @@ ghost use Rattle.reached_terms.specs.Reached.{AreReachedTerms};
 ghost use Rattle.reached_terms.specs.Inner.Marks.{AreKept, AreRight, AreTold};
 ghost use Rattle.reached_terms.specs.Inner.Steps.{Grow};
 
+use crate::marked::{marked_addresses, marked_among};
 use crate::marks::Marks;
 use crate::numbered::Numbered;
 use cfg_model::Memory;
@@ -15,13 +18,13 @@ use std::alloc::Global;
 use std::marker::Model;
 
 /// What a program reaches from its seeds: of each terminator whether it is reached, of each reached
-/// one whether it returns, and the addresses to which control is sent. To a contract it is these
-/// marks, by number, and the list of these addresses.
+/// one whether it returns, and of each address whether control is sent there. To a contract it is
+/// these marks, by number.
 #[derive(Drop)]
 pub struct ReachedTerms {
     reached: Vec<bool>,
     returns: Vec<bool>,
-    sent: Vec<u64>,
+    sent: Vec<bool>,
 }
 
 impl Model for ReachedTerms {
@@ -41,9 +44,8 @@ impl ReachedTerms {
     ///
     /// Each reached terminator is looked at once, and whoever waits for another is told once. Time:
     /// linear in the reached terminators and the kept targets of table jumps, but for that of
-    /// [`term`](cfg_model::Chains::term), and in the numbers. Memory: two bytes for each number and
-    /// eight for each address to which control is sent, and meanwhile five more for each number and
-    /// some 60 for each reached terminator.
+    /// [`term`](cfg_model::Chains::term), and in the numbers. Memory: three bytes for each number,
+    /// and meanwhile four more for each number and some 60 for each reached terminator.
     pub fn of<C: Numbered>(alloc: Global, code: &C, seeds: &[u64]) -> Result<ReachedTerms, Memory>
         requires { All (λ a. IsSome (C.map code.now a)) seeds.now }
         ensures { IfOk result (AreReachedTerms (C.map code.now) (C.number code.now) seeds.now) }
@@ -59,11 +61,10 @@ impl ReachedTerms {
             tell_all(&mut marks, code)?;
             i += 1;
         }
-        let sent = marks.sent;
         Ok(ReachedTerms {
             reached: marks.reached,
             returns: marks.returns,
-            sent: sent.list,
+            sent: marks.sent,
         })
     }
 
@@ -90,11 +91,27 @@ impl ReachedTerms {
         self.returns[code.number(code.term(a)) as usize]
     }
 
-    /// The addresses to which control is sent, each once, in the order in which they were found.
-    pub fn sent(&self) -> &[u64]
+    /// Of each address, by its number, whether control is sent there.
+    pub fn sent(&self) -> &[bool]
         ensures { result.now ≡ self.now.sent }
     {
         &self.sent
+    }
+
+    /// The reached terminators that return, rising. [`Memory`] if memory ran out. Time: linear in
+    /// the numbers. Memory: eight bytes for each reached terminator, and for each that returns.
+    pub fn returning<C: Numbered>(&self, alloc: Global, code: &C) -> Result<Vec<u64>, Memory>
+        requires { (seeds : List ℕ)
+            × AreReachedTerms (C.map code.now) (C.number code.now) seeds self.now }
+        ensures rising { IfOk result (λ v. IsStrictlyIncreasing v.items) }
+        ensures exact { IfOk result (λ v. (seeds : List ℕ)
+            → AreReachedTerms (C.map code.now) (C.number code.now) seeds self.now
+            → (k : ℕ) → Contains v.items k
+            ↔ IsTerminator (C.map code.now) k × Reached (C.map code.now) seeds k
+            × Returns (C.map code.now) k) }
+    {
+        let reached = marked_addresses(alloc, code, &self.reached)?;
+        marked_among(alloc, code, &self.returns, &reached)
     }
 }
 

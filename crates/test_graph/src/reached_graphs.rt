@@ -7,7 +7,8 @@ use cfg_vectors::row_file;
 use chain_index::ChainIndex;
 use code_view::{Code, Cuts};
 use elf_image::Image;
-use reached_graph::graph_of;
+use reached_graph::{graph_of, leaders_of};
+use reached_terms::ReachedTerms;
 use std::alloc::Global;
 use std::test::Fail;
 use test_yardstick::plain_graph;
@@ -70,5 +71,29 @@ fn rows_agree(rt: HostRuntime) -> Result<(), Fail> {
 #[test]
 fn streams_join(rt: HostRuntime) -> Result<(), Fail> {
     assert_eq!(rt; blocks_agreed(rt.alloc(), 8)?, Some(4));
+    Ok(())
+}
+
+// The leaders of row 8's program, and its reached terminators that return.
+fn row_8_lists(alloc: Global) -> Result<(Vec<u64>, Vec<u64>), Fail> {
+    let image = Image::parse(alloc, row_file(alloc, 8, 0)?)?;
+    let index = ChainIndex::new(alloc, &image)?;
+    let none = Cuts::none(alloc);
+    let code = Code::new(&image, &index, &none);
+    if !code.has(CODE) {
+        return Ok((Vec::new(alloc), Vec::new(alloc)));
+    }
+    let reached = ReachedTerms::of(alloc, &code, &[CODE])?;
+    let leaders = leaders_of(alloc, &code, &reached)?;
+    Ok((leaders, reached.returning(alloc, &code)?))
+}
+
+// Where they join is a leader, and all of its terminators return.
+#[test]
+fn joins_lead(rt: HostRuntime) -> Result<(), Fail> {
+    let (leaders, returning) = row_8_lists(rt.alloc())?;
+    let starts = [CODE, CODE + 2, CODE + 4, CODE + 8];
+    assert_eq!(rt; leaders.as_slice(), starts.as_slice());
+    assert_eq!(rt; returning.as_slice(), [CODE + 4, CODE + 8].as_slice());
     Ok(())
 }

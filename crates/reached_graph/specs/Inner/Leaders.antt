@@ -1,22 +1,26 @@
 -- The leaders of a program, as they are kept.
-use Rattle.std.specs.Prelude.{◌↔◌, ℕ, List, length, Contains}
+use Rattle.std.specs.Prelude.{◌↔◌, ℕ, List, All, Contains, IsSome}
 use Rattle.std.specs.List.Sorted.{IsStrictlyIncreasing}
-use Rattle.cfg_model.specs.Program.Instructions.{InstructionMap, IsLawful}
+use Rattle.cfg_model.specs.Program.Instructions.{InstructionMap}
 use Rattle.cfg_model.specs.Graph.Leader.{IsLeader}
-use Rattle.reached_terms.specs.Numbering.{IsNumbering}
 use Rattle.reached_terms.specs.Sent.{IsSent}
 use Rattle.reached_graph.specs.declared.leaders.Leaders.{Leaders}
-use Rattle.reached_graph.specs.Inner.Marks.{IsMarked}
+use Rattle.reached_graph.specs.Inner.Blocks.{AreCutAt}
 
 -- These are all addresses that control is sent to.
-abbrev pub AreSent : InstructionMap → List ℕ → List ℕ → Type 0
-AreSent map seeds sent = (a : ℕ) → Contains sent a ↔ IsSent map seeds a
+abbrev pub AreSent : InstructionMap → List ℕ → (ℕ → Type 0) → Type 0
+AreSent map seeds IsGiven = (a : ℕ) → IsGiven a ↔ IsSent map seeds a
 
--- These are all leaders of the program, and the marks are theirs.
-pub record AreLeaders (map : InstructionMap) (number : ℕ → ℕ) (seeds : List ℕ) (leaders : Leaders)
+-- Blocks start exactly where they are cut, at these addresses.
+pub record AreMarkedBlocks (map : InstructionMap) (IsCut : ℕ → Type 0) (blocks : Leaders)
     : Type 0 where
-  pub lawful : IsLawful map
-  pub numbering : IsNumbering map number (length leaders.marks.items)
-  pub marked : (a : ℕ) → IsMarked map number leaders.marks.items a ↔ IsLeader map seeds a
-  pub rise : IsStrictlyIncreasing leaders.addresses.items
-  pub listed : (a : ℕ) → Contains leaders.addresses.items a ↔ IsLeader map seeds a
+  pub rise : IsStrictlyIncreasing blocks.starts.items
+  pub exact : (a : ℕ) → Contains blocks.starts.items a ↔ IsCut a
+  pub cut : AreCutAt map IsCut blocks.starts.items blocks.lasts.items
+
+-- These are all leaders of the program, and the last addresses of their blocks.
+pub record AreLeaders (map : InstructionMap) (seeds : List ℕ) (leaders : Leaders) : Type 0 where
+  pub rise : IsStrictlyIncreasing leaders.starts.items
+  pub listed : (a : ℕ) → Contains leaders.starts.items a ↔ IsLeader map seeds a
+  pub cut : AreCutAt map (IsLeader map seeds) leaders.starts.items leaders.lasts.items
+  pub stand : All (λ k. IsSome (map k)) leaders.lasts.items

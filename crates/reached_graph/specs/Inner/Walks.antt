@@ -1,13 +1,13 @@
 -- How far the walks have come, and how they go on.
-use Rattle.std.specs.Prelude.{◌≡◌, ◌≢◌, ◌↔◌, ℕ, ◌⊎◌, List, [], ◌∷◌, ◌++◌, length, All, Contains}
+use Rattle.std.specs.Prelude.{◌≡◌, ◌≢◌, ℕ, ◌⊎◌, Bool, List, length, Contains}
 use Rattle.cfg_model.specs.Program.Instructions.{InstructionMap, IsLawful}
 use Rattle.cfg_model.specs.Program.Chain.{GoesOnTo}
 use Rattle.cfg_model.specs.Program.Reach.{Reached}
 use Rattle.cfg_model.specs.Graph.Leader.{IsLeader}
-use Rattle.reached_terms.specs.Numbering.{IsNumbering}
+use Rattle.reached_terms.specs.Numbering.{IsMarked, IsNumbering}
 use Rattle.reached_graph.specs.declared.walks.Walks.{Walks}
 use Rattle.reached_graph.specs.Inner.Leaders.{AreSent}
-use Rattle.reached_graph.specs.Inner.Marks.{IsMarked, IsAdded}
+use Rattle.reached_graph.specs.Inner.Marks.{IsAdded}
 
 -- There are marks for each address of the program.
 pub record AreFit (map : InstructionMap) (number : ℕ → ℕ) (w : Walks) : Type 0 where
@@ -17,14 +17,13 @@ pub record AreFit (map : InstructionMap) (number : ℕ → ℕ) (w : Walks) : Ty
 
 -- What holds of the addresses that were walked over and those where blocks start, but for what
 -- comes after an open address, which a walk is at.
-pub record AreWalked (map : InstructionMap) (seeds sent : List ℕ) (IsWalked IsStart : ℕ → Type 0)
-    (leaders : List ℕ) (IsOpen : ℕ → Type 0) : Type 0 where
+pub record AreWalked (map : InstructionMap) (seeds : List ℕ) (IsGiven : ℕ → Type 0)
+    (IsWalked IsStart : ℕ → Type 0) (IsOpen : ℕ → Type 0) : Type 0 where
   -- What is walked over is reached, and where blocks start are leaders.
   pub reached : (a : ℕ) → IsWalked a → Reached map seeds a
-  pub leads : All (IsLeader map seeds) leaders
-  pub listed : (a : ℕ) → IsStart a ↔ Contains leaders a
-  pub given : (a : ℕ) → Contains sent a → IsStart a
-  pub begun : (a : ℕ) → IsStart a → IsWalked a ⊎ Contains sent a
+  pub leads : (a : ℕ) → IsStart a → IsLeader map seeds a
+  pub given : (a : ℕ) → IsGiven a → IsStart a
+  pub begun : (a : ℕ) → IsStart a → IsWalked a ⊎ IsGiven a
   -- A walk came to each address from a start or from the one before it.
   pub came : (a : ℕ) → IsWalked a
       → IsStart a ⊎ ((b : ℕ) × IsWalked b × (¬ IsOpen b) × GoesOnTo map b a)
@@ -35,11 +34,12 @@ pub record AreWalked (map : InstructionMap) (seeds sent : List ℕ) (IsWalked Is
   pub joined : (a b next : ℕ) → IsWalked a → IsWalked b → a ≢ b → GoesOnTo map a next
       → GoesOnTo map b next → IsOpen a ⊎ (IsOpen b ⊎ IsStart next)
 
--- The same of these walks.
-abbrev pub HaveWalked : InstructionMap → (ℕ → ℕ) → List ℕ → List ℕ → Walks → (ℕ → Type 0) → Type 0
+-- The same of these walks, where the marks of the given starts are set.
+abbrev pub HaveWalked : InstructionMap → (ℕ → ℕ) → List ℕ → List Bool → Walks → (ℕ → Type 0)
+    → Type 0
 HaveWalked map number seeds sent w IsOpen =
-    AreWalked map seeds sent (IsMarked map number w.walked.items)
-    (IsMarked map number w.starts.items) w.leaders.items IsOpen
+    AreWalked map seeds (IsMarked map number sent) (IsMarked map number w.walked.items)
+    (IsMarked map number w.starts.items) IsOpen
 
 -- No address is open.
 abbrev pub Nowhere : ℕ → Type 0
@@ -56,7 +56,6 @@ pub record IsBegun (map : InstructionMap) (number : ℕ → ℕ) (a : ℕ) (old 
   pub walked : IsAdded (IsMarked map number old.walked.items)
       (IsMarked map number new.walked.items) a
   pub starts : new.starts ≡ old.starts
-  pub leaders : new.leaders ≡ old.leaders
 
 -- The same where no block starts.
 pub record IsFresh (map : InstructionMap) (number : ℕ → ℕ) (a : ℕ) (old new : Walks)
@@ -72,7 +71,6 @@ pub record IsJoined (map : InstructionMap) (number : ℕ → ℕ) (a : ℕ) (old
   pub walked : new.walked ≡ old.walked
   pub starts : IsAdded (IsMarked map number old.starts.items)
       (IsMarked map number new.starts.items) a
-  pub leaders : new.leaders.items ≡ old.leaders.items ++ a ∷ []
 
 -- A walk ends that comes to the address a: a block starts there, or does from now on.
 abbrev pub IsStopped : InstructionMap → (ℕ → ℕ) → ℕ → Walks → Walks → Type 0
@@ -85,7 +83,7 @@ pub record IsWalkOn (map : InstructionMap) (number : ℕ → ℕ) (s : ℕ) (old
   pub fit : AreFit map number new
   pub kept : (a : ℕ) → IsMarked map number old.walked.items a
       → IsMarked map number new.walked.items a
-  pub walked : (seeds sent : List ℕ) → HaveWalked map number seeds sent old (At s)
+  pub walked : (seeds : List ℕ) (sent : List Bool) → HaveWalked map number seeds sent old (At s)
       → HaveWalked map number seeds sent new Nowhere
 
 -- A whole walk from the address s.
@@ -95,14 +93,14 @@ pub record IsWalkFrom (map : InstructionMap) (number : ℕ → ℕ) (s : ℕ) (o
   pub begun : IsMarked map number new.walked.items s
   pub kept : (a : ℕ) → IsMarked map number old.walked.items a
       → IsMarked map number new.walked.items a
-  pub walked : (seeds sent : List ℕ) → Contains sent s
+  pub walked : (seeds : List ℕ) (sent : List Bool) → IsMarked map number sent s
       → HaveWalked map number seeds sent old Nowhere
       → HaveWalked map number seeds sent new Nowhere
 
--- All walks are done.
-pub record AreDone (map : InstructionMap) (number : ℕ → ℕ) (sent : List ℕ) (w : Walks)
-    : Type 0 where
+-- All walks from these addresses are done, where the marks of the given starts are set.
+pub record AreDone (map : InstructionMap) (number : ℕ → ℕ) (sent : List Bool) (firsts : List ℕ)
+    (w : Walks) : Type 0 where
   pub fit : AreFit map number w
-  pub begun : (a : ℕ) → Contains sent a → IsMarked map number w.walked.items a
-  pub walked : (seeds : List ℕ) → AreSent map seeds sent
+  pub begun : (a : ℕ) → Contains firsts a → IsMarked map number w.walked.items a
+  pub walked : (seeds : List ℕ) → AreSent map seeds (IsMarked map number sent)
       → HaveWalked map number seeds sent w Nowhere

@@ -7,11 +7,9 @@ use Rattle.cfg_model.specs.Program.Chain.{IsTerminator, IsTerminatorOf}
 use Rattle.cfg_model.specs.Program.Successors.{IsSuccessor, IsCall, ReturnsByItself}
 use Rattle.cfg_model.specs.Program.Reach.{Reached}
 use Rattle.cfg_model.specs.Program.Status.{Returns}
-use Rattle.reached_terms.specs.declared.sent.Sent.{Sent}
 use Rattle.reached_terms.specs.declared.marks.Way.{Way}
 use Rattle.reached_terms.specs.declared.marks.Marks.{Marks}
 use Rattle.reached_terms.specs.Numbering.{IsNumbering}
-use Rattle.reached_terms.specs.Reached.{AreEachOnce}
 use Rattle.reached_terms.specs.Sent.{IsSent}
 
 -- The mark number n is set.
@@ -48,15 +46,6 @@ pub record IsLast (ways : List Way) (n end at : ℕ) : Type 0 where
   pub none : (j : ℕ) (d : Way) → at ≤ j → j < end → (get_or ways j d).to ≡ n → ⊥
   pub hit : (p : ℕ) (d : Way) → at ≡ suc p → (get_or ways p d).to ≡ n
 
--- What holds at every moment of the addresses to which control is sent: those that are marked are
--- listed, each once.
-pub record AreNoted (map : InstructionMap) (number : ℕ → ℕ) (sent : Sent) : Type 0 where
-  pub numbering : IsNumbering map number (length sent.marks.items)
-  pub listed : (a : ℕ) → IsSome (map a) → IsOn sent.marks.items (number a)
-      → Contains sent.list.items a
-  pub marked : All (λ a. IsOn sent.marks.items (number a)) sent.list.items
-  pub once : AreEachOnce sent.list.items
-
 -- What holds of the marks at every moment, whatever the seeds.
 pub record AreKept (map : InstructionMap) (number : ℕ → ℕ) (m : Marks) : Type 0 where
   pub lawful : IsLawful map
@@ -72,7 +61,7 @@ pub record AreKept (map : InstructionMap) (number : ℕ → ℕ) (m : Marks) : T
       → IsLast m.ways.items n (length m.ways.items) (get_or m.waiting.items n d)
   pub before : (i : ℕ) (d : Way) → i < length m.ways.items
       → IsLast m.ways.items (get_or m.ways.items i d).to i (get_or m.ways.items i d).before
-  pub sent : AreNoted map number m.sent
+  pub sent : length m.sent.items ≡ length m.reached.items
 
 -- The terminator at from returns if that at to does; of a call whose target's terminator is at to,
 -- control is sent to the fall then, and the call returns if the fall does.
@@ -109,7 +98,7 @@ pub record AreRight (map : InstructionMap) (number : ℕ → ℕ) (seeds : List 
   pub returns : (n : ℕ) → IsOn m.returns.items n → ReturnsBy map number n
   pub ways : All (λ w. LeadsBy map number seeds w.from w.to w.fall) m.ways.items
   pub untold : All (ReturnsBy map number) m.untold.items
-  pub sent : All (IsSent map seeds) m.sent.list.items
+  pub sent : (a : ℕ) → IsSome (map a) → IsOn m.sent.items (number a) → IsSent map seeds a
 
 -- Control is sent to b, the terminator of b is reached, and n is linked to it.
 pub record IsLed (map : InstructionMap) (number : ℕ → ℕ) (m : Marks) (n b : ℕ) : Type 0 where
@@ -117,7 +106,7 @@ pub record IsLed (map : InstructionMap) (number : ℕ → ℕ) (m : Marks) (n b 
   pub ends : IsTerminatorOf map b end
   pub reached : IsOn m.reached.items (number end)
   pub way : HasWay m.ways.items n (number end) None
-  pub sent : Contains m.sent.list.items b
+  pub sent : IsOn m.sent.items (number b)
 
 -- The same of the target of a call, to which the call is linked if it has a fall.
 pub record IsCalled (map : InstructionMap) (number : ℕ → ℕ) (m : Marks) (n target : ℕ)
@@ -126,7 +115,7 @@ pub record IsCalled (map : InstructionMap) (number : ℕ → ℕ) (m : Marks) (n
   pub ends : IsTerminatorOf map target end
   pub reached : IsOn m.reached.items (number end)
   pub way : IfSome fall (λ f. HasWay m.ways.items n (number end) (Some f))
-  pub sent : Contains m.sent.list.items target
+  pub sent : IsOn m.sent.items (number target)
 
 -- Whatever the terminator at k leads to is marked and linked.
 pub record IsVisited (map : InstructionMap) (number : ℕ → ℕ) (m : Marks) (k : ℕ) : Type 0 where

@@ -1,12 +1,11 @@
 -- How the marks change.
-use Rattle.std.specs.Prelude.{◌≡◌, ℕ, ◌+◌, ◌<◌, ◌≤◌, ◌⊎◌, true, if◌then◌else◌}
+use Rattle.std.specs.Prelude.{◌≡◌, ℕ, ◌+◌, ◌<◌, ◌≤◌, true, if◌then◌else◌}
 use Rattle.std.specs.Prelude.{List, [], ◌∷◌, ◌++◌, length, get_or, set, Contains, Option}
 use Rattle.cfg_model.specs.Program.Instructions.{InstructionMap}
 use Rattle.cfg_model.specs.Program.Chain.{IsTerminatorOf}
-use Rattle.reached_terms.specs.declared.sent.Sent.{Sent}
 use Rattle.reached_terms.specs.declared.marks.Way.{Way}
 use Rattle.reached_terms.specs.declared.marks.Marks.{Marks}
-use Rattle.reached_terms.specs.Inner.Marks.{IsOn, count_off, AreNoted, AreKept, AreRight, AreTold}
+use Rattle.reached_terms.specs.Inner.Marks.{IsOn, count_off, AreKept, AreRight, AreTold}
 
 -- How many more may have to be told.
 abbrev pub left_to_tell : Marks → ℕ
@@ -24,7 +23,7 @@ pub record Grow (old new : Marks) : Type 0 where
   pub more : length old.order.items ≤ length new.order.items
   pub same : (i d : ℕ) → i < length old.order.items
       → get_or new.order.items i d ≡ get_or old.order.items i d
-  pub sent : (a : ℕ) → Contains old.sent.list.items a → Contains new.sent.list.items a
+  pub sent : (n : ℕ) → IsOn old.sent.items n → IsOn new.sent.items n
 
 -- A change of the marks that keeps what holds of them. They stay right if what is given is so.
 pub record Step (map : InstructionMap) (number : ℕ → ℕ) (Given : List ℕ → Type 0)
@@ -59,12 +58,6 @@ pub record IsLinked (from to : ℕ) (fall : Option ℕ) (old new : Marks) : Type
   pub ways : new.ways.items
       ≡ old.ways.items ++ record { from = from; to = to; fall = fall; before = before } ∷ []
   pub waiting : new.waiting.items ≡ set old.waiting.items to (length old.ways.items + 1)
-
--- The address a is listed as one to which control is sent, unless it was, and no other is.
-pub record IsNoted (map : InstructionMap) (number : ℕ → ℕ) (a : ℕ) (old new : Sent) : Type 0 where
-  pub kept : AreNoted map number new
-  pub there : Contains new.list.items a
-  pub list : (new.list.items ≡ old.list.items) ⊎ (new.list.items ≡ old.list.items ++ a ∷ [])
 
 -- The terminator of a is marked as reached, and n is its number.
 pub record IsArrived (map : InstructionMap) (number : ℕ → ℕ) (m : Marks) (a n : ℕ) : Type 0 where

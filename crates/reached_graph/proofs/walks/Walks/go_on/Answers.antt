@@ -1,6 +1,6 @@
 use Rattle.std.proofs.Common.{Bool, List, sym, subst}
 use Rattle.cfg_model.specs.Program.Chain.{GoesOnTo, IsTerminator}
-use Rattle.reached_graph.specs.Inner.Marks.{IsMarked}
+use Rattle.reached_terms.specs.Numbering.{IsMarked}
 use Rattle.reached_graph.specs.Inner.Walks.{IsFresh, IsStopped}
 use Rattle.reached_graph.proofs.Walking.{stopped_keeps, walk_ends, walks_go, walks_stop}
 use Rattle.reached_graph.proofs.walks.Walks.go_on.Goals as goal
@@ -22,16 +22,16 @@ loop-next-preserved g c =
     let at = c.loop-next.at in
     let next = c.in-Some.next in
     let goes : GoesOnTo map at next = c.in-Some.ensures in
-    let fresh : IsFresh map number next old new = rw c.if-not-branch.false at c.in_ok-enter.ensures.cases in
+    let fresh : IsFresh map number next old new = c.if-not-enter.ensures.cases in
     record {
-      fit = c.in_ok-enter.ensures.fit;
+      fit = c.if-not-enter.ensures.fit;
       kept = λ a on. fresh.begun.walked.kept a (c.loop-next.invariant.kept a on);
       here = fresh.begun.walked.here;
       walked = λ seeds sent have. walks_go map number seeds sent old new c.loop-next.invariant.fit.lawful at next goes c.loop-next.invariant.here (c.loop-next.invariant.walked seeds sent have) fresh;
     }
 
-pub returns-then-not-branch : goal.returns-then-not-branch
-returns-then-not-branch g c =
+pub returns-then-not-enter : goal.returns-then-not-enter
+returns-then-not-enter g c =
     let map = g.C.Chains.map c.args.code.now in
     let number = g.C.Numbered.number c.args.code.now in
     let old = c.loop-next.self in
@@ -39,9 +39,9 @@ returns-then-not-branch g c =
     let at = c.loop-next.at in
     let next = c.in-Some.next in
     let goes : GoesOnTo map at next = c.in-Some.ensures in
-    let stopped : IsStopped map number next old new = rw c.if-not-branch.true at c.in_ok-enter.ensures.cases in
+    let stopped : IsStopped map number next old new = c.if-not-enter.ensures.cases in
     record {
-      fit = c.in_ok-enter.ensures.fit;
+      fit = c.if-not-enter.ensures.fit;
       kept = λ a on. subst (λ (xs : List Bool). IsMarked map number xs a) (sym (stopped_keeps map number next old new stopped)) (c.loop-next.invariant.kept a on);
       walked = λ seeds sent have. walks_stop map number seeds sent old new c.loop-next.invariant.fit.lawful at next goes c.loop-next.invariant.here (c.loop-next.invariant.walked seeds sent have) stopped;
     }
@@ -56,5 +56,5 @@ returns g c =
     record {
       fit = c.loop-next.invariant.fit;
       kept = c.loop-next.invariant.kept;
-      walked = λ seeds sent have. walk_ends map seeds sent (IsMarked map number w.walked.items) (IsMarked map number w.starts.items) w.leaders.items at ends (c.loop-next.invariant.walked seeds sent have);
+      walked = λ seeds sent have. walk_ends map seeds (IsMarked map number sent) (IsMarked map number w.walked.items) (IsMarked map number w.starts.items) at ends (c.loop-next.invariant.walked seeds sent have);
     }

@@ -1,5 +1,5 @@
-use Rattle.std.proofs.Common.{ℕ, List, ◌-◌, ◌^◌}
-use Rattle.reached_graph.specs.Inner.Marks.{IsMarked}
+use Rattle.std.proofs.Common.{ℕ, Bool, List, ◌-◌, ◌^◌}
+use Rattle.reached_terms.specs.Numbering.{IsMarked}
 use Rattle.reached_graph.specs.Inner.Walks.{AreFit, At, HaveWalked}
 use Rattle.reached_graph.proofs.walks.Walks.go_on.Given as goal
 
@@ -8,7 +8,7 @@ invariant-loop-next g l = record {
   fit : AreFit (g.C.Chains.map l.code) (g.C.Numbered.number l.code) l.self;
   kept : (a : ℕ) → IsMarked (g.C.Chains.map l.code) (g.C.Numbered.number l.code) l.initial.self.walked.items a → IsMarked (g.C.Chains.map l.code) (g.C.Numbered.number l.code) l.self.walked.items a;
   here : IsMarked (g.C.Chains.map l.code) (g.C.Numbered.number l.code) l.self.walked.items l.at;
-  walked : (seeds sent : List ℕ) → HaveWalked (g.C.Chains.map l.code) (g.C.Numbered.number l.code) seeds sent l.initial.self (At l.s)
+  walked : (seeds : List ℕ) (sent : List Bool) → HaveWalked (g.C.Chains.map l.code) (g.C.Numbered.number l.code) seeds sent l.initial.self (At l.s)
       → HaveWalked (g.C.Chains.map l.code) (g.C.Numbered.number l.code) seeds sent l.self (At l.at);
 }
 

@@ -1,9 +1,9 @@
-use Rattle.std.proofs.Common.{refl, sym, subst, arith}
+use Rattle.std.proofs.Common.{get_or, refl, sym, subst, arith}
 use Rattle.std.specs.Prelude.{Contains}
 use Rattle.std.proofs.lemmas.List.{take_all}
 use Rattle.std.proofs.lemmas.List.Elements.{Contains-get_or}
-use Rattle.reached_graph.specs.Inner.Marks.{IsMarked}
-use Rattle.reached_graph.proofs.Sending.{none_walked}
+use Rattle.reached_terms.specs.Numbering.{IsMarked}
+use Rattle.reached_graph.proofs.Sending.{walks_new}
 use Rattle.reached_graph.proofs.Walking.{more_begun}
 use Rattle.reached_graph.proofs.walks.Walks.of.Goals as goal
 
@@ -11,31 +11,32 @@ pub loop-s-init : goal.loop-s-init
 loop-s-init g c =
     let map = g.C.Chains.map c.args.code.now in
     let number = g.C.Numbered.number c.args.code.now in
-    let w = c.in_ok-walks.ensures in
+    let w = c.in_ok-walks.walks in
+    let new = walks_new map number c.args.marks.now w c.requires.lawful c.requires.numbering c.in_ok-walks.ensures.walked c.in_ok-walks.ensures.starts in
     record {
-      fit = w.fit;
-      begun = λ a there. absurd {A = IsMarked map number c.in_ok-walks.walks.walked.items a} (omega (arith, there.1));
-      walked = λ seeds are. rw w.leaders (none_walked map seeds c.args.sent.now _ _ are w.walked w.starts);
+      fit = new.0;
+      begun = λ a there. absurd {A = IsMarked map number w.walked.items a} (omega (arith, there.1));
+      walked = new.1;
     }
 
 pub loop-s-preserved : goal.loop-s-preserved
 loop-s-preserved g c =
     let map = g.C.Chains.map c.args.code.now in
     let number = g.C.Numbered.number c.args.code.now in
-    let sent = c.args.sent.now in
+    let firsts = c.args.firsts.now in
     let i = c.loop-s.s-index in
-    let from = c.in_ok-walk.ensures in
+    let from = c.walk.ensures in
     record {
       fit = from.fit;
-      begun = more_begun map number _ c.loop-s.walks c.walk.new.self sent i c.loop-s-test.true refl from c.loop-s.invariant.begun;
-      walked = λ seeds are. from.walked seeds sent (Contains-get_or sent i 0 c.loop-s-test.true) (c.loop-s.invariant.walked seeds are);
+      begun = more_begun map number _ c.loop-s.walks c.walk.new.self firsts i c.loop-s-test.true refl from c.loop-s.invariant.begun;
+      walked = λ seeds are. from.walked seeds c.args.marks.now (c.requires.marked (get_or firsts i 0) (Contains-get_or firsts i 0 c.loop-s-test.true)) (c.loop-s.invariant.walked seeds are);
     }
 
 pub returns : goal.returns
 returns g c =
-    let sent = c.args.sent.now in
+    let firsts = c.args.firsts.now in
     record {
       fit = c.loop-s.invariant.fit;
-      begun = λ a there. c.loop-s.invariant.begun a (subst (λ xs. Contains xs a) (sym (take_all c.loop-s.s-index sent (omega arith))) there);
+      begun = λ a there. c.loop-s.invariant.begun a (subst (λ xs. Contains xs a) (sym (take_all c.loop-s.s-index firsts (omega arith))) there);
       walked = c.loop-s.invariant.walked;
     }

@@ -7,4 +7,4 @@ returns-then-not-begin g c =
 
 pub returns : goal.returns
 returns g c =
-    walk_from (g.C.Chains.map c.args.code.now) (g.C.Numbered.number c.args.code.now) c.args.s c.args.self.now c.go_on.new.self c.begin.new.self c.if-not-begin.ensures.cases c.in_ok-go_on.ensures
+    walk_from (g.C.Chains.map c.args.code.now) (g.C.Numbered.number c.args.code.now) c.args.s c.args.self.now c.go_on.new.self c.begin.new.self c.if-not-begin.ensures.cases c.go_on.ensures

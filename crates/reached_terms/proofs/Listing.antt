@@ -7,8 +7,7 @@ use Rattle.std.proofs.lemmas.Bool.{cases_order, cases_lt}
 use Rattle.std.proofs.lemmas.List.Elements.{Contains-append_left, Contains-get_or, Contains-push, Contains-push_cases}
 use Rattle.std.proofs.lemmas.List.Quantifiers.{all_pairs_push}
 use Rattle.cfg_model.specs.Program.Instructions.{InstructionMap}
-use Rattle.reached_terms.specs.Numbering.{IsNumbering, NumbersRise}
-use Rattle.reached_graph.specs.Inner.Marks.{IsMarked, IsMarkedAt}
+use Rattle.reached_terms.specs.Numbering.{IsNumbering, NumbersRise, IsMarked, IsMarkedAt}
 
 -- The items are the marked addresses whose numbers lie below n.
 pub record AreListed (map : InstructionMap) (number : ℕ → ℕ) (marks : List Bool) (n : ℕ) (items : List ℕ) : Type 0 where

@@ -1,10 +1,9 @@
-use Rattle.std.proofs.Common.{Some, ap, ◌∙◌}
 use Rattle.std.proofs.lemmas.Bool.{false≢true}
 use Rattle.cfg_model.specs.Program.Chain.{GoesOnTo}
 use Rattle.cfg_model.specs.Graph.Block.{RunsTo}
 use Rattle.cfg_model.proofs.Graphs.Runs.{goes_up, run_step}
-use Rattle.reached_graph.specs.Inner.Marks.{IsMarked}
-use Rattle.reached_graph.proofs.blocks.end_of.Goals as goal
+use Rattle.reached_terms.specs.Numbering.{IsMarked}
+use Rattle.reached_graph.proofs.blocks.last_of.Goals as goal
 
 pub loop-next-init : goal.loop-next-init
 loop-next-init g c = record { runs = RunsTo.here; stands = c.requires.stands }
@@ -14,9 +13,9 @@ loop-next-preserved g c =
     let map = g.C.Chains.map c.args.code.now in
     let number = g.C.Numbered.number c.args.code.now in
     let at = c.loop-next.at in
-    let next = c.in-Straight.next in
-    let goes : GoesOnTo map at next = c.flow-flow.ensures.flow ∙ ap Some c.in-Straight.is in
+    let next = c.in-Some.next in
+    let goes : GoesOnTo map at next = c.in-Some.ensures in
     record {
-      runs = run_step map (IsMarked map number c.args.marks.now) c.args.s at next c.loop-next.invariant.runs goes (λ on. false≢true (c.if-not-is_marked.ensures.1 on));
-      stands = (goes_up map at next c.flow-flow.ensures.lawful goes).2;
+      runs = run_step map (IsMarked map number c.args.marks.now) c.args.s at next c.loop-next.invariant.runs goes (λ on. false≢true (c.if-is_marked.ensures.1 on));
+      stands = (goes_up map at next c.term-k.ensures.lawful goes).2;
     }

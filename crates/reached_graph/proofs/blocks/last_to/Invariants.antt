@@ -1,11 +1,10 @@
 use Rattle.std.proofs.Common.{◌-◌, ◌^◌, IsSome}
-use Rattle.cfg_model.specs.Graph.Block.{RunsTo}
-use Rattle.reached_graph.specs.Inner.Marks.{IsMarked}
-use Rattle.reached_graph.proofs.blocks.end_of.Given as goal
+use Rattle.cfg_model.specs.Program.Chain.{OnChain}
+use Rattle.reached_graph.proofs.blocks.last_to.Given as goal
 
 abbrev pub invariant-loop-next : goal.invariant-loop-next
 invariant-loop-next g l = record {
-  runs : RunsTo (g.C.Chains.map l.code) (IsMarked (g.C.Chains.map l.code) (g.C.Numbered.number l.code) l.marks) l.s l.at;
+  on : OnChain (g.C.Chains.map l.code) l.s l.at;
   stands : IsSome (g.C.Chains.map l.code l.at);
 }
 

@@ -1,7 +1,7 @@
 use Rattle.std.proofs.Common.{◌+◌, sym, ap, subst}
-use Rattle.reached_graph.proofs.Listing.{AreListed, listing_skips, listing_takes}
-use Rattle.reached_graph.proofs.leaders.marked.Goals as goal
-use Rattle.reached_graph.proofs.leaders.marked.Goals.{in-Some+in_ok-push, in_default}
+use Rattle.reached_terms.proofs.Listing.{AreListed, listing_skips, listing_takes}
+use Rattle.reached_terms.proofs.marked.marked_addresses.Goals as goal
+use Rattle.reached_terms.proofs.marked.marked_addresses.Goals.{in-Some+in_ok-push, in_default}
 
 pub loop-n-preserved : goal.loop-n-preserved
 loop-n-preserved g c =

@@ -1,0 +1,70 @@
+-- All leaders of a program, and the last addresses of their blocks.
+use Rattle.std.proofs.Common.{◌≡◌, ℕ, ◌<◌, ◌⊎◌, false, List, length, get_or, IsSome, sym, ◌∙◌, inl, inr, arith}
+use Rattle.std.specs.Prelude.{◌↔◌}
+use Rattle.std.proofs.lemmas.Bool.{cases_Bool, false≢true}
+use Rattle.std.proofs.lemmas.List.Elements.{Contains-get_or}
+use Rattle.cfg_model.specs.Program.Instructions.{InstructionMap, IsLawful}
+use Rattle.cfg_model.specs.Program.Chain.{GoesOnTo}
+use Rattle.cfg_model.specs.Program.Reach.{Reached}
+use Rattle.cfg_model.specs.Graph.Block.{IsLastOf}
+use Rattle.cfg_model.specs.Graph.Leader.{IsLeader}
+use Rattle.cfg_model.proofs.Program.Known.{reached_along}
+use Rattle.cfg_model.proofs.Graphs.Runs.{goes_up}
+use Rattle.reached_terms.specs.Numbering.{IsMarked}
+use Rattle.reached_terms.specs.Reached.{Reach, AreReachedTerms}
+use Rattle.reached_graph.specs.declared.leaders.Leaders.{Leaders}
+use Rattle.reached_graph.specs.declared.walks.Walks.{Walks}
+use Rattle.reached_graph.specs.Inner.Blocks.{HoldMixed}
+use Rattle.reached_graph.specs.Inner.Leaders.{AreLeaders, AreMarkedBlocks}
+use Rattle.reached_graph.specs.Inner.Walks.{AreDone, Nowhere}
+use Rattle.reached_graph.proofs.Cutting.{last_same}
+use Rattle.reached_graph.proofs.Found.{starts_lead}
+use Rattle.reached_graph.proofs.Sending.{none_walked}
+
+-- those of a list of exactly the addresses where blocks are cut
+module _ (map : InstructionMap) (seeds : List ℕ) (known : (a : ℕ) → Reached map seeds a → IsSome (map a)) (IsCut : ℕ → Type 0) (lead : (a : ℕ) → IsCut a ↔ IsLeader map seeds a)
+    (leaders : Leaders) (are : AreMarkedBlocks map IsCut leaders) where
+  abbrev starts : List ℕ
+  starts = leaders.starts.items
+
+  abbrev lasts : List ℕ
+  lasts = leaders.lasts.items
+
+  last_leads : (i d : ℕ) → i < length starts → IsLastOf map (IsLeader map seeds) (get_or starts i d) (get_or lasts i d)
+  last_leads i d within = last_same map IsCut (IsLeader map seeds) (λ a is. (lead a).0 is) (λ a is. (lead a).1 is) (get_or starts i d) (get_or lasts i d) (are.cut.each i d within)
+
+  pub leaders_are : AreLeaders map seeds leaders
+  leaders_are = record {
+    rise = are.rise;
+    listed = λ a. (λ there. (lead a).0 ((are.exact a).0 there), λ is. (are.exact a).1 ((lead a).1 is));
+    cut = record { as_many = are.cut.as_many; each = last_leads };
+    stand = λ i d within.
+        let inside : i < length starts = omega (arith, within, are.cut.as_many) in
+        let from : IsLeader map seeds (get_or starts i d) = (lead (get_or starts i d)).0 ((are.exact (get_or starts i d)).0 (Contains-get_or starts i d inside)) in
+        known (get_or lasts i d) (reached_along from.reached (last_leads i d inside).runs);
+  }
+
+-- those that walks from blocks that overlap find
+module _ (map : InstructionMap) (number : ℕ → ℕ) (lawful : IsLawful map) (seeds : List ℕ) (terms : Reach) (are : AreReachedTerms map number seeds terms)
+    (blocks : Leaders) (cut : AreMarkedBlocks map (IsMarked map number terms.sent) blocks) (mixed : List ℕ) (hold : HoldMixed blocks.starts.items blocks.lasts.items (length blocks.starts.items) mixed) where
+  abbrev IsCut : ℕ → Type 0
+  IsCut = IsMarked map number terms.sent
+
+  is_known : (a next : ℕ) → GoesOnTo map a next → IsCut next ⊎ ¬ IsCut next
+  is_known a next goes = elim (cases_Bool (get_or terms.sent (number next) false)) [
+    | inl on ↦ inl ((goes_up map a next lawful goes).2, on)
+    | inr off ↦ inr (λ cut. false≢true (sym off ∙ cut.1))
+  ]
+
+  pub walks_lead : (w : Walks) → AreDone map number terms.sent mixed w → (leaders : Leaders) → AreMarkedBlocks map (IsMarked map number w.starts.items) leaders → AreLeaders map seeds leaders
+  walks_lead w done leaders marked =
+      leaders_are map seeds are.known (IsMarked map number w.starts.items)
+      (starts_lead map seeds IsCut (IsMarked map number w.walked.items) (IsMarked map number w.starts.items) (done.walked seeds are.sent) lawful blocks cut mixed hold done.begun are.sent is_known)
+      leaders marked
+
+  -- if none overlap, those where control is sent
+  pub sent_lead : length mixed ≡ 0 → AreLeaders map seeds blocks
+  sent_lead none =
+      leaders_are map seeds are.known IsCut
+      (starts_lead map seeds IsCut Nowhere IsCut (none_walked map seeds IsCut Nowhere are.sent (λ a nowhere. nowhere)) lawful blocks cut mixed hold (λ a there. absurd (omega (arith, there.1, none))) are.sent is_known)
+      blocks cut
