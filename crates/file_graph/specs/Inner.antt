@@ -1,19 +1,26 @@
 -- Words that need not be read: what the steps to a graph tell one another.
-use Rattle.std.specs.Prelude.{ℕ, List, IfOk, IfErr, Result}
+use Rattle.std.specs.Prelude.{ℕ, List, IfOk, IfErr, Result, Contains}
 use Rattle.std.proofs.Common.{Bor}
 use Rattle.cfg_model.specs.Program.Reach.{AreSeeds}
 use Rattle.cfg_model.specs.Program.Instructions.{InstructionMap}
 use Rattle.cfg_model.specs.Graph.Graph.{IsGraph}
+use Rattle.cfg_model.specs.declared.graph.Graph.{Graph}
 use Rattle.code_view.specs.declared.code.Code.{Code}
-use Rattle.code_view.specs.FileCode.{program_of}
+use Rattle.code_view.specs.FileCode.{FileCode, program_of}
+use Rattle.code_view.specs.Cuts.{Counts}
+use Rattle.code_view.specs.declared.table_jump.TableJump.{TableJump}
 use Rattle.code_view.specs.declared.tables.AllTables.{AllTables}
-use Rattle.code_view.specs.Tables.{AreAllTables}
+use Rattle.code_view.specs.Tables.{HasTable, AreTablesOf, AreAllTables, addresses_of}
+use Rattle.reached_cuts.specs.declared.followed.Followed.{Followed}
+use Rattle.reached_cuts.specs.Followed.{IsFollowed}
 use Rattle.elf_image.specs.declared.fault.ElfError.{ElfError}
 use Rattle.elf_symbols.specs.declared.seed.Seed.{Seed}
 use Rattle.std.specs.declared.alloc.AllocError.{AllocError as Memory}
 use Rattle.file_graph.specs.declared.survey.Survey.{Survey}
 use Rattle.file_graph.specs.declared.shown.Shown.{Shown}
 use Rattle.file_program.specs.FileSeeds.{AreSeedsOf}
+use Rattle.file_program.specs.FileGraph.{IsGraphUnder, IsGraphOf}
+use Rattle.file_program.specs.Likely.{IsReachedUnder}
 use Rattle.file_graph.specs.Survey.{IsFaultOf, IsSurveyOf}
 
 -- An answer with the seeds of a file, or with the fault of its symbols if it names one.
@@ -23,6 +30,10 @@ AnswersSeeds bytes r = IfOk r (AreSeedsOf bytes) × IfErr r (IsFaultOf bytes)
 -- An answer with the survey of a file, or with the fault of its symbols if it names one.
 abbrev pub AnswersSurvey : List ℕ → Result Survey ElfError → Type 0
 AnswersSurvey bytes r = IfOk r (IsSurveyOf bytes) × IfErr r (IsFaultOf bytes)
+
+-- An answer with what a program reaches from its seeds.
+abbrev pub AnswersFollowed : FileCode → List ℕ → Result Followed Memory → Type 0
+AnswersFollowed code seeds r = IfOk r (IsFollowed code seeds)
 
 -- An answer with the graph of a program with this entry.
 abbrev pub AnswersGraph : InstructionMap → List ℕ → ℕ → Result Shown Memory → Type 0
@@ -45,13 +56,39 @@ Searches asks answers =
     × ((code : Bor Code) (r : _) → answers code r
     → IfOk r (AreAllTables code.now.bytes))
 
--- A function that may be called with any program of a file, its seeds and the entry, and gives the
--- graph: by its precondition and its answer, as above.
+-- A function that may be called with any program of a file and its seeds, and gives what the program
+-- reaches: by its precondition and its answer, as above.
+abbrev pub Follows :
+    (Bor Code → Bor (List ℕ) → Type 0)
+    → (Bor Code → Bor (List ℕ) → Result Followed Memory → Type 0) → Type 0
+Follows asks answers =
+    ((code : Bor Code) (seeds : Bor (List ℕ))
+    → AreSeeds (program_of code.now) seeds.now → asks code seeds)
+    × ((code : Bor Code) (seeds : Bor (List ℕ)) (r : _)
+    → answers code seeds r → AnswersFollowed code.now seeds.now r)
+
+-- A function that may be called with any program of a file, its seeds, the entry and what the program
+-- reaches, and gives the graph: by its precondition and its answer, as above.
 abbrev pub Shows :
-    (Bor Code → Bor (List ℕ) → ℕ → Type 0)
-    → (Bor Code → Bor (List ℕ) → ℕ → Result Shown Memory → Type 0) → Type 0
+    (Bor Code → Bor (List ℕ) → ℕ → Followed → Type 0)
+    → (Bor Code → Bor (List ℕ) → ℕ → Followed → Result Shown Memory → Type 0) → Type 0
 Shows asks answers =
-    ((code : Bor Code) (seeds : Bor (List ℕ)) (entry : ℕ)
-    → AreSeeds (program_of code.now) seeds.now → asks code seeds entry)
-    × ((code : Bor Code) (seeds : Bor (List ℕ)) (entry : ℕ) (r : _)
-    → answers code seeds entry r → AnswersGraph (program_of code.now) seeds.now entry r)
+    ((code : Bor Code) (seeds : Bor (List ℕ)) (entry : ℕ) (followed : Followed)
+    → AreSeeds (program_of code.now) seeds.now → IsFollowed code.now seeds.now followed
+    → asks code seeds entry followed)
+    × ((code : Bor Code) (seeds : Bor (List ℕ)) (entry : ℕ) (followed : Followed) (r : _)
+    → answers code seeds entry followed r
+    → AnswersGraph (program_of code.now) seeds.now entry r)
+
+-- These are the jumps with a table that are reached under the cuts, with their tables.
+pub record AreReachedUnder (bytes : List ℕ) (cuts : Counts) (jumps : List TableJump)
+    : Type 0 where
+  pub tables : AreTablesOf bytes jumps
+  pub only : (j : ℕ) → Contains (addresses_of jumps) j → IsReachedUnder bytes cuts j
+  pub all : (j : ℕ) → HasTable bytes j → IsReachedUnder bytes cuts j
+      → Contains (addresses_of jumps) j
+
+-- The graph under the cuts is the graph of the file.
+abbrev pub ShowTheGraph : List ℕ → Counts → Type 0
+ShowTheGraph bytes cuts =
+    (graph : Graph) → IsGraphUnder bytes cuts graph → IsGraphOf bytes graph

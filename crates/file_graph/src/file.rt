@@ -9,12 +9,13 @@ ghost use Rattle.file_program.specs.FileGraph.{IsGraphOf};
 ghost use Rattle.file_graph.specs.File.{IsGraphedFile};
 ghost use Rattle.file_program.specs.FileSeeds.{AreSeedsOf};
 ghost use Rattle.file_graph.specs.Survey.{IsFaultOf};
-ghost use Rattle.file_graph.specs.Inner.{AnswersGraph, AnswersSurvey};
+ghost use Rattle.reached_cuts.specs.Followed.{IsFollowed};
+ghost use Rattle.file_graph.specs.Inner.{AnswersFollowed, AnswersGraph, AnswersSurvey};
 
 use crate::Memory;
 use crate::builder::{Alone, Builder, Workers};
 use crate::graph::graph_of;
-use crate::sharing::{graph_with, survey_with, tables_with};
+use crate::sharing::{follow_with, graph_with, survey_with, tables_with};
 use crate::shown::Shown;
 use crate::survey::Survey;
 use cfg_model::Graph;
@@ -23,6 +24,7 @@ use core_state::State;
 use crew::Gate;
 use elf_image::{ElfError, Image};
 use elf_symbols::Seeds;
+use reached_cuts::Followed;
 use std::alloc::Global;
 use std::marker::{Model, Sync};
 use std::sync::Wait;
@@ -113,14 +115,23 @@ pub fn file_graph_by<R: Threads + Wait + Sync, G: Gate>(
         requires { IsSync R.row × (1 ≤ workers) }
         ensures { IfOk result (AreAllTables code.now.bytes) }
     { tables_with(rt, alloc, code, workers) };
-    let graph = |code: &Code, seeds: &[u64], entry: u64| -> Result<Shown, Memory>
+    let follow = |code: &Code, seeds: &[u64]| -> Result<Followed, Memory>
         requires { IsSync R.row × IsSync G.row × (2 ≤ workers) × (workers ≤ 64)
             × AreSeeds (program_of code.now) seeds.now }
+        ensures { AnswersFollowed code.now seeds.now result }
+    { follow_with(rt, alloc, code, seeds, workers, gate) };
+    let graph = |code: &Code, seeds: &[u64], entry: u64, followed: Followed| -> Result<
+        Shown,
+        Memory,
+    >
+        requires { IsSync R.row × (1 ≤ workers) × (workers ≤ 64)
+            × AreSeeds (program_of code.now) seeds.now × IsFollowed code.now seeds.now followed }
         ensures { AnswersGraph (program_of code.now) seeds.now entry result }
-    { graph_with(rt, alloc, code, seeds, entry, workers, gate) };
+    { graph_with(rt, alloc, code, seeds, entry, followed, workers) };
     let by = Workers {
         survey,
         tables,
+        follow,
         graph,
     };
     graphed(alloc, &by, bytes)

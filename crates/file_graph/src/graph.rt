@@ -2,21 +2,28 @@
 
 ghost use Rattle.std.specs.Prelude.{IfOk};
 ghost use Rattle.chain_index.specs.Found.{AreReachesOf};
+ghost use Rattle.cfg_model.specs.Graph.Graph.{IsGraph};
+ghost use Rattle.cfg_model.specs.Program.Reach.{AreSeeds};
+ghost use Rattle.code_view.specs.FileCode.{program_of};
 ghost use Rattle.file_program.specs.FileGraph.{IsGraphOf};
 ghost use Rattle.file_program.specs.FileSeeds.{AreSeedsOf};
 
 use crate::Memory;
 use crate::builder::Builder;
-use crate::cuts::file_cuts;
+use crate::cuts::{likely_cuts, other_cuts};
 use crate::shown::Shown;
 use chain_index::{ChainIndex, ChainReaches};
 use code_view::{Code, Cuts};
 use elf_image::Image;
 use elf_symbols::Seeds;
+use reached_cuts::reached_jumps;
 use std::alloc::Global;
 
 /// The graph of a file from its seeds and the reaches of its chains: the least closure from the
 /// seeds under the cuts of those jump tables that are reached if none is cut. `by` does the parts.
+///
+/// The program is followed under the likely cuts. What it reaches so nearly always shows that the
+/// graph under them is that of the file.
 pub fn graph_of<B: Builder>(
     alloc: Global,
     by: &B,
@@ -34,7 +41,22 @@ pub fn graph_of<B: Builder>(
     let uncut = Code::new(image, &index, &none);
     let tables = by.tables(&uncut)?;
     let uncut = uncut.with_tables(&tables);
-    let cuts = file_cuts(alloc, &uncut, seeds, &tables)?;
-    let code = uncut.under(&cuts);
-    by.graph(&code, seeds.addresses(), image.entry())
+    let likely = likely_cuts(alloc, &tables)?;
+    let code = uncut.under(&likely);
+    let followed = by.follow(&code, seeds.addresses())?;
+    let reached = reached_jumps(alloc, &code, &followed, tables.jumps())?;
+    match other_cuts(alloc, &uncut, seeds, &tables, &likely, &reached)? {
+        None => by.graph(&code, seeds.addresses(), image.entry(), followed),
+        Some(cuts) => graph_anew(by, &uncut.under(&cuts), seeds.addresses(), image.entry()),
+    }
+}
+
+/// The graph of the program `code` with this entry, which is followed from its seeds first.
+fn graph_anew<B: Builder>(by: &B, code: &Code, seeds: &[u64], entry: u64) -> Result<Shown, Memory>
+    requires build { B.ready by.now }
+    requires seeds { AreSeeds (program_of code.now) seeds.now }
+    ensures { IfOk result (λ shown. IsGraph (program_of code.now) seeds.now entry shown.graph) }
+{
+    let followed = by.follow(code, seeds)?;
+    by.graph(code, seeds, entry, followed)
 }

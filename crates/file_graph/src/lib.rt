@@ -4,18 +4,19 @@
 //! - `survey`: what is known of a file before any of its program is followed.
 //! - `graph`: the graph of a file, step by step. `cuts`: the cuts of its jump tables.
 //! - `builder`: who does the parts of this: the caller's thread, or workers. `shown` is the graph that
-//!   they make, which `sharing` reads off the closed state that workers build.
+//!   they make, which `sharing` reads off the closed state that workers build. `measure`: how many
+//!   workers a part is worth.
 #![tactic(auto)]
 
 mod builder;
 mod cuts;
 mod file;
 mod graph;
+mod measure;
 mod sharing;
 mod shown;
 mod survey;
 
-pub use builder::{Alone, Builder, Workers};
 pub use file::{FileGraph, file_graph, file_graph_by};
+pub use measure::{LEAST_SHARE, workers_worth};
 pub use std::alloc::AllocError as Memory;
-pub use survey::Survey;

@@ -9,10 +9,12 @@ ghost use Rattle.cfg_model.specs.Graph.Graph.{IsGraph};
 ghost use Rattle.chain_index.specs.Found.{AreReachesOf};
 ghost use Rattle.finaliser.specs.Closed.{IsClosedFromSome, IsOutlineOf};
 ghost use Rattle.code_view.specs.Tables.{AreAllTables};
+ghost use Rattle.reached_cuts.specs.Followed.{IsFollowed};
 ghost use Rattle.file_graph.specs.Survey.{IsFaultOf, IsSurveyOf};
 ghost use Rattle.file_graph.specs.Inner.{AnswersSeeds};
 
 use crate::Memory;
+use crate::measure::workers_worth;
 use crate::shown::Shown;
 use crate::survey::Survey;
 use cfg_model::{Graph, Outline};
@@ -24,6 +26,7 @@ use elf_image::{ElfError, Image};
 use elf_symbols::{Seeds, seeds};
 use finaliser::blocks_and_edges_by;
 use func_bodies::{functions_by, mark_tails_by};
+use reached_cuts::Followed;
 use std::alloc::Global;
 use std::marker::Sync;
 use std::sync::Wait;
@@ -65,7 +68,7 @@ pub fn survey_with<R: Threads + Sync>(
     }
 }
 
-/// The jump tables of all code, found by `workers` workers.
+/// The jump tables of all code, found by as many of `workers` workers as the code is worth.
 pub fn tables_with<R: Threads + Sync>(
     rt: &R,
     alloc: Global,
@@ -75,38 +78,60 @@ pub fn tables_with<R: Threads + Sync>(
     requires { 1 ≤ workers }
     ensures { IfOk result (AreAllTables code.now.bytes) }
 {
+    let workers = workers_worth(code.index().numbers() as usize, workers);
     all_tables_by(rt, alloc, code, workers)
 }
 
-/// The graph of a program with this entry, made by `workers` workers, who build a closed state first.
-/// From one seed it is made on the caller's thread: there nearly each function is found by a call of
-/// the one before it, so that workers would wait for one another.
-pub fn graph_with<R: Threads + Wait + Sync, G: Gate>(
+/// What a program reaches from its seeds, found by `workers` workers, who build a closed state. From
+/// one seed it is found on the caller's thread: there nearly each function is found by a call of the
+/// one before it, so that workers would wait for one another.
+pub fn follow_with<R: Threads + Wait + Sync, G: Gate>(
+    rt: &R,
+    alloc: Global,
+    code: &Code,
+    seeds: &[u64],
+    workers: u32,
+    gate: &G,
+) -> Result<Followed, Memory>
+    requires least { 2 ≤ workers }
+    requires most { workers ≤ 64 }
+    requires seeds { AreSeeds (program_of code.now) seeds.now }
+    ensures { IfOk result (IsFollowed code.now seeds.now) }
+{
+    if seeds.len() < 2 {
+        return Followed::alone(alloc, code, seeds);
+    }
+    Ok(Followed::State(build(rt, alloc, code, seeds, workers, gate)?))
+}
+
+/// The graph of a program with this entry, from what it reaches: read off its closed state by
+/// `workers` workers, or else made on the caller's thread.
+pub fn graph_with<R: Threads + Sync>(
     rt: &R,
     alloc: Global,
     code: &Code,
     seeds: &[u64],
     entry: u64,
+    followed: Followed,
     workers: u32,
-    gate: &G,
 ) -> Result<Shown, Memory>
-    requires least { 2 ≤ workers }
+    requires some { 1 ≤ workers }
     requires most { workers ≤ 64 }
     requires seeds { AreSeeds (program_of code.now) seeds.now }
+    requires followed { IsFollowed code.now seeds.now followed }
     ensures { IfOk result (λ shown. IsGraph (program_of code.now) seeds.now entry shown.graph) }
 {
-    if seeds.len() < 2 {
-        return Shown::alone(alloc, code, seeds, entry);
+    match followed {
+        Followed::State(state) => Ok(Shown {
+            graph: read_off(rt, alloc, code, seeds, &state, entry, workers)?,
+            state: Some(state),
+        }),
+        terms => Shown::alone(alloc, code, seeds, entry, terms),
     }
-    let state = build(rt, alloc, code, seeds, workers, gate)?;
-    let graph = read_off(rt, alloc, code, seeds, &state, entry, workers)?;
-    Ok(Shown {
-        graph,
-        state: Some(state),
-    })
 }
 
-/// The graph of a program with this entry, read off its closed state by `workers` workers.
+/// The graph of a program with this entry, read off its closed state by `workers` workers. Each step
+/// takes as many of them as its work is worth.
 fn read_off<R: Threads + Sync>(
     rt: &R,
     alloc: Global,
@@ -122,9 +147,11 @@ fn read_off<R: Threads + Sync>(
     ensures { IfOk result (IsGraph (program_of code.now) seeds.now entry) }
 {
     let outline = outline_with(rt, alloc, code, state, workers)?;
-    let functions = functions_by(rt, alloc, code, seeds, state, &outline, workers)?;
+    let for_blocks = workers_worth(outline.blocks.as_slice().len(), workers);
+    let functions = functions_by(rt, alloc, code, seeds, state, &outline, for_blocks)?;
     let Outline { blocks, mut edges } = outline;
-    mark_tails_by(rt, alloc, &functions, &mut edges, workers)?;
+    let for_edges = workers_worth(edges.as_slice().len(), workers);
+    mark_tails_by(rt, alloc, &functions, &mut edges, for_edges)?;
     Ok(Graph {
         entry,
         functions,
@@ -133,7 +160,7 @@ fn read_off<R: Threads + Sync>(
     })
 }
 
-/// The blocks and edges of a program, made by `workers` workers.
+/// The blocks and edges of a program, made by as many of `workers` workers as its code is worth.
 fn outline_with<R: Threads + Sync>(
     rt: &R,
     alloc: Global,
@@ -145,6 +172,7 @@ fn outline_with<R: Threads + Sync>(
     requires closed { IsClosedFromSome (program_of code.now) state.now.maps }
     ensures { IfOk result (IsOutlineOf (program_of code.now) state.now.maps) }
 {
+    let workers = workers_worth(code.index().numbers() as usize, workers);
     let bounds = code.bounds(alloc, workers.saturating_mul(GAPS_PER_WORKER))?;
     blocks_and_edges_by(rt, alloc, code, state, &bounds, workers)
 }

@@ -13,7 +13,8 @@ use Rattle.file_program.specs.Laws.{CutsAreUnique, FileGraphIsUnique}
 
 -- ---- cuts
 
-same-option : (o p : Option ℕ) → ((x : ℕ) → o ≡ Some x → p ≡ Some x) → ((x : ℕ) → p ≡ Some x → o ≡ Some x) → o ≡ p
+-- What have the same value are one.
+pub same-option : (o p : Option ℕ) → ((x : ℕ) → o ≡ Some x → p ≡ Some x) → ((x : ℕ) → p ≡ Some x → o ≡ Some x) → o ≡ p
 same-option None None f g = refl
 same-option None (Some y) f g = g y refl
 same-option (Some x) p f g = sym (f x refl)

@@ -1,3 +1,4 @@
 pub mod FileSeeds
 pub mod FileGraph
+pub mod Likely
 pub mod Laws

@@ -1,2 +1,2 @@
-pub mod NoCuts
 pub mod Counting
+pub mod Told

@@ -6,21 +6,20 @@ ghost use Rattle.cfg_model.specs.Program.Reach.{Reached};
 ghost use Rattle.code_view.specs.Cuts.{cut_of, CutsFit};
 ghost use Rattle.code_view.specs.FileCode.{program_of};
 ghost use Rattle.table_cuts.specs.Extents.{extent_at};
-ghost use Rattle.code_view.specs.Tables.{AreAllTables, AreTablesOf};
-ghost use Rattle.reached_cuts.specs.Counted.{AreReachedAmong};
+ghost use Rattle.code_view.specs.Tables.{AreAllTables};
 
 use crate::Memory;
-use code_view::{AllTables, Code, Cuts, TableJump};
-use reached_terms::ReachedTerms;
+use crate::followed::Followed;
+use crate::jumps::reached_jumps;
+use code_view::{AllTables, Code, Cuts};
 use std::alloc::Global;
 use table_cuts::cuts_of;
 
 /// The cuts of jump tables, of which `tables` are all in the code. Those count whose jumps the
-/// program `code` reaches from its seeds. If all tables together cut none, the ones that count cut
-/// none either, and nothing is followed.
+/// program `code` reaches from its seeds.
 ///
-/// The only error is that memory ran out. Time and memory: those of [`ReachedTerms::of`] if some
-/// table is cut, and of [`cuts_of`].
+/// The only error is that memory ran out. Time and memory: those of [`Followed::alone`] and of
+/// [`cuts_of`].
 pub fn reached_cuts(
     alloc: Global,
     code: &Code,
@@ -33,33 +32,7 @@ pub fn reached_cuts(
         (Reached (program_of code.now) seeds.now) (cut_of cuts)) }
     ensures fits { IfOk result (λ cuts. CutsFit code.now.bytes (cut_of cuts)) }
 {
-    let listed = tables.jumps();
-    let cuts = cuts_of(alloc, listed)?;
-    if cuts.is_empty() {
-        return Ok(cuts);
-    }
-    let counted = reached_among(alloc, code, seeds, listed)?;
+    let followed = Followed::alone(alloc, code, seeds)?;
+    let counted = reached_jumps(alloc, code, &followed, tables.jumps())?;
     Ok(cuts_of(alloc, &counted)?)
-}
-
-/// Those of these jumps that the program reaches from its seeds.
-fn reached_among(
-    alloc: Global,
-    code: &Code,
-    seeds: &[u64],
-    tables: &[TableJump],
-) -> Result<Vec<TableJump>, Memory>
-    requires seeds { All (λ a. IsSome (program_of code.now a)) seeds.now }
-    requires tables { AreTablesOf code.now.bytes tables.now }
-    ensures { IfOk result
-        (λ counted. AreReachedAmong code.now seeds.now tables.now counted.items) }
-{
-    let reached = ReachedTerms::of(alloc, code, seeds)?;
-    let mut counted = Vec::new(alloc);
-    for found in tables {
-        if reached.has(code, found.jump) {
-            counted.push(*found)?;
-        }
-    }
-    Ok(counted)
 }

@@ -1,0 +1,61 @@
+-- What the jumps that are reached under the likely cuts tell of the file.
+use Rattle.std.proofs.Common.{◌≡◌, ℕ, List, sym, subst}
+use Rattle.std.specs.Prelude.{All, Contains}
+use Rattle.std.proofs.lemmas.List.Elements.{All-map, All-contains}
+use Rattle.elf_image.specs.Seeds.{seeds}
+use Rattle.cfg_model.specs.Program.Instructions.{InstructionMap}
+use Rattle.cfg_model.specs.Program.Cuts.{AreCuts}
+use Rattle.cfg_model.specs.Program.Reach.{Reached}
+use Rattle.code_view.specs.Cuts.{Counts, cut_of}
+use Rattle.code_view.specs.FileCode.{FileCode, program_of}
+use Rattle.code_view.specs.Tables.{AreAllTables, AreTablesOf, addresses_of}
+use Rattle.code_view.specs.declared.table_jump.TableJump.{TableJump}
+use Rattle.table_cuts.specs.Extents.{extent_at}
+use Rattle.table_cuts.proofs.Counted.{cuts-other, has-table}
+use Rattle.reached_cuts.specs.Counted.{AreReachedAmong}
+use Rattle.file_program.specs.FileGraph.{cut_program, AreCutsOf}
+use Rattle.file_program.specs.Likely.{AreLikelyCuts, IsReachedUnder, AreCutsUnder, AgreeWhereReached}
+use Rattle.file_program.proofs.LikelyCuts.{agreeing-show, likely-show}
+use Rattle.file_program.proofs.UnderCuts.{program-is}
+use Rattle.file_graph.specs.Inner.{AreReachedUnder, ShowTheGraph}
+
+-- The cuts of all tables of the code are the likely ones.
+pub likely-are : (bytes : List ℕ) (tables : List TableJump) (cuts : Counts) → AreAllTables bytes tables
+    → AreCuts (extent_at bytes) (λ j. Contains (addresses_of tables) j) (cut_of cuts) → AreLikelyCuts bytes cuts
+likely-are bytes tables cuts all =
+    cuts-other (extent_at bytes) (λ j. Contains (addresses_of tables) j) _
+    (λ j extent at. (λ there. has-table bytes j extent at, λ has. all.all_jumps j has)) (cut_of cuts)
+
+-- The jumps that code reaches among all with a table.
+pub reached-under : (bytes from : List ℕ) (cuts : Counts) (code : FileCode) (tables jumps : List TableJump) → code.bytes ≡ bytes → code.cuts ≡ cuts → from ≡ seeds bytes
+    → AreAllTables bytes tables → AreReachedAmong code from tables jumps → AreReachedUnder bytes cuts jumps
+reached-under bytes from cuts code tables jumps same under all-seeds all among = record {
+  tables = subst (λ (b : List ℕ). AreTablesOf b jumps) same among.tables_of;
+  only = λ j there. subst (λ (s : List ℕ). Reached (cut_program bytes cuts) s j) all-seeds (subst (λ (p : InstructionMap). Reached p from j) program (among.only j there).1);
+  all = λ j has reached.
+      among.all j (all.all_jumps j has)
+      (subst (λ (p : InstructionMap). Reached p from j) (sym program) (subst (λ (s : List ℕ). Reached (cut_program bytes cuts) s j) (sym all-seeds) reached));
+}
+  where
+    program : program_of code ≡ cut_program bytes cuts
+    program = program-is bytes cuts code same under
+
+module _ (bytes : List ℕ) (likely : Counts) (jumps : List TableJump) (reached : AreReachedUnder bytes likely jumps) where
+  agree : (others : Counts) → All (λ (f : TableJump). cut_of likely f.jump ≡ cut_of others f.jump) jumps → AgreeWhereReached bytes likely others
+  agree others same j has is =
+      sym (All-contains (λ a. cut_of likely a ≡ cut_of others a) (addresses_of jumps) j (All-map (λ a. cut_of likely a ≡ cut_of others a) (λ (f : TableJump). f.jump) jumps same) (reached.all j has is))
+
+  -- The cuts by the reached jumps show the graph where they agree with the likely ones.
+  pub by-reach-shows : (others : Counts) → AreLikelyCuts bytes likely → AreCuts (extent_at bytes) (λ j. Contains (addresses_of jumps) j) (cut_of others)
+      → All (λ (f : TableJump). cut_of likely f.jump ≡ cut_of others f.jump) jumps → ShowTheGraph bytes likely
+  by-reach-shows others are by_jumps same graph is =
+      likely-show bytes likely others graph are under (agree others same) is
+    where
+      under : AreCutsUnder bytes likely others
+      under =
+          cuts-other (extent_at bytes) (λ j. Contains (addresses_of jumps) j) (IsReachedUnder bytes likely)
+          (λ j extent at. (λ there. reached.only j there, λ is_reached. reached.all j (has-table bytes j extent at) is_reached)) (cut_of others) by_jumps
+
+  -- So do the file's own cuts.
+  pub own-shows : (own : Counts) → AreCutsOf bytes own → All (λ (f : TableJump). cut_of likely f.jump ≡ cut_of own f.jump) jumps → ShowTheGraph bytes likely
+  own-shows own are same graph is = agreeing-show bytes likely own graph are (agree own same) is

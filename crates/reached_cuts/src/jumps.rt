@@ -1,0 +1,44 @@
+//! The jumps with a table that a program reaches.
+
+ghost use Rattle.std.specs.Prelude.{◌≡◌, ◌↔◌, ℕ, List, All, IfOk, IsTrue};
+ghost use Rattle.code_view.specs.Cuts.{cut_of};
+ghost use Rattle.code_view.specs.Tables.{AreTablesOf};
+ghost use Rattle.reached_cuts.specs.Counted.{AreReachedAmong};
+ghost use Rattle.reached_cuts.specs.Followed.{IsFollowed};
+
+use crate::Memory;
+use crate::followed::Followed;
+use code_view::{Code, Cuts, TableJump};
+use std::alloc::Global;
+
+/// Those of these jumps that the program reaches from its seeds, by what was found of that. The only
+/// error is that memory ran out.
+pub fn reached_jumps(
+    alloc: Global,
+    code: &Code,
+    followed: &Followed,
+    tables: &[TableJump],
+) -> Result<Vec<TableJump>, Memory>
+    requires followed { (seeds : List ℕ) × IsFollowed code.now seeds followed.now }
+    requires tables { AreTablesOf code.now.bytes tables.now }
+    ensures { IfOk result (λ jumps. (seeds : List ℕ) → IsFollowed code.now seeds followed.now
+        → AreReachedAmong code.now seeds tables.now jumps.items) }
+{
+    let mut jumps = Vec::new(alloc);
+    for found in tables {
+        if followed.has(code, found.jump) {
+            jumps.push(*found)?;
+        }
+    }
+    Ok(jumps)
+}
+
+/// Whether the tables of all these jumps have the same cuts in both.
+pub fn cut_alike(jumps: &[TableJump], one: &Cuts, other: &Cuts) -> bool
+    ensures { IsTrue result
+        ↔ All (λ found. cut_of one.now found.jump ≡ cut_of other.now found.jump) jumps.now }
+{
+    jumps
+        .iter()
+        .all(|found| one.count(found.jump) == other.count(found.jump))
+}
