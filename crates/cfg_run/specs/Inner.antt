@@ -1,5 +1,5 @@
 -- Words that no public clause cites: what the steps of a run tell one another.
-use Rattle.std.specs.Prelude.{◌≡◌, ℕ, List, Vec, Option, Some, None, IfOk, IfErr}
+use Rattle.std.specs.Prelude.{◌≡◌, ℕ, List, Vec, Option, Some, None, IfSome, IfOk, IfErr}
 use Rattle.std.specs.Prelude.{Result, Ok, Err, All}
 use Rattle.std.specs.List.Sorted.{IsStrictlyIncreasing}
 use Rattle.std.specs.declared.alloc.Global.{Global}
@@ -7,6 +7,7 @@ use Rattle.std.proofs.Common.{Bor}
 use Rattle.cfg_model.specs.declared.graph.Graph.{Graph}
 use Rattle.cfg_model.specs.declared.live.Live.{Live}
 use Rattle.std.specs.declared.alloc.AllocError.{AllocError as Memory}
+use Rattle.parallel.specs.Lists.{all_in}
 use Rattle.elf_image.specs.declared.fault.ElfError.{ElfError}
 use Rattle.elf_image.specs.Faults.{first_fault}
 use Rattle.cfg_words.specs.Request.{Asked}
@@ -50,6 +51,20 @@ FindsLives asks answers =
     → All (λ f. IsStrictlyIncreasing f.body) graph.now.functions → asks image graph)
     × ((image : Bor (List ℕ)) (graph : Bor Graph) (r : _) → answers image graph r
     → AnswersLives image.now graph.now r)
+
+-- An answer with texts that follow each other and are this text; or with none, if it is to be made
+-- while it is written.
+abbrev pub AnswersTexts : List ℕ → Result (Option (Vec (Vec ℕ Global) Global)) Memory → Type 0
+AnswersTexts text r = IfOk r (λ made. IfSome made (λ texts. all_in texts.items ≡ text))
+
+-- A function that may be called with the lines of any report, and gives their text: by its
+-- precondition and by what it says of its answer.
+abbrev pub MakesTexts :
+    (List ℕ → Type 0) → (List ℕ → Result (Option (Vec (Vec ℕ Global) Global)) Memory → Type 0)
+    → Type 0
+MakesTexts asks answers =
+    ((lines : List ℕ) → asks lines)
+    × ((lines : List ℕ) (r : _) → answers lines r → AnswersTexts lines r)
 
 -- How a run ends after this step, if no later one fails.
 abbrev pub end_of : {X : Type 0} → Result X Refusal → Status

@@ -1,15 +1,16 @@
 //! Who makes what a text shows: the caller's thread, or workers.
 
-ghost use Rattle.cfg_run.specs.Inner.{FindsLives, GraphsFiles};
+ghost use Rattle.cfg_run.specs.Inner.{FindsLives, GraphsFiles, MakesTexts};
 
 use cfg_model::{AllLives, Graph, Memory};
 use elf_image::{ElfError, Image};
 use file_graph::{FileGraph, file_graph};
+use graph_report::ReportLines;
 use live_crew::graph_lives;
 use std::alloc::Global;
 
-/// Makes what a text shows: the graph of a file, and the live registers of a graph. The contracts
-/// are the same for each maker, and each may answer want of memory.
+/// Makes what a text shows, the graph of a file and the live registers of a graph, and the text of a
+/// report. The contracts are the same for each maker, and each may answer want of memory.
 pub trait Maker {
     ghost use Rattle.std.specs.Prelude.{All, IfOk, IfErr, ⊤};
     ghost use Rattle.std.specs.List.Sorted.{IsStrictlyIncreasing};
@@ -17,6 +18,7 @@ pub trait Maker {
     ghost use Rattle.file_graph.specs.Survey.{IsFaultOf};
     ghost use Rattle.live_regs.specs.Masks.{AreAllLivesOf};
     ghost use Rattle.live_regs.specs.Noted.{AreInOrder};
+    ghost use Rattle.cfg_run.specs.Inner.{AnswersTexts};
 
     /// What holds of a maker that may be asked.
     ghost ready: { Self → Type 0 } = { λ _. ⊤ };
@@ -34,6 +36,12 @@ pub trait Maker {
         requires bodies { All (λ f. IsStrictlyIncreasing f.body) graph.now.functions }
         ensures { IfOk result (AreAllLivesOf image.now graph.now.blocks graph.now.edges
             graph.now.functions) };
+
+    /// The text of these lines, as texts that follow each other; `None` if it is to be made piece by
+    /// piece while it is written.
+    fn texts(&self, lines: ReportLines) -> Result<Option<Vec<Vec<u8>>>, Memory>
+        requires ready { ready self.now }
+        ensures { AnswersTexts lines.entry result };
 }
 
 /// The caller's thread, which starts no other.
@@ -51,24 +59,32 @@ impl Maker for Alone {
     fn lives(&self, image: &Image, graph: &Graph) -> Result<AllLives, Memory> {
         graph_lives(self.alloc, image, graph)
     }
+
+    fn texts(&self, _lines: ReportLines) -> Result<Option<Vec<Vec<u8>>>, Memory> {
+        Ok(None)
+    }
 }
 
 /// Workers, as the closures that set them to work. What starts threads has to stand where the
 /// runtime is: a method of an `impl` hands its block's bounds to no other thread.
 #[derive(Drop)]
-pub struct Workers<F, L> {
+pub struct Workers<F, L, T> {
     /// Makes a file with its graph.
     pub file: F,
     /// Finds the live registers of a graph.
     pub lives: L,
+    /// Makes the text of a report.
+    pub texts: T,
 }
 
 impl<
     F: Fn(Vec<u8>) -> Result<FileGraph, ElfError>,
     L: Fn(&Image, &Graph) -> Result<AllLives, Memory>,
-> Maker for Workers<F, L> {
+    T: Fn(ReportLines) -> Result<Option<Vec<Vec<u8>>>, Memory>,
+> Maker for Workers<F, L, T> {
     ghost ready = { λ workers. GraphsFiles (F.pre workers.file) (F.post workers.file)
-        × FindsLives (L.pre workers.lives) (L.post workers.lives) };
+        × FindsLives (L.pre workers.lives) (L.post workers.lives)
+        × MakesTexts (T.pre workers.texts) (T.post workers.texts) };
 
     fn file(&self, bytes: Vec<u8>) -> Result<FileGraph, ElfError> {
         (self.file)(bytes)
@@ -76,5 +92,9 @@ impl<
 
     fn lives(&self, image: &Image, graph: &Graph) -> Result<AllLives, Memory> {
         (self.lives)(image, graph)
+    }
+
+    fn texts(&self, lines: ReportLines) -> Result<Option<Vec<Vec<u8>>>, Memory> {
+        (self.texts)(lines)
     }
 }

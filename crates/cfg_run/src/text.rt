@@ -1,20 +1,23 @@
 //! The text of an answer, and writing it.
 
-ghost use Rattle.std.specs.Prelude.{◌≡◌, ◌≢◌, OnOk, IsErrOf};
+ghost use Rattle.std.specs.Prelude.{◌≡◌, ◌≢◌, OnOk, IsErrOf, IfSome};
 ghost use Rattle.elf_image.specs.Seeds.{seed_name};
 ghost use Rattle.cfg_io.specs.Fault.{Rose};
 ghost use Rattle.cfg_io.specs.Told.{Appends, AppendsPrefix};
 ghost use Rattle.graph_report.specs.Live.{AreForAll, live_text};
 ghost use Rattle.graph_report.specs.Report.{report_text};
+ghost use Rattle.parallel.specs.Lists.{all_in};
 ghost use Rattle.cfg_run.specs.Text.{bytes_of};
 
+use crate::maker::Maker;
 use cfg_io::{Sink, write_whole};
 use cfg_model::AllLives;
 use file_graph::FileGraph;
-use graph_report::{ReportKind, ReportPieces};
-use run_ends::{Unwritten, write_pieces};
+use graph_report::{ReportKind, ReportLines, ReportPieces};
+use run_ends::{Unwritten, write_pieces, write_texts};
 use std::alloc::Global;
 use std::marker::Model;
+use std::mem;
 
 /// What a report is made of: the file with its graph, and which part of it is shown. Contracts see
 /// it as the report's text, which is made only while it is written.
@@ -46,20 +49,12 @@ impl FileReport {
         FileReport { file, kind }
     }
 
-    /// Writes it piece by piece. The memory of the pieces is taken before the first byte is
-    /// written.
-    fn write<O: Sink>(&self, alloc: Global, out: &mut O) -> Result<(), Unwritten>
-        ensures whole { OnOk result (Appends (O.written out.old) self.now (O.written out.new)) }
-        ensures prefix { IsErrOf result Unwritten.Failed
-            → AppendsPrefix (O.written out.old) self.now (O.written out.new) }
-        ensures failed { IsErrOf result Unwritten.Failed
-            → Rose (O.faults out.old) (O.faults out.new) }
-        ensures untouched { IsErrOf result Unwritten.Memory
-            → O.written out.new ≡ O.written out.old }
+    /// Its lines.
+    fn lines(&self) -> ReportLines<'_>
+        ensures { result ≡ self.now }
     {
         let file = &self.file;
-        let pieces = ReportPieces::new(alloc, file.image(), file.seeds(), file.graph(), self.kind)?;
-        Ok(write_pieces(pieces, out)?)
+        ReportLines::new(file.image(), file.seeds(), file.graph(), self.kind)
     }
 }
 
@@ -92,21 +87,40 @@ impl LiveReport {
         LiveReport { file, lives }
     }
 
-    /// Writes it piece by piece. The memory of the pieces is taken before the first byte is
-    /// written.
-    fn write<O: Sink>(&self, alloc: Global, out: &mut O) -> Result<(), Unwritten>
-        ensures whole { OnOk result (Appends (O.written out.old) self.now (O.written out.new)) }
-        ensures prefix { IsErrOf result Unwritten.Failed
-            → AppendsPrefix (O.written out.old) self.now (O.written out.new) }
-        ensures failed { IsErrOf result Unwritten.Failed
-            → Rose (O.faults out.old) (O.faults out.new) }
-        ensures untouched { IsErrOf result Unwritten.Memory
-            → O.written out.new ≡ O.written out.old }
+    /// Its lines.
+    fn lines(&self) -> ReportLines<'_>
+        ensures { result ≡ self.now }
     {
         let file = &self.file;
-        let (image, seeds) = (file.image(), file.seeds());
-        let pieces = ReportPieces::of_lives(alloc, image, seeds, file.graph(), &self.lives)?;
-        Ok(write_pieces(pieces, out)?)
+        ReportLines::of_lives(file.image(), file.seeds(), file.graph(), &self.lives)
+    }
+}
+
+/// Writes the texts that were made of these lines, or their text piece by piece. The memory of the
+/// pieces is taken before the first byte is written.
+fn write_made<O: Sink>(
+    alloc: Global,
+    lines: ReportLines,
+    made: Option<Vec<Vec<u8>>>,
+    out: &mut O,
+) -> Result<(), Unwritten>
+    requires { IfSome made (λ texts. all_in texts.items ≡ lines) }
+    ensures whole { OnOk result (Appends (O.written out.old) lines.entry (O.written out.new)) }
+    ensures prefix { IsErrOf result Unwritten.Failed
+        → AppendsPrefix (O.written out.old) lines.entry (O.written out.new) }
+    ensures failed { IsErrOf result Unwritten.Failed
+        → Rose (O.faults out.old) (O.faults out.new) }
+    ensures untouched { IsErrOf result Unwritten.Memory
+        → O.written out.new ≡ O.written out.old }
+{
+    match made {
+        Some(texts) => {
+            let written = write_texts(&texts, out);
+            // The program ends soon, and to free the texts takes time.
+            mem::forget(texts);
+            Ok(written?)
+        }
+        None => Ok(write_pieces(ReportPieces::of_lines(alloc, &lines)?, out)?),
     }
 }
 
@@ -119,8 +133,14 @@ pub enum Text {
 }
 
 impl Text {
-    /// Writes it.
-    pub fn write<O: Sink>(&self, alloc: Global, out: &mut O) -> Result<(), Unwritten>
+    /// Writes it. All memory is taken before the first byte is written.
+    pub fn write<M: Maker, O: Sink>(
+        &self,
+        alloc: Global,
+        by: &M,
+        out: &mut O,
+    ) -> Result<(), Unwritten>
+        requires { M.ready by.now }
         ensures whole { OnOk result
             (Appends (O.written out.old) (bytes_of self.now) (O.written out.new)) }
         ensures prefix { IsErrOf result Unwritten.Failed
@@ -131,8 +151,12 @@ impl Text {
             → O.written out.new ≡ O.written out.old }
     {
         match self {
-            Text::Report(report) => report.write(alloc, out),
-            Text::Live(report) => report.write(alloc, out),
+            Text::Report(report) => {
+                write_made(alloc, report.lines(), by.texts(report.lines())?, out)
+            }
+            Text::Live(report) => {
+                write_made(alloc, report.lines(), by.texts(report.lines())?, out)
+            }
             Text::Summary(bytes) => Ok(write_whole(out, bytes)?),
         }
     }

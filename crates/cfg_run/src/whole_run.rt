@@ -13,7 +13,7 @@ ghost use Rattle.cfg_run.specs.Answer.{IsAnswer, text_answer};
 ghost use Rattle.cfg_run.specs.Refusal.{status_of};
 ghost use Rattle.cfg_run.specs.Lines.{refusal_line};
 ghost use Rattle.cfg_run.specs.Text.{bytes_of};
-ghost use Rattle.cfg_run.specs.Inner.{AnswersFile, AnswersLives, IsTrueOf, end_of};
+ghost use Rattle.cfg_run.specs.Inner.{AnswersFile, AnswersLives, AnswersTexts, IsTrueOf, end_of};
 ghost use Rattle.run_ends.specs.Told.{Grows, Tells};
 ghost use Rattle.run_ends.specs.Inputs.{OverInput, FileReadFor};
 ghost use Rattle.cfg_run.specs.Run.{IsDecided, HasRead, Gives, GivesPart, IsLineOf};
@@ -29,8 +29,9 @@ use cfg_words::{Request, request};
 use crew::Gate;
 use elf_image::{ElfError, Image};
 use file_graph::{FileGraph, file_graph_by};
-use graph_report::ReportKind;
+use graph_report::{ReportKind, ReportLines};
 use live_crew::graph_lives_by;
+use report_crew::{is_worth_sharing, text_by};
 use run_ends::{Unwritten, read_file};
 use std::alloc::Global;
 use std::marker::Sync;
@@ -49,7 +50,8 @@ use std::thread::Threads;
 ///
 /// From two workers on, threads share the work: with two seeds or more they build the closed state
 /// on a board that they share, and pass the gate before each operation. The run may wait then. They
-/// share the search for live registers too. For one worker it calls [`run_one`].
+/// share the search for live registers too, and the text of a report of many lines. For one worker
+/// it calls [`run_one`].
 pub fn run<R: Threads + Wait + Sync, I: Input, O: Sink, E: Sink, G: Gate>(
     rt: &R,
     alloc: Global,
@@ -111,7 +113,11 @@ pub fn run<R: Threads + Wait + Sync, I: Input, O: Sink, E: Sink, G: Gate>(
                 × All (λ f. IsStrictlyIncreasing f.body) graph.now.functions }
             ensures { AnswersLives image.now graph.now result }
         { graph_lives_by(rt, alloc, image, graph, count) };
-        let by = Workers { file, lives };
+        let texts = |lines: ReportLines| -> Result<Option<Vec<Vec<u8>>>, Memory>
+            requires { IsSync R.row × (2 ≤ count) × (count ≤ 64) }
+            ensures { AnswersTexts lines.entry result }
+        { texts_by(rt, alloc, lines, count) };
+        let by = Workers { file, lives, texts };
         return run_by(alloc, &by, &request, input, out, err);
     }
     run_one(alloc, &request, input, out, err)
@@ -208,7 +214,7 @@ fn run_by<M: Maker, I: Input, O: Sink, E: Sink>(
         Ok(text) => text,
         Err(refusal) => return refuse(refusal, err),
     };
-    let written = text.write(alloc, out);
+    let written = text.write(alloc, by, out);
     // The program ends soon, and to free a graph takes time.
     mem::forget(text);
     match written {
@@ -216,6 +222,22 @@ fn run_by<M: Maker, I: Input, O: Sink, E: Sink>(
         Err(Unwritten::Failed) => refuse(Refusal::WriteFault, err),
         Err(Unwritten::Memory) => refuse(Refusal::Memory, err),
     }
+}
+
+// The text of these lines by several workers, if it is worth that.
+fn texts_by<R: Threads + Sync>(
+    rt: &R,
+    alloc: Global,
+    lines: ReportLines,
+    workers: u32,
+) -> Result<Option<Vec<Vec<u8>>>, Memory>
+    requires { (1 ≤ workers) × (workers ≤ 64) }
+    ensures { AnswersTexts lines.entry result }
+{
+    if !is_worth_sharing(&lines) {
+        return Ok(None);
+    }
+    Ok(Some(text_by(rt, alloc, lines, workers)?))
 }
 
 // How many workers are asked for.

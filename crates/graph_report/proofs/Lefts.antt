@@ -1,6 +1,7 @@
 -- Text that moves from the front of what is left to the end of a page.
-use Rattle.std.proofs.Common.{◌≡◌, ℕ, ◌<◌, ◌≤◌, List, [], ◌∷◌, ◌++◌, length, drop, get_or, Some, None, true, refl, sym, ap, ◌∙◌, append_assoc, drop-cons, arith}
-use Rattle.std.proofs.lemmas.List.{nil_from_length}
+use Rattle.std.proofs.Common.{◌≡◌, ℕ, ◌<◌, ◌≤◌, zero, suc, List, [], ◌∷◌, ◌++◌, length, take, drop, get_or, Some, None, refl, sym, ap, ◌∙◌, append_assoc, drop-cons, arith}
+use Rattle.std.proofs.lemmas.Grind.{flat_map-append}
+use Rattle.std.proofs.lemmas.List.{nil_from_length, take-append-drop}
 use Rattle.std.specs.Prelude.{if◌then◌else◌, zip}
 use Rattle.std.specs.List.{flat_map}
 use Rattle.cfg_model.specs.declared.graph.Function.{Function}
@@ -54,10 +55,10 @@ function_begun new page name line body behind h =
 
 -- the same, of what is left of the section where nothing stands in front of its functions
 pub function_given : (names : Names) (new page : List ℕ) (left : FunctionsLeft) (f : Function) (rest : List Function) (name body : List ℕ)
-    → left.begun ≡ true → left.name ≡ None → length left.body.now < 1 → 1 ≤ length left.functions.now
+    → left.count ≡ None → left.name ≡ None → length left.body.now < 1 → 1 ≤ length left.functions.now
     → f ≡ get_or left.functions.now 0 f → rest ≡ drop 1 left.functions.now → body ≡ f.body
     → new ++ name_left (Some name) ≡ page ++ function_line names f
-    → new ++ (count_left left.begun (functions_line (length rest))
+    → new ++ (count_left left.count functions_line
     ++ (name_left (Some name) ++ (flat_map in_line body ++ flat_map (function_lines names) rest))) ≡ page ++ functions_left names left
 function_given names new page left f rest name body begun none empty some first behind same h =
     let all = left.functions.now in
@@ -71,11 +72,11 @@ function_given names new page left f rest name body begun none empty some first 
 -- the same of the section of the live registers
 pub lives_given : (names : Names) (new page : List ℕ) (left : LivesLeft) (f : Function) (lives : List Live)
     (functions : List Function) (others : List (List Live)) (name : List ℕ)
-    → left.begun ≡ true → left.name ≡ None → length left.body.now < 1 → 1 ≤ length left.functions.now → 1 ≤ length left.lives.now
+    → left.count ≡ None → left.name ≡ None → length left.body.now < 1 → 1 ≤ length left.functions.now → 1 ≤ length left.lives.now
     → f ≡ get_or left.functions.now 0 f → functions ≡ drop 1 left.functions.now
     → lives ≡ get_or left.lives.now 0 lives → others ≡ drop 1 left.lives.now
     → new ++ name_left (Some name) ≡ page ++ function_line names f
-    → new ++ (count_left left.begun (lives_line (length functions))
+    → new ++ (count_left left.count lives_line
     ++ (name_left (Some name) ++ (flat_map live_line lives ++ flat_map (function_live_lines names) (zip functions others)))) ≡ page ++ lives_left names left
 lives_given names new page left f lives functions others name begun none empty some some_lives first behind first_lives lives_behind h =
     let none_in : left.body.now ≡ [] = nil_from_length left.body.now (omega arith) in
@@ -96,3 +97,35 @@ all_left reports.Functions names graph = refl
 all_left reports.Blocks names graph = refl
 all_left reports.Edges names graph = refl
 all_left reports.Live names graph = refl
+
+-- text that is cut behind some of the items that come last
+
+cut_behind : {X : Type 0} (text : X → List ℕ) (a b c : List ℕ) (all front rest : List X) → front ++ rest ≡ all
+    → (a ++ (b ++ (c ++ flat_map text front))) ++ flat_map text rest ≡ a ++ (b ++ (c ++ flat_map text all))
+cut_behind text a b c all front rest whole =
+    append_assoc a _ (flat_map text rest)
+    ∙ ap (λ (xs : List ℕ). a ++ xs) (append_assoc b _ (flat_map text rest)
+    ∙ ap (λ (xs : List ℕ). b ++ xs) (append_assoc c (flat_map text front) (flat_map text rest)
+    ∙ ap (λ (xs : List ℕ). c ++ xs) (sym (flat_map-append text front rest) ∙ ap (λ xs. flat_map text xs) whole)))
+
+pub functions_cut : (names : Names) (a b c : List ℕ) (all front rest : List Function) (n : ℕ) → front ≡ take n all → rest ≡ drop n all
+    → (a ++ (b ++ (c ++ flat_map (function_lines names) front))) ++ flat_map (function_lines names) rest ≡ a ++ (b ++ (c ++ flat_map (function_lines names) all))
+functions_cut names a b c all front rest n is behind =
+    cut_behind (function_lines names) a b c all front rest (rw (is, behind) (take-append-drop n all))
+
+zip_none : (functions : List Function) → zip {X = List Live} functions [] ≡ []
+zip_none [] = refl
+zip_none (f ∷ functions) = refl
+
+zip_cut : (n : ℕ) (functions : List Function) (lives : List (List Live)) → zip (take n functions) (take n lives) ++ zip (drop n functions) (drop n lives) ≡ zip functions lives
+zip_cut zero functions lives = refl
+zip_cut (suc n) [] lives = refl
+zip_cut (suc n) (f ∷ functions) [] = zip_none (drop n functions)
+zip_cut (suc n) (f ∷ functions) (one ∷ lives) = ap (λ (xs : List (Function × List Live)). (f, one) ∷ xs) (zip_cut n functions lives)
+
+pub lives_cut : (names : Names) (a b c : List ℕ) (functions front rest : List Function) (lives first others : List (List Live)) (n : ℕ)
+    → front ≡ take n functions → rest ≡ drop n functions → first ≡ take n lives → others ≡ drop n lives
+    → (a ++ (b ++ (c ++ flat_map (function_live_lines names) (zip front first)))) ++ flat_map (function_live_lines names) (zip rest others)
+    ≡ a ++ (b ++ (c ++ flat_map (function_live_lines names) (zip functions lives)))
+lives_cut names a b c functions front rest lives first others n is behind are after =
+    cut_behind (function_live_lines names) a b c (zip functions lives) (zip front first) (zip rest others) (rw (is, behind, are, after) (zip_cut n functions lives))

@@ -19,7 +19,7 @@ use Rattle.graph_report.specs.Line.{functions_line, in_line, blocks_line}
 use Rattle.graph_report.specs.Line.{block_line, edges_line, edge_line, end_line}
 use Rattle.graph_report.specs.Line.{lives_line, live_line}
 use Rattle.graph_report.specs.Live.{function_live_lines}
-use Rattle.graph_report.specs.Report.{function_lines}
+use Rattle.graph_report.specs.Report.{heading, function_lines}
 
 -- The text grew, by a line at most.
 abbrev pub IsLine : List ℕ → List ℕ → Type 0
@@ -52,30 +52,30 @@ abbrev pub name_left : Option (List ℕ) → List ℕ
 name_left None = []
 name_left (Some name) = flat_map name_byte name ++ codes "\n"
 
--- A line that stands before a section, unless it was given.
-abbrev pub count_left : Bool → List ℕ → List ℕ
-count_left begun line = if begun then [] else line
+-- The first line of a section, with the number that it tells, unless it was given.
+abbrev pub count_left : Option ℕ → (ℕ → List ℕ) → List ℕ
+count_left None line = []
+count_left (Some count) line = line count
 
 -- The sections, from where they stand.
 abbrev pub functions_left : Names → FunctionsLeft → List ℕ
 functions_left names left =
-    count_left left.begun (functions_line (length left.functions.now))
+    count_left left.count functions_line
     ++ (name_left (option_map (λ s. s.now) left.name)
     ++ (flat_map in_line left.body.now
     ++ flat_map (function_lines names) left.functions.now))
 
 abbrev pub blocks_left : BlocksLeft → List ℕ
 blocks_left left =
-    count_left left.begun (blocks_line (length left.blocks.now)) ++ flat_map block_line
-    left.blocks.now
+    count_left left.count blocks_line ++ flat_map block_line left.blocks.now
 
 abbrev pub edges_left : EdgesLeft → List ℕ
 edges_left left =
-    count_left left.begun (edges_line (length left.edges.now)) ++ flat_map edge_line left.edges.now
+    count_left left.count edges_line ++ flat_map edge_line left.edges.now
 
 -- The last line, unless it was given.
 abbrev pub end_left : Bool → List ℕ
-end_left ended = count_left ended end_line
+end_left ended = if ended then [] else end_line
 
 -- The report after its heading.
 abbrev pub report_left : Names → ReportLeft → List ℕ
@@ -86,7 +86,7 @@ report_left names left =
 -- The same of a report of live registers.
 abbrev pub lives_left : Names → LivesLeft → List ℕ
 lives_left names left =
-    count_left left.begun (lives_line (length left.functions.now))
+    count_left left.count lives_line
     ++ (name_left (option_map (λ s. s.now) left.name)
     ++ (flat_map live_line left.body.now
     ++ flat_map (function_live_lines names) (zip left.functions.now left.lives.now)))
@@ -94,7 +94,12 @@ lives_left names left =
 abbrev pub live_left : Names → LiveLeft → List ℕ
 live_left names left = lives_left names left.lives ++ end_left left.ended
 
--- A report of either form behind its heading.
+-- A report of either form after its heading.
 abbrev pub text_left : Names → TextLeft → List ℕ
 text_left names (texts.Graph left) = report_left names left
 text_left names (texts.Live left) = live_left names left
+
+-- The heading, with the address where the program starts, unless it was given.
+abbrev pub heading_left : Option ℕ → List ℕ
+heading_left None = []
+heading_left (Some entry) = heading entry

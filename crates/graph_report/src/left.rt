@@ -24,10 +24,10 @@ use elf_image::Image;
 use elf_symbols::Seeds;
 
 /// What is left of the section of the functions.
-#[derive(Drop)]
+#[derive(Clone, Copy)]
 pub struct FunctionsLeft<'a> {
-    /// Whether the line of their number was given.
-    begun: bool,
+    /// Their number, until its line is given.
+    count: Option<usize>,
     /// The bytes of a name that are still to come, if its line is not whole.
     name: Option<&'a [u8]>,
     /// The blocks of the last function that are still to come.
@@ -41,12 +41,59 @@ impl<'a> FunctionsLeft<'a> {
         ensures { (names : Names) → functions_left names result
             ≡ (if shown then functions_section names functions.now else []) }
     {
+        if !shown {
+            return FunctionsLeft::nothing();
+        }
         FunctionsLeft {
-            begun: !shown,
+            count: Some(functions.len()),
             name: None,
             body: &[],
-            functions: if shown { functions } else { &[] },
+            functions,
         }
+    }
+
+    /// Nothing of it.
+    fn nothing() -> FunctionsLeft<'a>
+        ensures { (names : Names) → functions_left names result ≡ [] }
+    {
+        FunctionsLeft {
+            count: None,
+            name: None,
+            body: &[],
+            functions: &[],
+        }
+    }
+
+    /// Whether nothing is left.
+    fn is_empty(&self) -> bool
+        ensures { (names : Names) → IsTrue result → functions_left names self.now ≡ [] }
+    {
+        self.count.is_none()
+            && self.name.is_none()
+            && self.body.is_empty()
+            && self.functions.is_empty()
+    }
+
+    /// Takes functions off the front until they have this many lines, and what stands before them.
+    fn cut(&mut self, lines: usize) -> FunctionsLeft<'a>
+        ensures { (names : Names) → functions_left names result ++ functions_left names self.new
+            ≡ functions_left names self.old }
+    {
+        let taken = functions_with(self.functions, lines);
+        let (front, rest) = self.functions.split_at(taken);
+        let cut = FunctionsLeft {
+            count: self.count,
+            name: self.name,
+            body: self.body,
+            functions: front,
+        };
+        *self = FunctionsLeft {
+            count: None,
+            name: None,
+            body: &[],
+            functions: rest,
+        };
+        cut
     }
 
     /// Puts the next line on the page, or a part of it; `false` if nothing is left.
@@ -61,9 +108,9 @@ impl<'a> FunctionsLeft<'a> {
         ensures stays { result ≡ false → (page.new ≡ page.old) × (self.new ≡ self.old) }
         ensures end { result ≡ false → functions_left (seed_name image.now) self.old ≡ [] }
     {
-        if !self.begun {
-            self.begun = true;
-            push_function_count(page, self.functions.len());
+        if let Some(count) = self.count {
+            self.count = None;
+            push_function_count(page, count);
             return true;
         }
         if let Some(name) = self.name {
@@ -86,6 +133,34 @@ impl<'a> FunctionsLeft<'a> {
     }
 }
 
+/// How many functions at the front have this many lines together, or all if all have fewer.
+pub fn functions_with(functions: &[Function], lines: usize) -> usize
+    ensures { result ≤ length functions.now }
+{
+    let mut sum = 0_usize;
+    for (i, function) in functions.iter().enumerate() {
+        if lines <= sum {
+            return i;
+        }
+        sum = sum.saturating_add(lines_of(function));
+    }
+    functions.len()
+}
+
+/// How many lines these functions have; `usize::MAX` if there are more.
+pub fn count_lines(functions: &[Function]) -> usize {
+    let mut sum = 0_usize;
+    for function in functions {
+        sum = sum.saturating_add(lines_of(function));
+    }
+    sum
+}
+
+/// How many lines a function has: its own, and one for each block of its body.
+fn lines_of(function: &Function) -> usize {
+    function.body.as_slice().len().saturating_add(1)
+}
+
 /// The name of the function that begins at an address; `None` if it has none.
 pub fn name_at<'a>(image: &'a Image, seeds: &Seeds, entry: u64) -> Option<&'a [u8]>
     requires names { (a : ℕ) → option_map (span_bytes image.now) (name_in seeds.now a)
@@ -98,10 +173,10 @@ pub fn name_at<'a>(image: &'a Image, seeds: &Seeds, entry: u64) -> Option<&'a [u
 }
 
 /// What is left of the section of the blocks.
-#[derive(Drop)]
+#[derive(Clone, Copy)]
 pub struct BlocksLeft<'a> {
-    /// Whether the line of their number was given.
-    begun: bool,
+    /// Their number, until its line is given.
+    count: Option<usize>,
     blocks: &'a [Block],
 }
 
@@ -110,10 +185,46 @@ impl<'a> BlocksLeft<'a> {
     fn new(shown: bool, blocks: &'a [Block]) -> BlocksLeft<'a>
         ensures { blocks_left result ≡ (if shown then blocks_section blocks.now else []) }
     {
-        BlocksLeft {
-            begun: !shown,
-            blocks: if shown { blocks } else { &[] },
+        if !shown {
+            return BlocksLeft::nothing();
         }
+        BlocksLeft {
+            count: Some(blocks.len()),
+            blocks,
+        }
+    }
+
+    /// Nothing of it.
+    fn nothing() -> BlocksLeft<'a>
+        ensures { blocks_left result ≡ [] }
+    {
+        BlocksLeft {
+            count: None,
+            blocks: &[],
+        }
+    }
+
+    /// Whether nothing is left.
+    fn is_empty(&self) -> bool
+        ensures { IsTrue result → blocks_left self.now ≡ [] }
+    {
+        self.count.is_none() && self.blocks.is_empty()
+    }
+
+    /// Takes this many blocks off the front, or all, and the line before them.
+    fn cut(&mut self, lines: usize) -> BlocksLeft<'a>
+        ensures { blocks_left result ++ blocks_left self.new ≡ blocks_left self.old }
+    {
+        let (front, rest) = self.blocks.split_at(lines.min(self.blocks.len()));
+        let cut = BlocksLeft {
+            count: self.count,
+            blocks: front,
+        };
+        *self = BlocksLeft {
+            count: None,
+            blocks: rest,
+        };
+        cut
     }
 
     /// Puts the next line on the page; `false` if none is left.
@@ -124,9 +235,9 @@ impl<'a> BlocksLeft<'a> {
         ensures stays { result ≡ false → (page.new ≡ page.old) × (self.new ≡ self.old) }
         ensures end { result ≡ false → blocks_left self.old ≡ [] }
     {
-        if !self.begun {
-            self.begun = true;
-            push_block_count(page, self.blocks.len());
+        if let Some(count) = self.count {
+            self.count = None;
+            push_block_count(page, count);
             return true;
         }
         let [block, rest @ ..] = self.blocks else {
@@ -139,10 +250,10 @@ impl<'a> BlocksLeft<'a> {
 }
 
 /// What is left of the section of the edges.
-#[derive(Drop)]
+#[derive(Clone, Copy)]
 pub struct EdgesLeft<'a> {
-    /// Whether the line of their number was given.
-    begun: bool,
+    /// Their number, until its line is given.
+    count: Option<usize>,
     edges: &'a [Edge],
 }
 
@@ -151,10 +262,46 @@ impl<'a> EdgesLeft<'a> {
     fn new(shown: bool, edges: &'a [Edge]) -> EdgesLeft<'a>
         ensures { edges_left result ≡ (if shown then edges_section edges.now else []) }
     {
-        EdgesLeft {
-            begun: !shown,
-            edges: if shown { edges } else { &[] },
+        if !shown {
+            return EdgesLeft::nothing();
         }
+        EdgesLeft {
+            count: Some(edges.len()),
+            edges,
+        }
+    }
+
+    /// Nothing of it.
+    fn nothing() -> EdgesLeft<'a>
+        ensures { edges_left result ≡ [] }
+    {
+        EdgesLeft {
+            count: None,
+            edges: &[],
+        }
+    }
+
+    /// Whether nothing is left.
+    fn is_empty(&self) -> bool
+        ensures { IsTrue result → edges_left self.now ≡ [] }
+    {
+        self.count.is_none() && self.edges.is_empty()
+    }
+
+    /// Takes this many edges off the front, or all, and the line before them.
+    fn cut(&mut self, lines: usize) -> EdgesLeft<'a>
+        ensures { edges_left result ++ edges_left self.new ≡ edges_left self.old }
+    {
+        let (front, rest) = self.edges.split_at(lines.min(self.edges.len()));
+        let cut = EdgesLeft {
+            count: self.count,
+            edges: front,
+        };
+        *self = EdgesLeft {
+            count: None,
+            edges: rest,
+        };
+        cut
     }
 
     /// Puts the next line on the page; `false` if none is left.
@@ -165,9 +312,9 @@ impl<'a> EdgesLeft<'a> {
         ensures stays { result ≡ false → (page.new ≡ page.old) × (self.new ≡ self.old) }
         ensures end { result ≡ false → edges_left self.old ≡ [] }
     {
-        if !self.begun {
-            self.begun = true;
-            push_edge_count(page, self.edges.len());
+        if let Some(count) = self.count {
+            self.count = None;
+            push_edge_count(page, count);
             return true;
         }
         let [edge, rest @ ..] = self.edges else {
@@ -180,7 +327,7 @@ impl<'a> EdgesLeft<'a> {
 }
 
 /// What is left of a report after its heading.
-#[derive(Drop)]
+#[derive(Clone, Copy)]
 pub struct ReportLeft<'a> {
     functions: FunctionsLeft<'a>,
     blocks: BlocksLeft<'a>,
@@ -201,6 +348,45 @@ impl<'a> ReportLeft<'a> {
             edges: EdgesLeft::new(kind.has_edges(), graph.edges.as_slice()),
             ended: false,
         }
+    }
+
+    /// How many functions with their blocks, blocks and edges are left, each a line;
+    /// `usize::MAX` if there are more.
+    pub fn count(&self) -> usize {
+        count_lines(self.functions.functions)
+            .saturating_add(self.blocks.blocks.len())
+            .saturating_add(self.edges.edges.len())
+    }
+
+    /// The functions that are left.
+    pub fn functions(&self) -> &'a [Function] {
+        self.functions.functions
+    }
+
+    /// Takes items off the front of the first section that is not done, until they have this many
+    /// lines, and what stands before them. Of a report whose sections are done it takes the last
+    /// line.
+    pub fn cut(&mut self, lines: usize) -> ReportLeft<'a>
+        ensures { (names : Names) → report_left names result ++ report_left names self.new
+            ≡ report_left names self.old }
+    {
+        let mut cut = ReportLeft {
+            functions: FunctionsLeft::nothing(),
+            blocks: BlocksLeft::nothing(),
+            edges: EdgesLeft::nothing(),
+            ended: true,
+        };
+        if !self.functions.is_empty() {
+            cut.functions = self.functions.cut(lines);
+        } else if !self.blocks.is_empty() {
+            cut.blocks = self.blocks.cut(lines);
+        } else if !self.edges.is_empty() {
+            cut.edges = self.edges.cut(lines);
+        } else {
+            cut.ended = self.ended;
+            self.ended = true;
+        }
+        cut
     }
 
     /// Puts the next line on the page, or a part of it; `false` if nothing is left.

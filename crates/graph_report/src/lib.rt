@@ -2,6 +2,7 @@
 //!
 //! - [`pieces`]: the report of a graph, piece by piece, with the names that the file gives to its
 //!   functions. [`whole`]: all of it at once.
+//! - [`lines`]: the lines of a report, which can be cut into parts.
 //! - [`made`]: the summary of the graph of a program that was made from a number.
 //! - [`kind`]: what a report shows.
 //! - [`left`]: the three sections of a report and its last line, each from where it stands on.
@@ -15,6 +16,7 @@ mod field;
 mod kind;
 mod left;
 mod line;
+mod lines;
 mod live_left;
 mod made;
 mod name;
@@ -24,6 +26,7 @@ mod whole;
 
 pub use field::{address_digits, end_word};
 pub use kind::ReportKind;
+pub use lines::ReportLines;
 pub use made::summary;
 pub use pieces::ReportPieces;
 pub use std::alloc::AllocError as Memory;

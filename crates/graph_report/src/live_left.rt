@@ -11,7 +11,7 @@ ghost use Rattle.graph_report.specs.Line.{end_line};
 ghost use Rattle.graph_report.specs.Live.{lives_section};
 ghost use Rattle.graph_report.specs.Inner.{IsLine, lives_left, live_left, text_left};
 
-use crate::left::{ReportLeft, name_at, step_end};
+use crate::left::{ReportLeft, count_lines, functions_with, name_at, step_end};
 use crate::line::{begin_function, go_on_with_name, push_live, push_live_count};
 use crate::page::{LINE_ROOM, PAGE_ROOM, Page};
 use cfg_model::{AllLives, Function, Graph, Live, Lives};
@@ -19,10 +19,10 @@ use elf_image::Image;
 use elf_symbols::Seeds;
 
 /// What is left of the section of the live registers.
-#[derive(Drop)]
+#[derive(Clone, Copy)]
 pub struct LivesLeft<'a> {
-    /// Whether the line of the number of functions was given.
-    begun: bool,
+    /// The number of functions, until its line is given.
+    count: Option<usize>,
     /// The bytes of a name that are still to come, if its line is not whole.
     name: Option<&'a [u8]>,
     /// The blocks of the last function that are still to come, with their live registers.
@@ -39,12 +39,60 @@ impl<'a> LivesLeft<'a> {
             → lives_left names result ≡ lives_section names functions.now lives.now }
     {
         LivesLeft {
-            begun: false,
+            count: Some(functions.len()),
             name: None,
             body: &[],
             functions,
             lives,
         }
+    }
+
+    /// Nothing of it.
+    fn nothing() -> LivesLeft<'a>
+        ensures { (names : Names) → lives_left names result ≡ [] }
+    {
+        LivesLeft {
+            count: None,
+            name: None,
+            body: &[],
+            functions: &[],
+            lives: &[],
+        }
+    }
+
+    /// Whether nothing is left.
+    fn is_empty(&self) -> bool
+        ensures { (names : Names) → IsTrue result → lives_left names self.now ≡ [] }
+    {
+        self.count.is_none()
+            && self.name.is_none()
+            && self.body.is_empty()
+            && self.functions.is_empty()
+    }
+
+    /// Takes functions off the front until they have this many lines, and what stands before them.
+    fn cut(&mut self, lines: usize) -> LivesLeft<'a>
+        ensures { (names : Names) → lives_left names result ++ lives_left names self.new
+            ≡ lives_left names self.old }
+    {
+        let taken = functions_with(self.functions, lines).min(self.lives.len());
+        let (functions, other_functions) = self.functions.split_at(taken);
+        let (lives, other_lives) = self.lives.split_at(taken);
+        let cut = LivesLeft {
+            count: self.count,
+            name: self.name,
+            body: self.body,
+            functions,
+            lives,
+        };
+        *self = LivesLeft {
+            count: None,
+            name: None,
+            body: &[],
+            functions: other_functions,
+            lives: other_lives,
+        };
+        cut
     }
 
     /// Puts the next line on the page, or a part of it; `false` if nothing is left.
@@ -59,9 +107,9 @@ impl<'a> LivesLeft<'a> {
         ensures stays { result ≡ false → (page.new ≡ page.old) × (self.new ≡ self.old) }
         ensures end { result ≡ false → lives_left (seed_name image.now) self.old ≡ [] }
     {
-        if !self.begun {
-            self.begun = true;
-            push_live_count(page, self.functions.len());
+        if let Some(count) = self.count {
+            self.count = None;
+            push_live_count(page, count);
             return true;
         }
         if let Some(name) = self.name {
@@ -89,7 +137,7 @@ impl<'a> LivesLeft<'a> {
 }
 
 /// What is left of a report of live registers after its heading.
-#[derive(Drop)]
+#[derive(Clone, Copy)]
 pub struct LiveLeft<'a> {
     lives: LivesLeft<'a>,
     /// Whether the last line was given.
@@ -106,6 +154,35 @@ impl<'a> LiveLeft<'a> {
             lives: LivesLeft::new(graph.functions.as_slice(), lives.as_slice()),
             ended: false,
         }
+    }
+
+    /// How many functions with their blocks are left, each a line; `usize::MAX` if there are more.
+    pub fn count(&self) -> usize {
+        count_lines(self.lives.functions)
+    }
+
+    /// The functions that are left.
+    pub fn functions(&self) -> &'a [Function] {
+        self.lives.functions
+    }
+
+    /// Takes functions off the front until they have this many lines, and what stands before them.
+    /// If no function is left it takes the last line.
+    pub fn cut(&mut self, lines: usize) -> LiveLeft<'a>
+        ensures { (names : Names) → live_left names result ++ live_left names self.new
+            ≡ live_left names self.old }
+    {
+        let mut cut = LiveLeft {
+            lives: LivesLeft::nothing(),
+            ended: true,
+        };
+        if !self.lives.is_empty() {
+            cut.lives = self.lives.cut(lines);
+        } else {
+            cut.ended = self.ended;
+            self.ended = true;
+        }
+        cut
     }
 
     /// Puts the next line on the page, or a part of it; `false` if nothing is left.
@@ -128,7 +205,7 @@ impl<'a> LiveLeft<'a> {
 }
 
 /// What is left of a report of either form after its heading.
-#[derive(Drop)]
+#[derive(Clone, Copy)]
 pub enum TextLeft<'a> {
     /// Of a report of parts of a graph.
     Graph(ReportLeft<'a>),
@@ -137,6 +214,33 @@ pub enum TextLeft<'a> {
 }
 
 impl<'a> TextLeft<'a> {
+    /// How many items are left, each a line; `usize::MAX` if there are more.
+    pub fn count(&self) -> usize {
+        match self {
+            TextLeft::Graph(left) => left.count(),
+            TextLeft::Live(left) => left.count(),
+        }
+    }
+
+    /// The functions that are left.
+    pub fn functions(&self) -> &'a [Function] {
+        match self {
+            TextLeft::Graph(left) => left.functions(),
+            TextLeft::Live(left) => left.functions(),
+        }
+    }
+
+    /// Takes the front off, of about this many lines.
+    pub fn cut(&mut self, lines: usize) -> TextLeft<'a>
+        ensures { (names : Names) → text_left names result ++ text_left names self.new
+            ≡ text_left names self.old }
+    {
+        match self {
+            TextLeft::Graph(left) => TextLeft::Graph(left.cut(lines)),
+            TextLeft::Live(left) => TextLeft::Live(left.cut(lines)),
+        }
+    }
+
     /// Puts the next line on the page, or a part of it; `false` if nothing is left.
     pub fn step(&mut self, image: &'a Image, seeds: &Seeds, page: &mut Page) -> bool
         requires names { (a : ℕ) → option_map (span_bytes image.now) (name_in seeds.now a)

@@ -9,13 +9,13 @@ ghost use Rattle.elf_image.specs.ReadOnly.{span_bytes};
 ghost use Rattle.elf_image.specs.Seeds.{seed_name};
 ghost use Rattle.elf_symbols.specs.Seeds.{name_in, LiesIn};
 ghost use Rattle.graph_report.specs.Report.{heading};
-ghost use Rattle.graph_report.specs.Inner.{text_left};
+ghost use Rattle.graph_report.specs.Inner.{heading_left, text_left};
 
 use crate::Memory;
 use crate::kind::ReportKind;
-use crate::left::ReportLeft;
 use crate::line::{push_entry, push_first};
-use crate::live_left::{LiveLeft, TextLeft};
+use crate::lines::ReportLines;
+use crate::live_left::TextLeft;
 use crate::page::{PAGE_ROOM, PIECE, Page};
 use cfg_model::{AllLives, Graph};
 use elf_image::Image;
@@ -87,13 +87,7 @@ impl<'a> ReportPieces<'a> {
         ensures text { IfOk result
             (λ pieces. pieces ≡ report_text kind (seed_name image.now) graph.now) }
     {
-        Ok(ReportPieces {
-            image,
-            seeds,
-            left: TextLeft::Graph(ReportLeft::new(graph, kind)),
-            page: headed(alloc, graph.entry)?,
-            given: 0,
-        })
+        ReportPieces::of_lines(alloc, &ReportLines::new(image, seeds, graph, kind))
     }
 
     /// The text of the report of the live registers `lives` of `graph`, of which nothing is given out
@@ -115,11 +109,18 @@ impl<'a> ReportPieces<'a> {
         ensures text { IfOk result
             (λ pieces. pieces ≡ live_text (seed_name image.now) graph.now lives.now) }
     {
+        ReportPieces::of_lines(alloc, &ReportLines::of_lives(image, seeds, graph, lives))
+    }
+
+    /// The text of these lines, of which nothing is given out yet, or want of memory.
+    pub fn of_lines(alloc: Global, lines: &ReportLines<'a>) -> Result<ReportPieces<'a>, Memory>
+        ensures text { IfOk result (λ pieces. pieces ≡ lines.now) }
+    {
         Ok(ReportPieces {
-            image,
-            seeds,
-            left: TextLeft::Live(LiveLeft::new(graph, lives)),
-            page: headed(alloc, graph.entry)?,
+            image: lines.image,
+            seeds: lines.seeds,
+            left: lines.left,
+            page: first_page(alloc, lines.heading)?,
             given: 0,
         })
     }
@@ -140,6 +141,17 @@ impl<'a> ReportPieces<'a> {
             return None;
         }
         Some(&self.page.bytes()[..n])
+    }
+}
+
+/// A page with the heading, if there is one.
+fn first_page(alloc: Global, heading: Option<u64>) -> Result<Page, Memory>
+    ensures text { IfOk result (λ page. page ≡ heading_left heading) }
+    ensures room { IfOk result (λ page. length page ≤ PAGE_ROOM) }
+{
+    match heading {
+        Some(entry) => headed(alloc, entry),
+        None => Page::new(alloc),
     }
 }
 

@@ -37,7 +37,7 @@ pub fn report(
     ensures text { IfOk result (λ v. v.items ≡ report_text kind (seed_name image.now) graph.now) }
 {
     let pieces = ReportPieces::new(alloc, image, seeds, graph, kind)?;
-    all_of(alloc, pieces)
+    all_of(alloc, pieces, 0)
 }
 
 /// The text of the report of the live registers `lives` of `graph`, or want of memory.
@@ -61,14 +61,14 @@ pub fn live_report(
         (λ v. v.items ≡ live_text (seed_name image.now) graph.now lives.now) }
 {
     let pieces = ReportPieces::of_lives(alloc, image, seeds, graph, lives)?;
-    all_of(alloc, pieces)
+    all_of(alloc, pieces, 0)
 }
 
-/// All that these pieces still have to give.
-fn all_of(alloc: Global, mut pieces: ReportPieces) -> Result<Vec<u8>, Memory>
+/// All that these pieces still have to give, with room for so many bytes from the beginning.
+pub fn all_of(alloc: Global, mut pieces: ReportPieces, room: usize) -> Result<Vec<u8>, Memory>
     ensures { IfOk result (λ v. v.items ≡ pieces.entry) }
 {
-    let mut out = Vec::new(alloc);
+    let mut out = Vec::with_capacity(alloc, room)?;
     while let Some(piece) = pieces.next_piece() {
         out.extend_from_slice(piece)?;
     }

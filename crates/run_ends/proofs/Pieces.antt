@@ -1,6 +1,8 @@
 -- One piece written after another.
-use Rattle.std.proofs.Common.{ℕ, ◌+◌, List, ◌++◌, length, take, Option, Some, None, sym, ap, ◌∙◌, arith, length-append, append_assoc}
-use Rattle.std.specs.Prelude.{Result, Ok, Err, OnErr}
+use Rattle.std.proofs.Common.{◌≡◌, ℕ, suc, ◌+◌, ◌<◌, List, ◌∷◌, ◌++◌, length, take, drop, drop-cons, get_or, Option, Some, None, sym, ap, ◌∙◌, arith, length-append, append_assoc}
+use Rattle.std.specs.Prelude.{Result, Ok, Err, OnErr, Vec}
+use Rattle.std.specs.List.{flat_map}
+use Rattle.std.specs.declared.alloc.Global.{Global}
 use Rattle.std.specs.Option.{option_map}
 use Rattle.std.proofs.lemmas.List.{take-append-le}
 use Rattle.std.proofs.Math.Seq.{take-append-add}
@@ -32,3 +34,12 @@ prefix_behind old mid new a b first (n, below, is) = (
 pub on_err_map : {A B : Type 0} {P Q : Type 0} (r : Result A B) → (P → Q) → OnErr r P → OnErr r Q
 on_err_map (Ok x) f p = tt
 on_err_map (Err e) f p = f p
+
+-- the bytes of a text, and those of the texts behind it
+pub text_and_rest : (texts : List (Vec ℕ Global)) (i : ℕ) (text : Vec ℕ Global) (bytes : List ℕ) → text ≡ get_or texts i text → i < length texts → bytes ≡ text.items
+    → bytes ++ flat_map (λ t. t.items) (drop (i + 1) texts) ≡ flat_map (λ t. t.items) (drop i texts)
+text_and_rest texts i text bytes is within same =
+    let next : i + 1 ≡ suc i = omega arith in
+    rw (same, next)
+    (sym (ap (λ (ts : List (Vec ℕ Global)). flat_map (λ t. t.items) ts)
+    (drop-cons texts i text within ∙ ap (λ (t : Vec ℕ Global). t ∷ drop (suc i) texts) (sym is))))

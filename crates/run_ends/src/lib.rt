@@ -2,7 +2,7 @@
 //! and the line that tells why a run failed.
 //!
 //! - `reading`: all bytes of the file at a path, up to a limit.
-//! - `writing`: a text, whole or piece by piece.
+//! - `writing`: a text, whole, in parts or piece by piece.
 //! - `line`: the line on standard error.
 #![tactic(auto)]
 
@@ -12,4 +12,4 @@ mod writing;
 
 pub use line::tell;
 pub use reading::{FILE_LIMIT, Unread, read_file, read_within};
-pub use writing::{Unwritten, write_pieces};
+pub use writing::{Unwritten, write_pieces, write_texts};

@@ -1,6 +1,7 @@
-//! Writing a text, whole or piece by piece.
+//! Writing a text, whole, in parts or piece by piece.
 
 ghost use Rattle.std.specs.Prelude.{◌≡◌, ◌≤◌, OnOk, OnErr};
+ghost use Rattle.std.specs.List.{flat_map};
 ghost use Rattle.cfg_io.specs.Fault.{Rose};
 ghost use Rattle.cfg_io.specs.Told.{Appends, AppendsPrefix};
 ghost use Rattle.run_ends.specs.declared.writing.Unwritten.TheVariants as unwritten;
@@ -45,6 +46,25 @@ pub fn write_pieces<O: Sink>(mut pieces: ReportPieces, out: &mut O) -> Result<()
 {
     while let Some(piece) = pieces.next_piece() {
         write_whole(out, piece)?;
+    }
+    Ok(())
+}
+
+/// Writes these texts, one after another. It takes no memory.
+///
+/// [`Failed`]: a write failed. The bytes before it were appended, and not all of them.
+pub fn write_texts<O: Sink>(texts: &[Vec<u8>], out: &mut O) -> Result<(), Failed>
+    ensures whole { OnOk result
+        (Appends (O.written out.old) (flat_map (λ text. text.items) texts.now)
+        (O.written out.new)) }
+    ensures prefix { OnErr result
+        (AppendsPrefix (O.written out.old) (flat_map (λ text. text.items) texts.now)
+        (O.written out.new)) }
+    ensures failed { OnErr result (Rose (O.faults out.old) (O.faults out.new)) }
+    ensures never_falls { O.faults out.old ≤ O.faults out.new }
+{
+    for text in texts {
+        write_whole(out, text)?;
     }
     Ok(())
 }
