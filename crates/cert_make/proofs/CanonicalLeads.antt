@@ -1,5 +1,5 @@
 -- The lines of the leaders, in their list.
-use Rattle.std.proofs.Common.{◌≡◌, ℕ, ◌<◌, ◌↔◌, List, map, length, get_or, sym, subst, ap, ◌∙◌, arith}
+use Rattle.std.proofs.Common.{◌≡◌, ℕ, ◌<◌, ◌↔◌, List, map, length, get_or, refl, sym, subst, ap, ◌∙◌, arith}
 use Rattle.std.specs.Prelude.{All, Contains, IsSome}
 use Rattle.std.specs.List.Sorted.{IsStrictlyIncreasing}
 use Rattle.std.proofs.lemmas.List.{length-map, get_or_default}
@@ -14,12 +14,13 @@ use Rattle.cfg_model.specs.Graph.Leader.{IsLeader}
 use Rattle.cfg_model.proofs.Program.Along.{returns_along}
 use Rattle.cfg_model.proofs.Program.ChainEnds.{one_end}
 use Rattle.cfg_model.proofs.Graphs.LeaderFacts.{reached_along}
+use Rattle.cert_ends.proofs.ListedEnds.{terminator_stands}
 use Rattle.cert_laws.specs.Lines.{IsLead, IsReturn}
 use Rattle.cert_places.specs.Places.{LeadsRise}
 use Rattle.cert_places.proofs.Adjacent.{rise_on}
 use Rattle.cert_places.proofs.Placed.{no_lead}
 use Rattle.cert_make.specs.Canonical.{IsLeadLine, ListsLines, ReturnsReached}
-use Rattle.cert_make.specs.Inner.Offers.{TellCall, TellCalls}
+use Rattle.cert_make.specs.Inner.Offers.{TellCall}
 use Rattle.cert_make.specs.Inner.Settled.{AreLeadsSettledBy}
 use Rattle.cert_make.proofs.RankedReturns.{ranked_returns, return_has_rank}
 use Rattle.cert_make.proofs.ExactLeads.{lead_at_of, right_leads}
@@ -50,11 +51,17 @@ listed_at lines k listed =
       address = sym (get_or-map lead_at_of lines listed.0 no_lead) ∙ get_or_default (map lead_at_of lines) listed.0 no_lead.at k lt ∙ listed.2;
     }
 
+-- an instruction stands at each of the returns
+pub returns_stand : (code : InstructionMap) (seeds : List ℕ) (returns : List ReturnLine) → ((k : ℕ) → IsReturn returns k ↔ ReturnsReached code seeds k) → All (λ (l : ReturnLine). IsSome (code l.at)) returns
+returns_stand code seeds returns exact i d lt =
+    let line = get_or returns i d in
+    terminator_stands code line.at ((exact line.at).0 (record { line = line; listed = (i, lt, get_or_default returns i line d lt); address = refl })).ends
+
 -- the returns tell which calls of reached terminators come back
 pub returns_tell : (code : InstructionMap) (seeds leaders : List ℕ) (returns : List ReturnLine) → ((a : ℕ) → Contains leaders a ↔ IsLeader code seeds a) → ((k : ℕ) → IsReturn returns k ↔ ReturnsReached code seeds k)
-    → (start : List LeadLine) → map lead_at_of start ≡ leaders → (a k : ℕ) → Contains (map lead_at_of start) a → IsTerminatorOf code a k → TellCall code returns k
-returns_tell code seeds leaders returns are exact start same a k listed ends target fall end call there =
-    let leader : IsLeader code seeds a = (are a).0 (subst (λ (xs : List ℕ). Contains xs a) same listed) in
+    → (a k : ℕ) → Contains leaders a → IsTerminatorOf code a k → TellCall code returns k
+returns_tell code seeds leaders returns are exact a k listed ends target fall end call there =
+    let leader : IsLeader code seeds a = (are a).0 listed in
     let reached : Reached code seeds end = reached_along (Reached.called (reached_along leader.reached ends.reaches) call) there.reaches in (
       λ back. returns_along there.reaches ((exact end).0 back).returns,
       λ back.
@@ -62,13 +69,6 @@ returns_tell code seeds leaders returns are exact start same a k listed ends tar
           let is : found.1.0 ≡ end = one_end code target found.1.0 end found.1.1 there in
           (exact end).1 (record { reached = reached; ends = there.ends; returns = subst (Returns code) is (ranked_returns code found.0 found.1.0 found.1.2) }),
     )
-
--- of lines at the same addresses
-pub tell_calls : (code : InstructionMap) (returns : List ReturnLine) (start lines slice : List LeadLine) → map lead_at_of lines ≡ map lead_at_of start → slice ≡ lines
-    → ((a k : ℕ) → Contains (map lead_at_of start) a → IsTerminatorOf code a k → TellCall code returns k) → TellCalls code slice returns
-tell_calls code returns start lines slice same is tell line k listed ends =
-    let here : Contains lines line = subst (λ (ls : List LeadLine). Contains ls line) is listed in
-    tell line.at k (subst (λ (xs : List ℕ). Contains xs line.at) same (at_listed lines line here)) ends
 
 pub canonical_leads : (code : InstructionMap) (seeds leaders : List ℕ) (start lines : List LeadLine) → map lead_at_of start ≡ leaders → IsStrictlyIncreasing leaders → ((a : ℕ) → Contains leaders a ↔ IsLeader code seeds a) → AreLeadsSettledBy code seeds lines start lines
     → ListsLines lead_at_of (IsLeader code seeds) (IsLeadLine code seeds) lines

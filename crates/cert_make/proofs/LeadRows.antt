@@ -22,7 +22,7 @@ pub record AreLeadsAt (code : InstructionMap) (start lines : List LeadLine) : Ty
 pub same_rise : (xs ys : List LeadLine) → map lead_at_of ys ≡ map lead_at_of xs → LeadsRise xs → LeadsRise ys
 same_rise xs ys same up = rise_on lead_at_of ys no_lead (rw same (rise_next lead_at_of xs no_lead up))
 
-at_index : (xs ys : List LeadLine) → map lead_at_of ys ≡ map lead_at_of xs → (i : ℕ) (d : LeadLine) → i < length ys → (get_or xs i d).at ≡ (get_or ys i d).at
+pub at_index : (xs ys : List LeadLine) → map lead_at_of ys ≡ map lead_at_of xs → (i : ℕ) (d : LeadLine) → i < length ys → (get_or xs i d).at ≡ (get_or ys i d).at
 at_index xs ys same i d lt =
     sym (get_or-map lead_at_of xs i d) ∙ ap (λ (ns : List ℕ). get_or ns i (lead_at_of d)) (sym same) ∙ get_or-map lead_at_of ys i d
 

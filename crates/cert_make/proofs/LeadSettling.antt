@@ -10,61 +10,13 @@ use Rattle.cert_text.specs.declared.lines.LeadWhy.{LeadWhy}
 use Rattle.cert_text.specs.declared.lines.LeadWhy.TheVariants.{Seed, From, Join}
 use Rattle.cert_laws.specs.Lines.{IsLeadBelow}
 use Rattle.cert_places.specs.Places.{IsPlace}
-use Rattle.cert_make.specs.declared.offers.Offer.{Offer}
+use Rattle.cert_make.specs.declared.firsts.Offer.{Offer}
 use Rattle.cert_make.specs.declared.joins.Meeting.{Meeting}
 use Rattle.cert_make.specs.Reason.{LeadsFor, MeetsBy}
 use Rattle.cert_make.specs.First.{LeadWhyBefore}
 use Rattle.cert_make.specs.Inner.Returns.{IsNotAfter}
-use Rattle.cert_make.specs.Inner.Offers.{IsOfferFrom, AreOffers, FirstOffer, IsFirstOffer, AreFirstOffers, LeadsTo}
+use Rattle.cert_make.specs.Inner.Offers.{LeadsTo}
 use Rattle.cert_make.specs.Inner.Settled.{IsSettledLead, IsSettledLeadFor, IsNearestLead, NoneLeads, AreNearestLeads, IsFirstJoin, NoneJoin, AreJoins, IsJoinAt}
-
--- ---- leaders by their offers
-
-abbrev offer_of : ℕ → ℕ → ℕ → Offer
-offer_of to rank lead = record { to = to; rank = rank; lead = lead }
-
-module _ (lines : List LeadLine) (Way : ℕ → ℕ → Type 0) (offers : List Offer) (are : AreOffers lines Way offers) where
-  -- an offer tells of its leader
-  told : (o : Offer) → Contains offers o → (line : LeadLine) × Contains lines line × IsOfferFrom line (Way line.at) o
-  told o listed = ⊎_elim (λ none. absurd (Contains-none o none)) (λ from. from) (are.nothing_else o listed)
-
-  offer_below : (o : Offer) (rank : ℕ) → o.rank < rank → Contains offers o → IsLeadBelow lines rank o.lead
-  offer_below o rank lt listed =
-      let from = told o listed in
-      let e : o.rank ≡ from.0.rank = from.2.rank in
-      record { line = from.0; listed = from.1; address = sym from.2.lead; lower = omega arith }
-
-  offer_way : (o : Offer) → Contains offers o → Way o.lead o.to
-  offer_way o listed = let from = told o listed in subst (λ (p : ℕ). Way p o.to) (sym from.2.lead) from.2.among
-
-  -- a leader with a way has made an offer
-  made : (rank p a : ℕ) → (below : IsLeadBelow lines rank p) → Way p a → Contains offers (offer_of a below.line.rank below.line.at)
-  made rank p a below way = are.added (offer_of a below.line.rank below.line.at)
-      (below.line, below.listed, record { lead = refl; rank = refl; among = subst (λ (x : ℕ). Way x a) (sym below.address) way })
-
-  none_leads : (a : ℕ) → All (λ (x : Offer). ¬ (x.to ≡ a)) offers → NoneLeads lines (λ p. Way p a)
-  none_leads a none rank p below way = All-contains (λ (x : Offer). ¬ (x.to ≡ a)) offers _ none (made rank p a below way) refl
-
-  nearest_lead : (a : ℕ) (o : Offer) → IsFirstOffer offers a o → IsNearestLead lines (λ p. Way p a) o.rank o.lead
-  nearest_lead a o first = record {
-    listed = offer_below o (o.rank + 1) (omega arith) first.listed;
-    leads = subst (λ (x : ℕ). Way o.lead x) first.there (offer_way o first.listed);
-    first = λ rank p below way.
-        let x = offer_of a below.line.rank below.line.at in
-        let lt : below.line.rank < rank = below.lower in
-        let at : below.line.at ≡ p = below.address in
-        ⊎_elim
-        (λ less. (omega arith, λ e. absurd (omega arith)))
-        (λ both. let e' : o.rank ≡ below.line.rank = both.0 in let le : o.lead ≤ below.line.at = both.1 in (omega arith, λ e. omega arith))
-        (All-contains (λ (y : Offer). y.to ≡ a → IsNotAfter o.rank o.lead y.rank y.lead) offers x first.first (made rank p a below way) refl);
-  }
-
-  nearest_or_none : (a : ℕ) (o : Option Offer) → FirstOffer offers a o → MatchOption o (NoneLeads lines (λ p. Way p a)) (λ w. IsNearestLead lines (λ p. Way p a) w.rank w.lead)
-  nearest_or_none a None first = none_leads a first
-  nearest_or_none a (Some o) first = nearest_lead a o first
-
-  pub are_nearest : (firsts : List (Option Offer)) → AreFirstOffers lines offers firsts → AreNearestLeads lines Way firsts
-  are_nearest firsts first = record { long = first.long; each = λ i a d place. nearest_or_none a (get_or firsts i d) (first.each i a d place) }
 
 -- ---- lines
 

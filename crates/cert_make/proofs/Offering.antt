@@ -1,4 +1,4 @@
--- Offers to leaders, as they are listed.
+-- Where the ends of chains go, calls among them.
 use Rattle.std.proofs.Common.{◌≡◌, ℕ, ◌+◌, ◌⊎◌, ◌↔◌, List, [], ◌∷◌, ◌++◌, Option, Some, length, take, get_or, ◌<◌, refl, sym, subst, ap, ◌∙◌, inl, inr, ⊎_elim}
 use Rattle.std.specs.Prelude.{Contains}
 use Rattle.std.proofs.lemmas.List.{take_more}
@@ -14,9 +14,7 @@ use Rattle.cfg_model.specs.Program.Status.{Returns}
 use Rattle.cfg_model.specs.Builder.Waits.{IsTarget}
 use Rattle.cfg_model.proofs.Graphs.Gaining.{Gains-then, Gains-same, Gains-pushed}
 use Rattle.cfg_model.proofs.Program.ChainEnds.{one_end}
-use Rattle.cert_make.specs.declared.offers.Offer.{Offer}
 use Rattle.cert_make.specs.Reason.{GoesTo}
-use Rattle.cert_make.specs.Inner.Offers.{IsOfferFrom, LeadsTo}
 
 -- ---- a call
 
@@ -61,42 +59,18 @@ call_goes map k target fall flow old new at is are gains a =
           goes,
     )
 
--- ---- offers of one leader
-
-abbrev offer_of : ℕ → ℕ → ℕ → Offer
-offer_of to rank lead = record { to = to; rank = rank; lead = lead }
-
-pub is_offer : (line : LeadLine) (Among : ℕ → Type 0) (o : Offer) (to : ℕ) → IsOfferFrom line Among o → o.to ≡ to → o ≡ offer_of to line.rank line.at
-is_offer line Among o to from at = ap (λ (x : ℕ). offer_of x o.rank o.lead) at ∙ ap (λ (r : ℕ). offer_of to r o.lead) from.rank ∙ ap (λ (l : ℕ). offer_of to line.rank l) from.lead
-
-pub offer_is : (line : LeadLine) (Among : ℕ → Type 0) (to : ℕ) (o : Offer) → Among to → o ≡ offer_of to line.rank line.at → IsOfferFrom line Among o
-offer_is line Among to o among is = subst (IsOfferFrom line Among) (sym is) (record { lead = refl; rank = refl; among = among })
-
-pub other_among : (line : LeadLine) (A B : ℕ → Type 0) (o : Offer) → (A o.to → B o.to) → IsOfferFrom line A o → IsOfferFrom line B o
-other_among line A B o more from = record { lead = from.lead; rank = from.rank; among = more from.among }
-
-pub offer_added : (line : LeadLine) (xs : List ℕ) (i : ℕ) (old mid new : List Offer) → i < length xs → Gains old mid (IsOfferFrom line (Contains (take i xs))) → new ≡ mid ++ offer_of (get_or xs i 0) line.rank line.at ∷ [] → Gains old new (IsOfferFrom line (Contains (take (i + 1) xs)))
-offer_added line xs i old mid new lt before is =
-    let to = get_or xs i 0 in
-    let ts = take i xs in
-    let gains : Gains old new (IsOfferFrom line (Contains (ts ++ to ∷ []))) =
-    Gains-same old new (λ o. IsOfferFrom line (Contains ts) o ⊎ (o ≡ offer_of to line.rank line.at)) (IsOfferFrom line (Contains (ts ++ to ∷ [])))
-    (λ o h. ⊎_elim
-    (λ from. other_among line (Contains ts) (Contains (ts ++ to ∷ [])) o (λ c. Contains-append_left ts (to ∷ []) o.to c) from)
-    (λ same. offer_is line (Contains (ts ++ to ∷ [])) to o (Contains-push ts to) same)
-    h)
-    (λ o from. ⊎_elim
-    (λ earlier. inl (record { lead = from.lead; rank = from.rank; among = earlier }))
-    (λ same. inr (is_offer line (Contains (ts ++ to ∷ [])) o to from (sym same)))
-    (Contains-push_cases ts to o.to from.among))
-    (Gains-then old mid new (IsOfferFrom line (Contains ts)) (λ o. o ≡ offer_of to line.rank line.at) before (Gains-pushed mid new (offer_of to line.rank line.at) is)) in
-    subst (λ (ys : List ℕ). Gains old new (IsOfferFrom line (Contains ys))) (sym (take_more xs i 0 lt)) gains
-
--- those by the end of its chain
-pub end_offered : (map : InstructionMap) (line : LeadLine) (k : ℕ) (targets : List ℕ) (old new : List Offer) → IsTerminatorOf map line.at k → ((a : ℕ) → Contains targets a ↔ GoesTo map k a) → Gains old new (IsOfferFrom line (Contains targets)) → Gains old new (IsOfferFrom line (LeadsTo map line.at))
-end_offered map line k targets old new ends are =
-    Gains-same old new (IsOfferFrom line (Contains targets)) (IsOfferFrom line (LeadsTo map line.at))
-    (λ o from. other_among line (Contains targets) (LeadsTo map line.at) o (λ c. (k, ends, (are o.to).0 c)) from)
-    (λ o from. other_among line (LeadsTo map line.at) (Contains targets) o
-    (λ way. (are o.to).1 (subst (λ (j : ℕ). GoesTo map j o.to) (one_end map line.at way.0 k way.1 ends) way.2))
-    from)
+-- what is no call goes to its successors
+pub plain_goes : (map : InstructionMap) (k : ℕ) (flow : Flow) (list : List ℕ) → flow_at map k ≡ Some flow → ((target : ℕ) (fall : Option ℕ) → flow ≡ Call target fall → ⊥) → list ≡ successors_of map k → (a : ℕ) → Contains list a ↔ GoesTo map k a
+plain_goes map k flow list at none are a = (
+  λ listed. inl (IsTarget.onward (subst (λ (xs : List ℕ). Contains xs a) are listed)),
+  λ goes. ⊎_elim
+      (λ to. elim to [
+        | IsTarget.onward way ↦ subst (λ (xs : List ℕ). Contains xs a) (sym are) way
+        | IsTarget.called {fall = more} other ↦ absurd (none a more (same flow (Call a more) (sym at ∙ other)))
+      ])
+      (λ past. absurd (none past.0 (Some a) (same flow (Call past.0 (Some a)) (sym at ∙ past.1))))
+      goes,
+)
+  where
+    same : (f g : Flow) → Some f ≡ Some g → f ≡ g
+    same f g e = cc

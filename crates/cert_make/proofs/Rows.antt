@@ -24,7 +24,7 @@ pub record AreAt (code : InstructionMap) (start lines : List ReturnLine) : Type 
 pub same_rise : (xs ys : List ReturnLine) → map at_of ys ≡ map at_of xs → ReturnsRise xs → ReturnsRise ys
 same_rise xs ys same up = rise_on at_of ys no_return (rw same (rise_next at_of xs no_return up))
 
-at_index : (xs ys : List ReturnLine) → map at_of ys ≡ map at_of xs → (i : ℕ) (d : ReturnLine) → i < length ys → (get_or xs i d).at ≡ (get_or ys i d).at
+pub at_index : (xs ys : List ReturnLine) → map at_of ys ≡ map at_of xs → (i : ℕ) (d : ReturnLine) → i < length ys → (get_or xs i d).at ≡ (get_or ys i d).at
 at_index xs ys same i d lt =
     sym (get_or-map at_of xs i d) ∙ ap (λ (ns : List ℕ). get_or ns i (at_of d)) (sym same) ∙ get_or-map at_of ys i d
 

@@ -1,10 +1,12 @@
 -- The walk of a block, up to the next leader.
-use Rattle.std.proofs.Common.{◌≡◌, ℕ, ◌+◌, ◌<◌, ◌≤◌, List, length, get_or, sym, ap, subst, inl, inr, arith}
-use Rattle.std.specs.Prelude.{Option}
+use Rattle.std.proofs.Common.{◌≡◌, ℕ, ◌+◌, ◌<◌, ◌≤◌, List, length, get_or, refl, sym, ap, subst, inl, inr, arith}
+use Rattle.std.specs.Prelude.{Option, Some}
 use Rattle.std.proofs.lemmas.Bool.{cases_eq, cases_lt}
 use Rattle.std.proofs.lemmas.List.{get_or_default}
 use Rattle.cfg_model.specs.Program.Instructions.{InstructionMap}
-use Rattle.cfg_model.specs.Program.Chain.{GoesOnTo}
+use Rattle.cfg_model.specs.declared.flow.Flow.{Flow}
+use Rattle.cfg_model.specs.declared.flow.Flow.TheVariants.{Straight, Branch, Jump, Call, IndirectCall, Table, Return, Unknown, Stop}
+use Rattle.cfg_model.specs.Program.Chain.{EndsChain, GoesOnTo}
 use Rattle.cfg_model.specs.Program.Meeting.{IsStop}
 use Rattle.cfg_model.specs.Graph.Block.{RunsTo}
 use Rattle.cfg_model.proofs.Graphs.Runs.{run_step}
@@ -68,3 +70,15 @@ passed_first leads up i e within k d lt =
       | inl eq ↦ let also : (get_or leads k d).at ≡ (get_or leads i d).at = ap (λ n. (get_or leads n d).at) eq in omega arith
       | inr ne ↦ let less : (get_or leads k d).at < (get_or leads i d).at = up k i d (omega arith) within in omega arith
     ]
+
+-- what is not straight ends its chain
+pub ends_by : (flow : Flow) → ((next : ℕ) → flow ≡ Straight next → ⊥) → EndsChain (Some flow)
+ends_by (Straight next) none = none next refl
+ends_by (Branch taken fall) none = tt
+ends_by (Jump target) none = tt
+ends_by (Call target fall) none = tt
+ends_by (IndirectCall fall) none = tt
+ends_by (Table entries full is_open) none = tt
+ends_by Return none = tt
+ends_by Unknown none = tt
+ends_by Stop none = tt

@@ -1,12 +1,9 @@
 //! The ranks that the table of the leaders begins with.
 
-ghost use Rattle.cert_places.specs.Places.{LeadsRise};
-
+use crate::exits::Exit;
 use crate::levels::Levels;
-use crate::offers::Offer;
+use crate::links::Links;
 use crate::runs::Run;
-use cert_places::place_of;
-use cert_text::LeadLine;
 use cfg_model::Memory;
 use std::alloc::Global;
 
@@ -21,40 +18,73 @@ struct Blocks {
 
 /// The ranks of these leaders, by levels. [`Memory`] if memory ran out.
 ///
-/// `runs` are the blocks of the leaders, and `offers` what the ends of their chains lead to, in their
-/// order.
-/// Time: a look-up for each offer. Memory: 26 bytes for each leader.
+/// `links` are those of the leaders, and `seeds` rise.
+/// Time: O(seeds + leaders + ways). Memory: 34 bytes for each leader.
 pub(crate) fn lead_ranks(
     alloc: Global,
     seeds: &[u64],
-    lines: &[LeadLine],
-    runs: &[Run],
-    offers: &[Offer],
-) -> Result<Levels, Memory>
-    requires { LeadsRise lines.now }
-{
-    let mut levels = Levels::new(alloc, lines.len())?;
-    for (i, line) in lines.iter().enumerate() {
-        if seeds.binary_search(&line.at).is_ok() {
-            levels.give(i, 0)?;
-        }
-    }
+    leaders: &[u64],
+    links: &Links,
+) -> Result<Levels, Memory> {
+    let starts = starts_of(alloc, links.ends.terms.len(), links.exits.as_slice())?;
+    let mut levels = Levels::new(alloc, leaders.len())?;
+    give_seeds(seeds, leaders, &mut levels)?;
     let mut blocks = Blocks {
-        covered: vec![in alloc; false; lines.len()]?,
-        sides: vec![in alloc; 0; lines.len()]?,
+        covered: vec![in alloc; false; leaders.len()]?,
+        sides: vec![in alloc; 0; leaders.len()]?,
     };
-    for n in 0..lines.len() {
-        match levels.nth(n) {
-            Some((place, rank)) => {
-                let next = rank.saturating_add(1);
-                if cover(runs, place, next, &mut blocks, &mut levels)? {
-                    take_offers(lines, offers, place, next, &mut levels)?;
-                }
-            }
-            None => return Ok(levels),
+    for n in 0..leaders.len() {
+        let Some((place, rank)) = levels.nth(n) else {
+            return Ok(levels);
+        };
+        let next = rank.saturating_add(1);
+        if cover(links.runs.as_slice(), place, next, &mut blocks, &mut levels)? {
+            take_exits(links, starts.as_slice(), place, next, &mut levels)?;
         }
     }
     Ok(levels)
+}
+
+/// Gives the seeds among these leaders their rank. Both lists rise.
+fn give_seeds(seeds: &[u64], leaders: &[u64], levels: &mut Levels) -> Result<(), Memory> {
+    let mut i: usize = 0;
+    for seed in seeds {
+        i = i.saturating_add(count_below(leaders.get(i..), *seed));
+        if leaders.get(i) == Some(seed) {
+            levels.give(i, 0)?;
+        }
+    }
+    Ok(())
+}
+
+/// How many addresses stand before the first that does not lie below `a`.
+fn count_below(addresses: Option<&[u64]>, a: u64) -> usize {
+    match addresses {
+        Some(addresses) => match addresses.iter().position(|x| *x >= a) {
+            Some(count) => count,
+            None => addresses.len(),
+        },
+        None => 0,
+    }
+}
+
+/// By the place of an end, where its ways begin, and one place more.
+fn starts_of(alloc: Global, ends: usize, exits: &[Exit]) -> Result<Vec<usize>, Memory> {
+    let mut starts = Vec::new(alloc);
+    for (i, exit) in exits.iter().enumerate() {
+        fill(&mut starts, exit.end, i)?;
+    }
+    fill(&mut starts, ends, exits.len())?;
+    Ok(starts)
+}
+
+/// Puts this number at each free place up to the last of these.
+fn fill(numbers: &mut Vec<usize>, last: usize, number: usize) -> Result<(), Memory> {
+    let missing = last.saturating_add(1).saturating_sub(numbers.len());
+    for _place in 0..missing {
+        numbers.push(number)?;
+    }
+    Ok(())
 }
 
 /// Covers the block at this place and all those that come after it, as far as they are not covered,
@@ -113,27 +143,27 @@ fn is_second(sides: &mut Vec<u8>, place: usize) -> bool {
     }
 }
 
-/// Gives this rank to all that the leader at this place offers ways to.
-fn take_offers(
-    lines: &[LeadLine],
-    offers: &[Offer],
+/// Gives this rank to all leaders to which the end of the chain of the leader at this place goes.
+fn take_exits(
+    links: &Links,
+    starts: &[usize],
     place: usize,
     rank: u64,
     levels: &mut Levels,
-) -> Result<(), Memory>
-    requires { LeadsRise lines.now }
-{
-    let Some(line) = lines.get(place) else {
+) -> Result<(), Memory> {
+    let Some(end) = links.ends.of.get(place) else {
         return Ok(());
     };
-    let first = offers.partition_point(|offer| offer.lead < line.at);
-    for offer in &offers[first..] {
-        if offer.lead != line.at {
-            return Ok(());
-        }
-        if let Some(to) = place_of(lines, offer.to) {
-            levels.give(to, rank)?;
-        }
+    for exit in exits_from(links.exits.as_slice(), starts, *end) {
+        levels.give(exit.to, rank)?;
     }
     Ok(())
+}
+
+/// The ways from the end at this place.
+fn exits_from<'a>(exits: &'a [Exit], starts: &[usize], end: usize) -> &'a [Exit] {
+    match starts.get(end..) {
+        Some([first, after, ..]) => exits.get(*first..*after).unwrap_or(&[]),
+        _ => &[],
+    }
 }

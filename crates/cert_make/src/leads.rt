@@ -6,38 +6,43 @@
 ghost use Rattle.std.specs.Prelude.{◌≡◌, ◌+◌, ◌≤◌, ◌↔◌, ℕ, List, All, Contains, IfOk, IfSome, IsSome};
 ghost use Rattle.std.specs.Prelude.{IsTrue, MatchOption, length, map};
 ghost use Rattle.std.specs.List.Sorted.{IsStrictlyIncreasing};
-ghost use Rattle.cfg_model.specs.Program.Chain.{IsTerminatorOf};
 ghost use Rattle.cfg_model.specs.Graph.Leader.{IsLeader};
 ghost use Rattle.cfg_model.specs.Program.Instructions.{InstructionMap};
 ghost use Rattle.cert_text.specs.declared.lines.LeadWhy.TheVariants.{From, Join};
 ghost use Rattle.cert_laws.specs.Lines.{IsReturn};
-ghost use Rattle.cert_places.specs.Places.{LeadsRise, ReturnsRise};
+ghost use Rattle.cert_places.specs.Places.{AreLeads, ReturnsRise};
 ghost use Rattle.cert_text.specs.declared.lines.LeadLine.{LeadLine};
 ghost use Rattle.cert_make.specs.Canonical.{IsLeadLine, ListsLines, ReturnsReached};
-ghost use Rattle.cert_make.specs.Inner.Offers.{LeadsTo, TellCall, TellCalls};
+ghost use Rattle.cert_make.specs.Inner.Links.{AreLinks};
+ghost use Rattle.cert_make.specs.Inner.Offers.{LeadsTo};
 ghost use Rattle.cert_make.specs.Inner.Settled.{AreLeadsSettledBy, AreNearestLeads, IsFirstJoin};
 ghost use Rattle.cert_make.specs.Inner.Settled.{IsNearestLead, IsSettledLeadFor};
 ghost use Rattle.cert_make.specs.Inner.Settled.{LeadsHaveSameRanks, NoneJoin, NoneLeads};
 
-use crate::firsts::first_offers;
+use crate::firsts::{Offer, nearest_to_ends, nearest_to_leads};
 use crate::joins::{Meeting, joins_of};
 use crate::lead_ranks::lead_ranks;
 use crate::levels::Levels;
-use crate::offers::{Offer, end_offers};
-use crate::runs::{know_laws, runs_of};
+use crate::links::Links;
+use crate::runs::know_laws;
+use cert_places::NumberedReturns;
 use cert_text::{LeadLine, LeadWhy, ReturnLine};
 use cfg_model::{Chains, Memory};
+use reached_terms::Numbered;
 use std::alloc::Global;
 
 /// The lines of these leaders. If they are all of the program from these seeds, these are the lines
-/// of the canonical part. [`Memory`] if memory ran out.
+/// of the canonical part. [`Memory`] if memory ran out, or if there are 2^32 - 1 leaders or lines of
+/// returns or more.
 ///
 /// `returns` are the lines of the terminators that return: they tell which calls come back.
-/// Time: the instructions of all blocks, a look-up for each target of each leader's end, and where
-/// streams join that of sorting their fronts; all this twice, and once more for each rank that the
-/// table does not begin with rightly.
-/// Memory: 40 bytes for each leader, twice, 24 for each of these targets, and 200 for each leader.
-pub fn lead_lines<C: Chains>(
+/// Time: the instructions of all blocks, and the ways from the ends of the leaders' chains, each of
+/// which is decoded once; and, twice, and once more for each rank that the table does not begin with
+/// rightly, O(leaders + ways), a look-up among the seeds for each leader, and where streams join
+/// that of sorting their fronts.
+/// Memory: 40 bytes for each leader, twice, 240 for each leader, 16 for each of these ways, and four
+/// for each number.
+pub fn lead_lines<C: Numbered>(
     alloc: Global,
     code: &C,
     seeds: &[u64],
@@ -55,8 +60,11 @@ pub fn lead_lines<C: Chains>(
         (IsLeadLine (C.map code.now) seeds.now) v.items) }
 {
     let plain = first_lead_lines(alloc, leaders)?;
-    let start = with_ranks(alloc, code, seeds, returns, plain.as_slice())?;
-    let lines = settled_leads(alloc, code, seeds, returns, start)?;
+    let returns = NumberedReturns::new(alloc, code, returns)?;
+    let links = Links::of(alloc, code, &returns, leaders, plain.as_slice())?;
+    let ranks = lead_ranks(alloc, seeds, leaders, &links)?;
+    let start = ranked(alloc, plain.as_slice(), &ranks)?;
+    let lines = settled_leads(alloc, code, seeds, &links, start)?;
     Ok(lines)
 }
 
@@ -73,27 +81,6 @@ fn first_lead_lines(alloc: Global, leaders: &[u64]) -> Result<Vec<LeadLine>, Mem
         })?;
     }
     Ok(lines)
-}
-
-/// The same lines with ranks by levels, which are meant to be the right ones.
-fn with_ranks<C: Chains>(
-    alloc: Global,
-    code: &C,
-    seeds: &[u64],
-    returns: &[ReturnLine],
-    lines: &[LeadLine],
-) -> Result<Vec<LeadLine>, Memory>
-    requires rise { LeadsRise lines.now }
-    requires stand { All (λ l. IsSome (C.map code.now l.at)) lines.now }
-    requires rising { ReturnsRise returns.now }
-    requires tell { TellCalls (C.map code.now) lines.now returns.now }
-    ensures { IfOk result (λ v. map (λ (l : LeadLine). l.at) v.items
-        ≡ map (λ (l : LeadLine). l.at) lines.now) }
-{
-    let offers = end_offers(alloc, code, returns, lines)?;
-    let runs = runs_of(alloc, code, lines)?;
-    let ranks = lead_ranks(alloc, seeds, lines, runs.as_slice(), offers.as_slice())?;
-    ranked(alloc, lines, &ranks)
 }
 
 /// The same lines with these ranks.
@@ -118,22 +105,19 @@ fn settled_leads<C: Chains>(
     alloc: Global,
     code: &C,
     seeds: &[u64],
-    returns: &[ReturnLine],
+    links: &Links,
     start: Vec<LeadLine>,
 ) -> Result<Vec<LeadLine>, Memory>
     requires seeds { IsStrictlyIncreasing seeds.now }
-    requires rise { LeadsRise start.items }
-    requires stand { All (λ l. IsSome (C.map code.now l.at)) start.items }
-    requires rising { ReturnsRise returns.now }
-    requires tell { (a k : ℕ) → Contains (map (λ (l : LeadLine). l.at) start.items) a
-        → IsTerminatorOf (C.map code.now) a k → TellCall (C.map code.now) returns.now k }
+    requires leads { AreLeads (C.map code.now) start.items }
+    requires links { AreLinks (C.map code.now) start.items links.now }
     ensures { IfOk result
         (λ v. AreLeadsSettledBy (C.map code.now) seeds.now v.items start.items v.items) }
 {
     let mut lines = start;
     // Each step settles one rank more, and there are no more ranks than lines.
     for _step in 0..=lines.len() {
-        let next = lead_step(alloc, code, seeds, returns, lines.as_slice())?;
+        let next = lead_step(alloc, code, seeds, links, lines.as_slice())?;
         if leads_have_same_ranks(next.as_slice(), lines.as_slice()) {
             return Ok(next);
         }
@@ -160,21 +144,18 @@ fn lead_step<C: Chains>(
     alloc: Global,
     code: &C,
     seeds: &[u64],
-    returns: &[ReturnLine],
+    links: &Links,
     lines: &[LeadLine],
 ) -> Result<Vec<LeadLine>, Memory>
     requires seeds { IsStrictlyIncreasing seeds.now }
-    requires stand { All (λ l. IsSome (C.map code.now l.at)) lines.now }
-    requires rise { LeadsRise lines.now }
-    requires rising { ReturnsRise returns.now }
-    requires tell { TellCalls (C.map code.now) lines.now returns.now }
+    requires leads { AreLeads (C.map code.now) lines.now }
+    requires links { AreLinks (C.map code.now) lines.now links.now }
     ensures { IfOk result
         (λ v. AreLeadsSettledBy (C.map code.now) seeds.now lines.now lines.now v.items) }
 {
     know_laws(code);
-    let ends = nearest_by_end(alloc, code, returns, lines)?;
-    let runs = runs_of(alloc, code, lines)?;
-    let joins = joins_of(alloc, code, lines, runs.as_slice())?;
+    let ends = nearest_by_end(alloc, code, links, lines)?;
+    let joins = joins_of(alloc, code, lines, links.runs.as_slice())?;
     let mut next = Vec::new(alloc);
     for (i, line) in lines.iter().enumerate() {
         match lead_line(seeds, line.at, ends[i], joins[i]) {
@@ -186,21 +167,20 @@ fn lead_step<C: Chains>(
     Ok(next)
 }
 
-/// The nearest leaders whose chains end in a way to each of these leaders.
+/// The nearest leaders whose chains end in a way to each of these leaders. The program itself is not
+/// read, since the links tell all.
 fn nearest_by_end<C: Chains>(
     alloc: Global,
-    code: &C,
-    returns: &[ReturnLine],
+    _code: &C,
+    links: &Links,
     lines: &[LeadLine],
 ) -> Result<Vec<Option<Offer>>, Memory>
-    requires stand { All (λ l. IsSome (C.map code.now l.at)) lines.now }
-    requires rise { LeadsRise lines.now }
-    requires rising { ReturnsRise returns.now }
-    requires tell { TellCalls (C.map code.now) lines.now returns.now }
-    ensures { IfOk result (λ v. AreNearestLeads lines.now (LeadsTo (C.map code.now)) v.items) }
+    requires { AreLinks (C.map _code.now) lines.now links.now }
+    ensures { IfOk result (λ v. AreNearestLeads lines.now (LeadsTo (C.map _code.now)) v.items) }
 {
-    let offers = end_offers(alloc, code, returns, lines)?;
-    let nearest = first_offers(alloc, lines, offers.as_slice())?;
+    let offers = nearest_to_ends(alloc, lines, &links.ends)?;
+    let exits = links.exits.as_slice();
+    let nearest = nearest_to_leads(alloc, lines.len(), exits, offers.as_slice())?;
     Ok(nearest)
 }
 

@@ -7,9 +7,11 @@
 //! - [`part`]: the canonical part, from the leaders and the terminators that return.
 //! - [`returns`], [`leads`]: the lines of either kind, in steps over all of them.
 //! - [`levels`], [`return_ranks`], [`lead_ranks`]: the ranks that these begin with.
-//! - [`offers`], [`firsts`]: what the ends of chains lead to, and the first leader to lead there.
-//! - [`runs`], [`fronts`], [`joins`]: the blocks of the leaders, what lies upstream of them, and the
-//!   first join to each leader.
+//! - [`links`]: what the leaders are to each other, which is found once for all steps. [`places`]: an
+//!   address by its place in a list. [`runs`]: the blocks of the leaders. [`chain_ends`], [`exits`]: the
+//!   ends of their chains, and the ways from these to leaders.
+//! - [`firsts`]: the nearest leader to each end, and to each leader by such a way.
+//! - [`fronts`], [`joins`]: what lies upstream of the blocks, and the first join to each leader.
 //! - `specs/Inner`: what one step finds.
 //!
 //! A table of lines is settled if each line has the least rank and the first reason that the table
@@ -20,6 +22,8 @@
 //! so that one step is enough, but nothing rests on that: a step settles one rank at least.
 #![tactic(auto)]
 
+mod chain_ends;
+mod exits;
 mod firsts;
 mod fronts;
 mod joins;
@@ -27,8 +31,9 @@ mod laws;
 mod lead_ranks;
 mod leads;
 mod levels;
-mod offers;
+mod links;
 mod part;
+mod places;
 mod return_ranks;
 mod returns;
 mod runs;

@@ -10,15 +10,17 @@ use crate::leads::lead_lines;
 use crate::returns::return_lines;
 use crate::runs::know_laws;
 use cert_text::{LeadLines, Part, ReturnLines};
-use cfg_model::{Chains, Memory};
+use cfg_model::Memory;
+use reached_terms::Numbered;
 use std::alloc::Global;
 
 /// The canonical part of a certificate of this program, of all its leaders and all its reached
-/// terminators that return. [`Memory`] if memory ran out.
+/// terminators that return. [`Memory`] if memory ran out, or if there are 2^32 - 1 leaders or lines of
+/// returns or more.
 ///
 /// Time: that of [`return_lines`] and [`lead_lines`], which do not walk a chain twice.
 /// Memory: 40 bytes for each line, twice, and what those two use.
-pub fn canonical_part<C: Chains>(
+pub fn canonical_part<C: Numbered>(
     alloc: Global,
     code: &C,
     seeds: &[u64],

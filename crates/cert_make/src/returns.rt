@@ -11,19 +11,21 @@ ghost use Rattle.std.specs.List.Sorted.{IsStrictlyIncreasing};
 ghost use Rattle.cfg_model.specs.Program.Instructions.{IsLawful, flow_at};
 ghost use Rattle.cfg_model.specs.Program.Chain.{IsTerminator};
 ghost use Rattle.cfg_model.specs.Program.Successors.{IsCall, LeavesFunction, successors_of};
-ghost use Rattle.cert_places.specs.Places.{ReturnsRise};
+ghost use Rattle.cert_places.specs.Places.{AreNumbered, ReturnsRise};
 ghost use Rattle.cert_text.specs.declared.lines.ReturnLine.{ReturnLine};
 ghost use Rattle.cert_make.specs.Canonical.{IsReturnLine, ListsLines, ReturnsReached};
 ghost use Rattle.cert_make.specs.Inner.Returns.{EndHasRank, EndHasNone, IsNearest, IsNotAfter};
 ghost use Rattle.cert_make.specs.Inner.Returns.{IsSettledReturn, IsSettledFor, AreSettledBy};
-ghost use Rattle.cert_make.specs.Inner.Returns.{HaveSameRanks};
+ghost use Rattle.cert_make.specs.Inner.Returns.{AreFlows, HaveSameRanks};
 
 use crate::levels::Levels;
 use crate::return_ranks::return_ranks;
+use crate::runs::know_laws;
 use cert_ends::{find_successors, returns_by_itself};
-use cert_places::return_at;
+use cert_places::NumberedReturns;
 use cert_text::{ReturnLine, ReturnWhy};
 use cfg_model::{Chains, Flow, Memory};
+use reached_terms::Numbered;
 use std::alloc::Global;
 
 /// A successor, and the rank of the end of its chain.
@@ -36,12 +38,13 @@ struct Way {
 }
 
 /// The lines of these terminators. If they are all that return, these are the lines of the canonical
-/// part. [`Memory`] if memory ran out.
+/// part. [`Memory`] if memory ran out, or if there are 2^32 - 1 of them or more.
 ///
-/// Time: a look-up for each successor of each of these terminators, and that of sorting these; and the
-/// look-ups again for each rank that the table does not begin with rightly.
-/// Memory: 40 bytes for each terminator, twice, and 16 for each of these successors.
-pub fn return_lines<C: Chains>(
+/// Time: each of these terminators is decoded once; O(successors of these terminators), and this
+/// again for each rank that the table does not begin with rightly.
+/// Memory: 64 bytes for each terminator, twice, 16 for each of these successors, and four for each
+/// number.
+pub fn return_lines<C: Numbered>(
     alloc: Global,
     code: &C,
     returns: &[u64],
@@ -52,46 +55,95 @@ pub fn return_lines<C: Chains>(
         → ((k : ℕ) → Contains returns.now k ↔ ReturnsReached (C.map code.now) seeds k)
         → ListsLines (λ l. l.at) (ReturnsReached (C.map code.now) seeds) (IsReturnLine (C.map code.now)) v.items) }
 {
-    let ranks = return_ranks(alloc, code, returns)?;
-    let start = first_lines(alloc, returns, &ranks)?;
-    let lines = settled_returns(alloc, code, start)?;
+    let plain = first_lines(alloc, returns)?;
+    let flows = flows_of(alloc, code, plain.as_slice())?;
+    let start = with_ranks(alloc, code, plain.as_slice(), flows.as_slice())?;
+    let lines = settled_returns(alloc, code, flows.as_slice(), start)?;
     Ok(lines)
 }
 
-/// A line for each of these terminators, of these ranks.
-fn first_lines(alloc: Global, returns: &[u64], ranks: &Levels) -> Result<Vec<ReturnLine>, Memory>
+/// A line for each of these terminators, to begin with.
+fn first_lines(alloc: Global, returns: &[u64]) -> Result<Vec<ReturnLine>, Memory>
     ensures { IfOk result (λ v. map (λ (l : ReturnLine). l.at) v.items ≡ returns.now) }
 {
     let mut lines = Vec::new(alloc);
-    for (i, k) in returns.iter().enumerate() {
+    for k in returns {
         lines.push(ReturnLine {
             at: *k,
-            rank: ranks.rank(i),
+            rank: 0,
             why: ReturnWhy::Itself,
         })?;
     }
     Ok(lines)
 }
 
-/// The settled table of these terminators, which have to be all that return. [`Memory`] if memory
-/// ran out.
+/// The flows of the terminators of these lines.
+fn flows_of<C: Chains>(alloc: Global, code: &C, lines: &[ReturnLine]) -> Result<Vec<Flow>, Memory>
+    requires stand { All (λ l. IsSome (C.map code.now l.at)) lines.now }
+    ensures { IfOk result (λ v. AreFlows (C.map code.now) lines.now v.items) }
+{
+    let mut flows = Vec::new(alloc);
+    for i in 0..lines.len() {
+        flows.push(code.flow(lines[i].at))?;
+    }
+    Ok(flows)
+}
+
+/// The same lines with ranks by levels, which are meant to be the right ones.
+fn with_ranks<C: Numbered>(
+    alloc: Global,
+    code: &C,
+    lines: &[ReturnLine],
+    flows: &[Flow],
+) -> Result<Vec<ReturnLine>, Memory>
+    requires rising { ReturnsRise lines.now }
+    requires stand { All (λ l. IsSome (C.map code.now l.at)) lines.now }
+    requires flows { AreFlows (C.map code.now) lines.now flows.now }
+    ensures { IfOk result (λ v. map (λ (l : ReturnLine). l.at) v.items
+        ≡ map (λ (l : ReturnLine). l.at) lines.now) }
+{
+    let returns = NumberedReturns::new(alloc, code, lines)?;
+    let ranks = return_ranks(alloc, code, lines, flows, &returns)?;
+    ranked(alloc, lines, &ranks)
+}
+
+/// The same lines with these ranks.
+fn ranked(alloc: Global, lines: &[ReturnLine], ranks: &Levels) -> Result<Vec<ReturnLine>, Memory>
+    ensures { IfOk result (λ v. map (λ (l : ReturnLine). l.at) v.items
+        ≡ map (λ (l : ReturnLine). l.at) lines.now) }
+{
+    let mut next = Vec::new(alloc);
+    for (i, line) in lines.iter().enumerate() {
+        next.push(ReturnLine {
+            at: line.at,
+            rank: ranks.rank(i),
+            why: line.why,
+        })?;
+    }
+    Ok(next)
+}
+
+/// The settled table of these terminators, which have to be all that return, and of which `flows` are
+/// the flows. [`Memory`] if memory ran out.
 ///
 /// `start` is the table that it begins with: the settled one at best, which takes one step.
 /// Time: the targets of all these terminators, for each step.
-/// Memory: 40 bytes for each terminator, twice.
-fn settled_returns<C: Chains>(
+/// Memory: 40 bytes for each terminator, twice, and four for each number.
+fn settled_returns<C: Numbered>(
     alloc: Global,
     code: &C,
+    flows: &[Flow],
     start: Vec<ReturnLine>,
 ) -> Result<Vec<ReturnLine>, Memory>
     requires rising { ReturnsRise start.items }
     requires stand { All (λ l. IsSome (C.map code.now l.at)) start.items }
+    requires flows { AreFlows (C.map code.now) start.items flows.now }
     ensures { IfOk result (λ v. AreSettledBy (C.map code.now) v.items start.items v.items) }
 {
     let mut lines = start;
     // Each step settles one rank more, and there are no more ranks than lines.
     for _step in 0..=lines.len() {
-        let next = step(alloc, code, lines.as_slice())?;
+        let next = step(alloc, code, flows, lines.as_slice())?;
         if have_same_ranks(next.as_slice(), lines.as_slice()) {
             return Ok(next);
         }
@@ -101,15 +153,23 @@ fn settled_returns<C: Chains>(
 }
 
 /// The lines of the same terminators by these lines.
-fn step<C: Chains>(alloc: Global, code: &C, lines: &[ReturnLine]) -> Result<Vec<ReturnLine>, Memory>
+fn step<C: Numbered>(
+    alloc: Global,
+    code: &C,
+    flows: &[Flow],
+    lines: &[ReturnLine],
+) -> Result<Vec<ReturnLine>, Memory>
     requires rising { ReturnsRise lines.now }
     requires stand { All (λ l. IsSome (C.map code.now l.at)) lines.now }
+    requires flows { AreFlows (C.map code.now) lines.now flows.now }
     ensures { IfOk result (λ v. AreSettledBy (C.map code.now) lines.now lines.now v.items) }
 {
+    know_laws(code);
+    let returns = NumberedReturns::new(alloc, code, lines)?;
     let mut next = Vec::new(alloc);
     let mut successors = Vec::new(alloc);
-    for line in lines {
-        match settle(code, lines, line.at, &mut successors)? {
+    for (i, line) in lines.iter().enumerate() {
+        match settle(code, &returns, line.at, flows[i], &mut successors)? {
             Some(line) => next.push(line)?,
             // Not met: each of them returns, so that it has a reason by the others.
             None => return Err(Memory),
@@ -132,17 +192,18 @@ fn have_same_ranks(one: &[ReturnLine], other: &[ReturnLine]) -> bool
 }
 
 /// The line of the terminator at `k` by these lines, if there is a reason by them.
-fn settle<C: Chains>(
+fn settle<C: Numbered>(
     code: &C,
-    lines: &[ReturnLine],
+    returns: &NumberedReturns<'_>,
     k: u64,
+    flow: Flow,
     successors: &mut Vec<u64>,
 ) -> Result<Option<ReturnLine>, Memory>
-    requires stands { IsSome (C.map code.now k) }
-    requires rising { ReturnsRise lines.now }
-    ensures { IfOk result (λ o. IfSome o (IsSettledFor (C.map code.now) lines.now k)) }
+    requires lawful { IsLawful (C.map code.now) }
+    requires flow { flow_at (C.map code.now) k ≡ Some flow }
+    requires numbered { AreNumbered (C.map code.now) (C.number code.now) returns.now }
+    ensures { IfOk result (λ o. IfSome o (IsSettledFor (C.map code.now) returns.now.lines.now k)) }
 {
-    let flow = code.flow(k);
     if returns_by_itself(flow) {
         return Ok(Some(ReturnLine {
             at: k,
@@ -151,28 +212,28 @@ fn settle<C: Chains>(
         }));
     }
     if let Flow::Call { target, fall } = flow {
-        return Ok(by_call(code, lines, k, target, fall));
+        return Ok(by_call(code, returns, k, target, fall));
     }
     find_successors(code, k, flow, successors)?;
-    Ok(by_successors(code, lines, k, successors.as_slice()))
+    Ok(by_successors(code, returns, k, successors.as_slice()))
 }
 
 /// The line of a call, if both its target and its fall return by these lines.
-fn by_call<C: Chains>(
+fn by_call<C: Numbered>(
     code: &C,
-    lines: &[ReturnLine],
+    returns: &NumberedReturns<'_>,
     k: u64,
     target: u64,
     fall: Option<u64>,
 ) -> Option<ReturnLine>
     requires call { IsCall (C.map code.now) k target fall }
     requires lawful { IsLawful (C.map code.now) }
-    requires rising { ReturnsRise lines.now }
-    ensures { IfSome result (IsSettledFor (C.map code.now) lines.now k) }
+    requires numbered { AreNumbered (C.map code.now) (C.number code.now) returns.now }
+    ensures { IfSome result (IsSettledFor (C.map code.now) returns.now.lines.now k) }
 {
     let fall = fall?;
-    let one = rank_at(code, lines, target)?;
-    let other = rank_at(code, lines, fall)?;
+    let one = rank_at(code, returns, target)?;
+    let other = rank_at(code, returns, fall)?;
     let rank = one.max(other).checked_add(1)?;
     Some(ReturnLine {
         at: k,
@@ -182,9 +243,9 @@ fn by_call<C: Chains>(
 }
 
 /// The line of a terminator by its successors, if one of them returns by these lines.
-fn by_successors<C: Chains>(
+fn by_successors<C: Numbered>(
     code: &C,
-    lines: &[ReturnLine],
+    returns: &NumberedReturns<'_>,
     k: u64,
     successors: &[u64],
 ) -> Option<ReturnLine>
@@ -192,10 +253,10 @@ fn by_successors<C: Chains>(
     requires stays { ¬ LeavesFunction (flow_at (C.map code.now) k) }
     requires no_call { (target : ℕ) (fall : _) → ¬ IsCall (C.map code.now) k target fall }
     requires stand { All (λ a. IsSome (C.map code.now a)) successors.now }
-    requires rising { ReturnsRise lines.now }
-    ensures { IfSome result (IsSettledFor (C.map code.now) lines.now k) }
+    requires numbered { AreNumbered (C.map code.now) (C.number code.now) returns.now }
+    ensures { IfSome result (IsSettledFor (C.map code.now) returns.now.lines.now k) }
 {
-    let way = nearest(code, lines, successors)?;
+    let way = nearest(code, returns, successors)?;
     let rank = way.rank.checked_add(1)?;
     Some(ReturnLine {
         at: k,
@@ -205,15 +266,15 @@ fn by_successors<C: Chains>(
 }
 
 /// The first of the successors whose chains end in a line of least rank.
-fn nearest<C: Chains>(code: &C, lines: &[ReturnLine], successors: &[u64]) -> Option<Way>
+fn nearest<C: Numbered>(code: &C, returns: &NumberedReturns<'_>, successors: &[u64]) -> Option<Way>
     requires stand { All (λ a. IsSome (C.map code.now a)) successors.now }
-    requires rising { ReturnsRise lines.now }
-    ensures { MatchOption result (All (EndHasNone (C.map code.now) lines.now) successors.now)
-        (λ w. IsNearest (C.map code.now) lines.now successors.now w.rank w.to) }
+    requires numbered { AreNumbered (C.map code.now) (C.number code.now) returns.now }
+    ensures { MatchOption result (All (EndHasNone (C.map code.now) returns.now.lines.now) successors.now)
+        (λ w. IsNearest (C.map code.now) returns.now.lines.now successors.now w.rank w.to) }
 {
     let mut nearest: Option<Way> = None;
     for to in successors {
-        if let Some(rank) = rank_at(code, lines, *to) {
+        if let Some(rank) = rank_at(code, returns, *to) {
             nearest = Some(nearer(nearest, Way { rank, to: *to }));
         }
     }
@@ -234,13 +295,13 @@ fn nearer(one: Option<Way>, other: Way) -> Way
 }
 
 /// The rank of the line at which the chain of `a` ends, if there is one.
-fn rank_at<C: Chains>(code: &C, lines: &[ReturnLine], a: u64) -> Option<u64>
+fn rank_at<C: Numbered>(code: &C, returns: &NumberedReturns<'_>, a: u64) -> Option<u64>
     requires stands { IsSome (C.map code.now a) }
-    requires rising { ReturnsRise lines.now }
-    ensures { MatchOption result (EndHasNone (C.map code.now) lines.now a)
-        (λ rank. EndHasRank (C.map code.now) lines.now rank a) }
+    requires numbered { AreNumbered (C.map code.now) (C.number code.now) returns.now }
+    ensures { MatchOption result (EndHasNone (C.map code.now) returns.now.lines.now a)
+        (λ rank. EndHasRank (C.map code.now) returns.now.lines.now rank a) }
 {
-    match return_at(lines, code.term(a)) {
+    match returns.line(code, code.term(a)) {
         Some(line) => Some(line.rank),
         None => None,
     }

@@ -24,7 +24,7 @@ pub(crate) struct Run {
 /// The blocks of these leaders, by their places. [`Memory`] if memory ran out.
 ///
 /// Time: the instructions of these blocks, which share none where the leaders are all of a program.
-/// Memory: 24 bytes for each leader.
+/// Nothing is decoded. Memory: 24 bytes for each leader.
 pub(crate) fn runs_of<C: Chains>(
     alloc: Global,
     code: &C,
@@ -48,9 +48,10 @@ fn walk<C: Chains>(code: &C, lines: &[LeadLine], i: usize) -> Run
     ensures { IsRun (C.map code.now) lines.now i result }
 {
     let mut at = lines[i].at;
+    let k = code.term(at);
     let mut ahead = i + 1;
     loop {
-        let behind = next_of(code, at);
+        let behind = next_of(code, at, k);
         let next = match behind {
             Some(next) => next,
             None => {
@@ -71,13 +72,17 @@ fn walk<C: Chains>(code: &C, lines: &[LeadLine], i: usize) -> Run
     }
 }
 
-/// The address after the instruction at `a`, if control goes straight on to it.
-fn next_of<C: Chains>(code: &C, a: u64) -> Option<u64>
-    requires { IsSome (C.map code.now a) }
-    ensures lawful { IsLawful (C.map code.now) }
-    ensures next { MatchOption result (IsTerminator (C.map code.now) a)
+/// The address after the instruction at `a`, if control goes straight on to it. The terminator `k` is
+/// not decoded.
+fn next_of<C: Chains>(code: &C, a: u64, k: u64) -> Option<u64>
+    requires stands { IsSome (C.map code.now a) }
+    requires ends { IsTerminator (C.map code.now) k }
+    ensures { MatchOption result (IsTerminator (C.map code.now) a)
         (GoesOnTo (C.map code.now) a) }
 {
+    if a == k {
+        return None;
+    }
     match code.flow(a) {
         Flow::Straight { next } => Some(next),
         _ => None,

@@ -5,6 +5,9 @@ use Rattle.std.specs.Option.{option_eq, option_map, option_map_or}
 use mathlib.Core.Bool.{beq}
 use Rattle.std.specs.FinMap as maps
 use Rattle.cfg_model.specs.Program.Instructions.{InstructionMap, IsLawful}
+use Rattle.cfg_model.specs.Program.Chain.{IsTerminator}
+use Rattle.cfg_model.specs.Program.Reach.{Reached}
+use Rattle.cfg_model.specs.Program.Status.{Returns}
 use Rattle.cfg_model.specs.Graph.Leader.{IsLeader}
 use Rattle.cfg_model.specs.Builder.State.{BuilderState, TerminatorEntry, TerminatorMap, IsStart, IsEntered, IsReturned}
 use Rattle.cfg_model.specs.Builder.Kept.{IsClosed}
@@ -49,3 +52,11 @@ module _ (map : InstructionMap) (seeds : List ℕ) (state : BuilderState) (lawfu
     λ there. let both = (shows.returning k).0 ((lists.exact k).0 there) in record { reached = both.0.reached; ends = both.0.ends; returns = both.1 },
     λ is. (lists.exact k).1 ((shows.returning k).1 (record { reached = is.reached; ends = is.ends }, is.returns)),
   )
+
+-- ---- what is listed of reached terminators
+
+pub reached_listed : (map : InstructionMap) (seeds xs : List ℕ) (k : ℕ) → Contains xs k ↔ (IsTerminator map k × Reached map seeds k × Returns map k) → Contains xs k ↔ ReturnsReached map seeds k
+reached_listed map seeds xs k exact = (
+  λ there. let all = exact.0 there in record { reached = all.1; ends = all.0; returns = all.2 },
+  λ is. exact.1 (is.ends, is.reached, is.returns),
+)

@@ -7,6 +7,7 @@ ghost use Rattle.cfg_model.specs.Program.Cuts.{AreCuts};
 ghost use Rattle.cfg_model.specs.Program.Reach.{AreSeeds, Reached};
 ghost use Rattle.code_view.specs.Cuts.{cut_of, CutsFit};
 ghost use Rattle.code_view.specs.FileCode.{program_of};
+ghost use Rattle.code_view.specs.Tables.{AreAllTables};
 ghost use Rattle.table_cuts.specs.Extents.{extent_at};
 ghost use Rattle.file_program.specs.FileGraph.{cut_program};
 ghost use Rattle.file_program.specs.FileSeeds.{AreSeedsOf};
@@ -15,22 +16,24 @@ ghost use Rattle.cert_make.specs.Canonical.{IsCanonical};
 ghost use Rattle.certify.specs.FileCanonical.{IsCanonicalOf};
 
 use crate::Memory;
-use crate::part::certificate;
-use alone::build_alone;
+use crate::part::part_reached;
 use cert_text::{Certificate, Part};
 use chain_index::ChainIndex;
-use code_view::{Code, Cuts};
+use code_view::{AllTables, Code, Cuts};
 use elf_image::Image;
 use elf_symbols::Seeds;
+use reached_cuts::{Followed, reached_jumps};
+use reached_terms::ReachedTerms;
 use std::alloc::Global;
-use table_trim::{all_tables, cuts};
+use table_cuts::cuts_of;
+use table_trim::all_tables;
 
 /// The canonical certificate of a file. The seeds have to be those of the image. [`Memory`] if
 /// memory ran out, and no other error.
 ///
-/// Time: for each part, building a closed state on the caller's thread, and that of
-/// [`certificate`]. Memory: four bytes for each halfword of code, one closed state at a time, and
-/// that of [`certificate`].
+/// Time: for each part, those of finding what is reached from the seeds and of
+/// [`canonical_part`](cert_make::canonical_part). Memory: four bytes for each halfword of code, and
+/// for one part at a time those of these two.
 pub fn file_certificate(alloc: Global, image: &Image, seeds: &Seeds) -> Result<Certificate, Memory>
     requires seeds { AreSeedsOf image.now seeds.now }
     ensures canonical { IfOk result (IsCanonicalOf image.now) }
@@ -42,7 +45,7 @@ pub fn file_certificate(alloc: Global, image: &Image, seeds: &Seeds) -> Result<C
     let uncut = Code::new(image, &index, &none);
     let tables = all_tables(alloc, &uncut)?;
     let uncut = uncut.with_tables(&tables);
-    let First { part, cuts } = first_part(alloc, &uncut, starts)?;
+    let First { part, cuts } = first_part(alloc, &uncut, starts, &tables)?;
     let second = second_part(alloc, &uncut, starts, &cuts)?;
     Ok(Certificate {
         plain: part,
@@ -57,19 +60,26 @@ struct First {
     cuts: Cuts,
 }
 
-/// The first part of a file's certificate, and the cuts of its jump tables. The closed state that
-/// both are read off is freed then.
-fn first_part(alloc: Global, uncut: &Code<'_>, seeds: &[u64]) -> Result<First, Memory>
+/// The first part of a file's certificate, and the cuts of its jump tables, which are among these.
+fn first_part(
+    alloc: Global,
+    uncut: &Code<'_>,
+    seeds: &[u64],
+    tables: &AllTables,
+) -> Result<First, Memory>
     requires uncut { uncut.now.cuts ≡ map.empty }
     requires seeds { AreSeeds (program_of uncut.now) seeds.now }
+    requires tables { AreAllTables uncut.now.bytes tables.now }
     ensures part { IfOk result (λ first. IsCanonical (program_of uncut.now) seeds.now first.part) }
     ensures cuts { IfOk result (λ first. AreCuts (extent_at uncut.now.bytes)
         (Reached (program_of uncut.now) seeds.now) (cut_of first.cuts)) }
     ensures fits { IfOk result (λ first. CutsFit uncut.now.bytes (cut_of first.cuts)) }
 {
-    let state = build_alone(alloc, uncut, seeds)?;
-    let cuts = cuts(alloc, uncut, &state)?;
-    let part = certificate(alloc, uncut, seeds, &state)?;
+    let reached = ReachedTerms::of(alloc, uncut, seeds)?;
+    let part = part_reached(alloc, uncut, seeds, &reached)?;
+    let followed = Followed::Terms(reached);
+    let counted = reached_jumps(alloc, uncut, &followed, tables.jumps())?;
+    let cuts = cuts_of(alloc, &counted)?;
     Ok(First { part, cuts })
 }
 
@@ -90,7 +100,7 @@ fn second_part(
         return Ok(None);
     }
     let code = uncut.under(cuts);
-    let state = build_alone(alloc, &code, seeds)?;
-    let part = certificate(alloc, &code, seeds, &state)?;
+    let reached = ReachedTerms::of(alloc, &code, seeds)?;
+    let part = part_reached(alloc, &code, seeds, &reached)?;
     Ok(Some(part))
 }

@@ -1,7 +1,7 @@
-//! The canonical certificate of a program and of a file, read off closed states.
+//! The canonical certificate of a program and of a file.
 //!
 //! - `specs/FileCanonical`: the canonical certificate of a file.
-//! - [`part`]: the canonical part of a program, from its closed state.
+//! - [`part`]: the canonical part of a program, from its closed state, or from what it reaches.
 //! - [`file`]: the canonical certificate of a file, from its image and seeds.
 //! - `lists`: the leaders, and the terminators that return, that a state shows.
 //! - [`laws`]: a file has one canonical certificate, and that is a valid one.

@@ -4,6 +4,7 @@ ghost use Rattle.std.specs.Prelude.{IfOk};
 ghost use Rattle.cfg_model.specs.Program.Instructions.{IsLawful};
 ghost use Rattle.cfg_model.specs.Program.Reach.{AreSeeds};
 ghost use Rattle.cfg_model.specs.Builder.Kept.{IsClosed};
+ghost use Rattle.reached_terms.specs.Reached.{AreReachedTerms};
 ghost use Rattle.cert_make.specs.Canonical.{IsCanonical};
 
 use crate::Memory;
@@ -11,7 +12,8 @@ use crate::lists::{returned_of, starts_of};
 use cert_make::canonical_part;
 use cert_text::Part;
 use core_state::State;
-use reached_terms::Numbered;
+use reached_graph::leaders_of;
+use reached_terms::{Numbered, ReachedTerms};
 use std::alloc::Global;
 
 /// The canonical part of a certificate of the program `code` from its seeds, read off the closed
@@ -33,6 +35,26 @@ pub fn certificate<C: Numbered>(
     let leaders = starts_of(alloc, state)?;
     let returns = returned_of(alloc, state)?;
     know_laws(code);
+    Ok(canonical_part(alloc, code, seeds, &leaders, &returns)?)
+}
+
+/// The same from what the program reaches from its seeds. [`Memory`] if memory ran out.
+///
+/// Time and memory: those of finding the leaders and the terminators that return, and of
+/// [`canonical_part`].
+pub(crate) fn part_reached<C: Numbered>(
+    alloc: Global,
+    code: &C,
+    seeds: &[u64],
+    reached: &ReachedTerms,
+) -> Result<Part, Memory>
+    requires seeds { AreSeeds (C.map code.now) seeds.now }
+    requires reached { AreReachedTerms (C.map code.now) (C.number code.now) seeds.now
+        reached.now }
+    ensures { IfOk result (IsCanonical (C.map code.now) seeds.now) }
+{
+    let leaders = leaders_of(alloc, code, reached)?;
+    let returns = reached.returning(alloc, code)?;
     Ok(canonical_part(alloc, code, seeds, &leaders, &returns)?)
 }
 

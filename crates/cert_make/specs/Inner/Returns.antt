@@ -1,9 +1,10 @@
 -- What a step of the maker finds: ranks and reasons by the lines of a table.
 use Rattle.std.specs.Prelude.{◌≡◌, ◌↔◌, ℕ, ◌<◌, ◌≤◌, ◌+◌, ◌⊎◌, List, All, Contains, length, map}
-use Rattle.std.specs.Prelude.{slice_index_or}
+use Rattle.std.specs.Prelude.{Some, slice_index_or}
 use Rattle.cert_text.specs.declared.lines.ReturnLine.{ReturnLine}
 use Rattle.cert_text.specs.declared.lines.ReturnWhy.{ReturnWhy}
-use Rattle.cfg_model.specs.Program.Instructions.{InstructionMap}
+use Rattle.cfg_model.specs.declared.flow.Flow.{Flow}
+use Rattle.cfg_model.specs.Program.Instructions.{InstructionMap, flow_at}
 use Rattle.cert_laws.specs.Lines.{IsReturnBelow}
 use Rattle.cert_make.specs.Reason.{EndCounts, ReturnsFor}
 use Rattle.cert_make.specs.First.{ReturnWhyBefore, IsFirst}
@@ -59,3 +60,10 @@ abbrev pub HaveSameRanks : List ReturnLine → List ReturnLine → Type 0
 HaveSameRanks one other =
     (i : ℕ) (d : ReturnLine) → i < length one
     → (slice_index_or one i d).rank ≡ (slice_index_or other i d).rank
+
+-- These are the flows of the terminators of the lines, one by one.
+pub record AreFlows (code : InstructionMap) (lines : List ReturnLine) (flows : List Flow)
+    : Type 0 where
+  pub as_many : length flows ≡ length lines
+  pub each : (i : ℕ) (l : ReturnLine) (f : Flow) → i < length lines
+      → flow_at code (slice_index_or lines i l).at ≡ Some (slice_index_or flows i f)

@@ -6,7 +6,7 @@ use Rattle.cert_text.specs.declared.lines.LeadWhy.{LeadWhy}
 use Rattle.cfg_model.specs.Program.Instructions.{InstructionMap}
 use Rattle.cert_laws.specs.Lines.{IsLeadBelow}
 use Rattle.cert_places.specs.Places.{IsPlace}
-use Rattle.cert_make.specs.declared.offers.Offer.{Offer}
+use Rattle.cert_make.specs.declared.firsts.Offer.{Offer}
 use Rattle.cert_make.specs.declared.joins.Meeting.{Meeting}
 use Rattle.cert_make.specs.Reason.{LeadsFor, MeetsBy}
 use Rattle.cert_make.specs.First.{LeadWhyBefore, IsFirst}

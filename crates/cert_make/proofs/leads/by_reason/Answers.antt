@@ -1,6 +1,6 @@
 use Rattle.std.proofs.Common.{Option, ◌<◌, sym, subst}
 use Rattle.std.specs.Prelude.{IfSome}
-use Rattle.cert_make.specs.declared.offers.Offer.{Offer}
+use Rattle.cert_make.specs.declared.firsts.Offer.{Offer}
 use Rattle.cert_make.proofs.LeadSettling.{chosen_join, chosen_way, no_joins, matched, unmatched}
 use Rattle.cert_make.proofs.leads.by_reason.Goals as goal
 

@@ -5,14 +5,8 @@ use Rattle.cert_make.proofs.LeadSettling.{near_read, join_read}
 use Rattle.cert_make.proofs.LeadRows.{one_added, all_done}
 use Rattle.cert_make.proofs.leads.lead_step.Goals as goal
 
-pub runs_of-requires-clause-leads : goal.runs_of-requires-clause-leads
-runs_of-requires-clause-leads g c κs within = record { rise = c.requires.rise; known = c.requires.stand }
-
-pub joins_of-requires-clause-leads : goal.joins_of-requires-clause-leads
-joins_of-requires-clause-leads g c κs within = record { rise = c.requires.rise; known = c.requires.stand }
-
 pub joins_of-requires-clause-runs : goal.joins_of-requires-clause-runs
-joins_of-requires-clause-runs g c κs within = subst (AreRuns (g.C.Chains.map c.args.code.now) c.args.lines.now) (sym c.as_slice.ensures.value) c.in_ok-runs.ensures
+joins_of-requires-clause-runs g c κs within = subst (AreRuns (g.C.Chains.map c.args.code.now) c.args.lines.now) (sym c.as_slice.ensures.value) c.requires.links.runs
 
 pub loop-i-preserved : goal.loop-i-preserved
 loop-i-preserved g c =

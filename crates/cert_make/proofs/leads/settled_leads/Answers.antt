@@ -1,13 +1,22 @@
+use Rattle.std.proofs.Common.{List, sym, subst}
+use Rattle.cert_text.specs.declared.lines.LeadLine.{LeadLine}
+use Rattle.cert_places.specs.Places.{AreLeads}
+use Rattle.cert_make.specs.Inner.Links.{AreLinks}
+use Rattle.cert_make.proofs.Linked.{links_same}
 use Rattle.cert_make.proofs.LeadRows.{first_at, next_at, at_rest}
-use Rattle.cert_make.proofs.CanonicalLeads.{tell_calls}
 use Rattle.cert_make.proofs.leads.settled_leads.Goals as goal
 
-pub lead_step-requires-clause-tell : goal.lead_step-requires-clause-tell
-lead_step-requires-clause-tell g c κs within =
-    tell_calls (g.C.Chains.map c.args.code.now) c.args.returns.now c.args.start.items c.loop-step.lines.items c.as_slice.result.now c.loop-step.invariant.same c.as_slice.ensures.value c.requires.tell
+pub lead_step-requires-clause-leads : goal.lead_step-requires-clause-leads
+lead_step-requires-clause-leads g c κs within =
+    subst (λ (ls : List LeadLine). AreLeads (g.C.Chains.map c.args.code.now) ls) (sym c.as_slice.ensures.value) (record { rise = c.loop-step.invariant.rising; known = c.loop-step.invariant.stand })
+
+pub lead_step-requires-clause-links : goal.lead_step-requires-clause-links
+lead_step-requires-clause-links g c κs within =
+    subst (λ (ls : List LeadLine). AreLinks (g.C.Chains.map c.args.code.now) ls c.args.links.now) (sym c.as_slice.ensures.value)
+    (links_same (g.C.Chains.map c.args.code.now) c.args.start.items c.loop-step.lines.items c.args.links.now c.loop-step.invariant.same c.requires.links)
 
 pub loop-step-init : goal.loop-step-init
-loop-step-init g c = first_at (g.C.Chains.map c.args.code.now) c.args.start.items c.requires.rise c.requires.stand
+loop-step-init g c = first_at (g.C.Chains.map c.args.code.now) c.args.start.items c.requires.leads.rise c.requires.leads.known
 
 pub loop-step-preserved : goal.loop-step-preserved
 loop-step-preserved g c =

@@ -6,5 +6,5 @@ use Rattle.cert_make.proofs.returns.nearest.Given as goal
 -- the nearest of those so far
 abbrev pub invariant-loop-to : goal.invariant-loop-to
 invariant-loop-to g l =
-    MatchOption l.nearest (All (EndHasNone (g.C.Chains.map l.code) l.lines) (take l.to-index l.successors))
-    (λ w. IsNearest (g.C.Chains.map l.code) l.lines (take l.to-index l.successors) w.rank w.to)
+    MatchOption l.nearest (All (EndHasNone (g.C.Chains.map l.code) l.returns.lines.now) (take l.to-index l.successors))
+    (λ w. IsNearest (g.C.Chains.map l.code) l.returns.lines.now (take l.to-index l.successors) w.rank w.to)

@@ -3,5 +3,5 @@ use Rattle.cert_make.specs.Inner.Returns.{AreSettledBy}
 use Rattle.cert_make.proofs.returns.step.Given as goal
 
 -- the lines so far
-abbrev pub invariant-loop-line : goal.invariant-loop-line
-invariant-loop-line g l = AreSettledBy (g.C.Chains.map l.code) l.lines (take l.line-index l.lines) l.next.items
+abbrev pub invariant-loop-i : goal.invariant-loop-i
+invariant-loop-i g l = AreSettledBy (g.C.Chains.map l.code) l.lines (take l.i l.lines) l.next.items

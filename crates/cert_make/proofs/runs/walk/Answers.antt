@@ -19,13 +19,13 @@ loop-next-init g c =
 
 pub returns-in-None : goal.returns-in-None
 returns-in-None g c =
-    run_from (g.C.Chains.map c.args.code.now) c.args.lines.now c.args.i c.loop-next.at None c.loop-next.invariant.walked (inl c.in-None.ensures.next) c.in-None.ensures.next
+    run_from (g.C.Chains.map c.args.code.now) c.args.lines.now c.args.i c.loop-next.at None c.loop-next.invariant.walked (inl c.in-None.ensures) c.in-None.ensures
 
 pub returns-then-stands_at : goal.returns-then-stands_at
 returns-then-stands_at g c =
     let lines = c.args.lines.now in
     let place = c.if-stands_at.ensures.0 refl in
-    let goes = c.in-Some.ensures.next in
+    let goes = c.in-Some.ensures in
     let lead = lead_at lines c.place_from-ahead.result c.in-Some.next place in
     run_from (g.C.Chains.map c.args.code.now) lines c.args.i c.loop-next.at (Some c.place_from-ahead.result) c.loop-next.invariant.walked (inr (c.in-Some.next, goes, lead)) (c.in-Some.next, place, goes)
 
@@ -33,9 +33,9 @@ pub loop-next-preserved : goal.loop-next-preserved
 loop-next-preserved g c =
     let map = g.C.Chains.map c.args.code.now in
     let lines = c.args.lines.now in
-    let lawful = c.next_of-behind.ensures.lawful in
+    let lawful = c.term-k.ensures.lawful in
     let ahead = c.place_from-ahead.ensures in
-    let goes = c.in-Some.ensures.next in
+    let goes = c.in-Some.ensures in
     record {
       walked = walk_on map lines c.args.i c.loop-next.at c.in-Some.next c.loop-next.invariant.walked goes
           (not_listed lines c.requires.leads.rise c.place_from-ahead.result c.in-Some.next ahead.before ahead.there (λ place. false_true (c.if-stands_at.ensures.1 place)));
