@@ -18,10 +18,11 @@ import cfg_report
 import contrived
 from elf_file import Elf
 from hostile import with_names
+from made import made_with_functions
 from test_tools import script
 
-DUMP = rows.TOOLS.parent / "crates" / "workers_dump" / "out" / "workers_dump"
-LIVES_DUMP = rows.TOOLS.parent / "crates" / "lives_dump" / "out" / "lives_dump"
+DUMP = rows.TOOLS.parent / "crates" / "dump_workers" / "out" / "dump_workers"
+DUMP_LIVES = rows.TOOLS.parent / "crates" / "dump_lives" / "out" / "dump_lives"
 
 
 class Contrived(unittest.TestCase):
@@ -138,12 +139,12 @@ class Bench(unittest.TestCase):
 
 
 class WorkersOf(unittest.TestCase):
-    """The table of what workers counted, by a script in the place of workers_dump and by workers_dump itself."""
+    """The table of what workers counted, by a script in the place of dump_workers and by dump_workers itself."""
 
     def said(self, folder: str, workers: int, *, program: Optional[Path] = None) -> "subprocess.CompletedProcess[str]":
-        path = Path(folder) / "row.elf"
-        path.write_bytes(rows.elf(8))
-        environment = dict(os.environ, **({"WORKERS_DUMP": str(program)} if program else {}))
+        path = Path(folder) / "made.elf"
+        path.write_bytes(made_with_functions(4))
+        environment = dict(os.environ, **({"DUMP_WORKERS": str(program)} if program else {}))
         command = [sys.executable, "-B", str(rows.TOOLS / "bench"), "--workers-of", str(workers), str(path)]
         return subprocess.run(command, env=environment, capture_output=True, text=True)
 
@@ -167,7 +168,7 @@ class WorkersOf(unittest.TestCase):
                 done = self.said(folder, 2, program=program)
                 self.assertEqual((done.returncode, done.stdout, done.stderr.count("\n")), (2, "", 1))
 
-    @unittest.skipUnless(os.access(DUMP, os.X_OK), "workers_dump is not built")
+    @unittest.skipUnless(os.access(DUMP, os.X_OK), "dump_workers is not built")
     def test_what_workers_count(self) -> None:
         for workers in (2, 5, 64):
             with self.subTest(workers), tempfile.TemporaryDirectory() as folder:
@@ -179,18 +180,18 @@ class WorkersOf(unittest.TestCase):
                     count = dict(zip(table[0][1:], map(int, cells[1:])))
                     self.assertLessEqual(count["from kept"] + count["put"], count["kept"])
                     self.assertLessEqual(count["made"], count["from kept"] + count["from deques"])
-                # Two names are dealt out, at most.
-                self.assertLessEqual(count["from deques"], count["put"] + 2)
+                # The names of the six functions are dealt out.
+                self.assertLessEqual(count["from deques"], count["put"] + 6)
                 self.assertGreater(count["turns"], 0)
 
 
 class LivesOf(unittest.TestCase):
-    """The table of what lists of live registers take, by a script in the place of lives_dump and by lives_dump itself."""
+    """The table of what lists of live registers take, by a script in the place of dump_lives and by dump_lives itself."""
 
     def said(self, folder: str, *, program: Optional[Path] = None) -> "subprocess.CompletedProcess[str]":
         path = Path(folder) / "row.elf"
         path.write_bytes(rows.elf(40))
-        environment = dict(os.environ, **({"LIVES_DUMP": str(program)} if program else {}))
+        environment = dict(os.environ, **({"DUMP_LIVES": str(program)} if program else {}))
         command = [sys.executable, "-B", str(rows.TOOLS / "bench"), "--lives-of", str(path)]
         return subprocess.run(command, env=environment, capture_output=True, text=True)
 
@@ -224,11 +225,11 @@ class LivesOf(unittest.TestCase):
                 done = self.said(folder, program=program)
                 self.assertEqual((done.returncode, done.stderr.count("\n")), (2, 1))
 
-    @unittest.skipUnless(os.access(LIVES_DUMP, os.X_OK), "lives_dump is not built")
+    @unittest.skipUnless(os.access(DUMP_LIVES, os.X_OK), "dump_lives is not built")
     def test_lists_of_a_file(self) -> None:
         with tempfile.TemporaryDirectory() as folder:
             self.cells(self.said(folder))
-            done = subprocess.run([LIVES_DUMP, Path(folder) / "row.elf", "3", "2"], capture_output=True, text=True)
+            done = subprocess.run([DUMP_LIVES, Path(folder) / "row.elf", "3", "2"], capture_output=True, text=True)
         self.assertEqual(done.stdout, "functions=1 blocks=1 checksum=00000000fffffbfe\n")
 
 

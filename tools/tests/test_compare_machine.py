@@ -10,7 +10,7 @@ import rows
 import binutils
 from test_tools import InFolder, script
 
-DUMP = rows.TOOLS.parent / "crates" / "machine_dump" / "out" / "machine_dump"
+DUMP = rows.TOOLS.parent / "crates" / "dump_machine" / "out" / "dump_machine"
 TOOL = script("compare_machine")
 LACKING = binutils.missing("qemu-riscv64", TOOL.AS, TOOL.LD)
 
@@ -84,8 +84,8 @@ print("\\n".join(lines) + "\\ntrap Ecall")
         self.assertRegex(said[0], r"^DIFFERENT program 0: step 50, after [0-9a-f]+ .*: x31 is [0-9a-f]{16} in qemu and [0-9a-f]{16} in the machine$")
         self.assertTrue((self.folder / "kept" / "1-0" / "program.elf").exists())
 
-    @unittest.skipUnless(os.access(DUMP, os.X_OK), "machine_dump is not built")
-    def test_machine_dump(self) -> None:
+    @unittest.skipUnless(os.access(DUMP, os.X_OK), "dump_machine is not built")
+    def test_dump_machine(self) -> None:
         self.assertEqual(self.said_of(str(DUMP), "--length", "100")[0], 0)
 
 

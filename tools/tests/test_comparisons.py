@@ -17,7 +17,7 @@ from elf_file import Elf
 from test_tools import InFolder, script
 
 TABLES = script("compare_tables")
-DUMP = rows.TOOLS.parent / "crates" / "tables_dump" / "out" / "tables_dump"
+DUMP = rows.TOOLS.parent / "crates" / "dump_tables" / "out" / "dump_tables"
 
 
 class NoProgram(unittest.TestCase):
@@ -55,7 +55,7 @@ class WrittenTables(unittest.TestCase):
         listed = dict(enumerate(line.values()))
         self.assertEqual(list(TABLES.register_jumps(listed)), [0, 2])
 
-    @unittest.skipUnless(DUMP.exists(), "tables_dump is not built")
+    @unittest.skipUnless(DUMP.exists(), "dump_tables is not built")
     def test_a_program_of_ones_own(self) -> None:
         said = io.StringIO()
         with contextlib.redirect_stdout(said):

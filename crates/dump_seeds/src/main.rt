@@ -19,7 +19,7 @@ fn main(rt: HostRuntime) -> Result<()> {
     let alloc = rt.alloc();
     let mut words = env::args(&rt)?.skip(1);
     let (Some(path), None) = (words.next(), words.next()) else {
-        bail!("usage: seeds_dump FILE");
+        bail!("usage: dump_seeds FILE");
     };
     let bytes = fs::read(&rt, path.as_str()).context("the file could not be read")?;
     let mut out = BufWriter::new(alloc, io::writer(&rt))?;

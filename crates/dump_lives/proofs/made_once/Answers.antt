@@ -2,7 +2,7 @@ use Rattle.elf_image.specs.Header.{entry}
 use Rattle.elf_image.specs.Seeds.{seeds}
 use Rattle.file_program.specs.FileGraph.{cut_program}
 use Rattle.live_crew.proofs.Outlines.{bodies_of_graph_rise, order_of_graph}
-use Rattle.lives_dump.proofs.made_once.Goals as goal
+use Rattle.dump_lives.proofs.made_once.Goals as goal
 
 pub graph_lives_by-requires-clause-order : goal.graph_lives_by-requires-clause-order
 graph_lives_by-requires-clause-order g c κs within =

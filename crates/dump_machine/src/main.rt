@@ -21,7 +21,7 @@ fn main(rt: HostRuntime) -> Result<()> {
     let alloc = rt.alloc();
     let mut words = env::args(&rt)?.skip(1);
     let (Some(steps), Some(path), None) = (words.next(), words.next(), words.next()) else {
-        bail!("usage: machine_dump STEPS FILE");
+        bail!("usage: dump_machine STEPS FILE");
     };
     let Ok(steps) = steps.as_str().parse::<u32>() else {
         bail!("the number of steps is below 2^32");

@@ -42,7 +42,7 @@ fn main(rt: HostRuntime) -> Result<()> {
         words.next(),
         words.next(),
     ) else {
-        bail!("usage: lives_dump FILE WORKERS TIMES");
+        bail!("usage: dump_lives FILE WORKERS TIMES");
     };
     let Some(workers) = number_up_to(workers.as_str(), MOST_WORKERS) else {
         bail!("the number of workers is 1 to 64");
