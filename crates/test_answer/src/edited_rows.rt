@@ -1,9 +1,10 @@
-//! Rows 31, 35 and 36: an end that is split over and over, float instructions, and
-//! position-independent files.
+//! Rows 31, 35 and 36, and row 15 with its symbol moved: an end that is split over and over, float
+//! instructions, position-independent files, and a table that is not reached.
 
 use crate::one_run::{prints, refuses};
 use crate::row_files::file_of;
 use crate::rows::reports;
+use crate::several_workers::move_symbol;
 use cfg_run::Status;
 use std::alloc::{AllocError, Global};
 use std::process::Abort;
@@ -117,6 +118,34 @@ fn refused_types(rt: HostRuntime) -> Result<(), Fail> {
         refuses(&rt, &["F"], edited(&rt, edits)?, Status::Malformed, line)?;
     }
     Ok(())
+}
+
+/// Row 15 with its symbol at 0x10024: the second table is not reached, so it does not cut the first.
+#[test]
+fn unreached_table_cuts_nothing(rt: HostRuntime) -> Result<(), Fail> {
+    let mut bytes = file_of(&rt, 15, 0)?;
+    move_symbol(&mut bytes, 0x10028, 0x24);
+    let sections = "\
+        functions 2\n\
+        function 0000000000010000 may-return 4 -\n\
+        in 0000000000010000\n\
+        in 0000000000010008\n\
+        in 0000000000010020\n\
+        in 000000000001004c\n\
+        function 0000000000010024 may-return 1 b\n\
+        in 0000000000010024\n\
+        blocks 5\n\
+        block 0000000000010000 0000000000010008 branch\n\
+        block 0000000000010008 0000000000010020 table\n\
+        block 0000000000010020 0000000000010024 return\n\
+        block 0000000000010024 0000000000010028 return\n\
+        block 000000000001004c 0000000000010050 return\n\
+        edges 4\n\
+        edge 0000000000010000 0000000000010008 fall\n\
+        edge 0000000000010000 0000000000010024 taken\n\
+        edge 0000000000010008 0000000000010020 table\n\
+        edge 0000000000010008 000000000001004c table\n";
+    reports(&rt, &bytes, sections)
 }
 
 /// Row 31: a function of one block at each of 301 halfwords. Each goes on to the next.

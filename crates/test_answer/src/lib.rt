@@ -14,6 +14,7 @@
 //! - `live_rows`: reports of live registers.
 //! - `asked_reports`, `refused_input`, `failing_calls`: words, refusals, and calls that fail.
 //! - `several_workers`, `yardstick`: workers against one thread, and against another builder.
+//! - `shared_text`: the text of a report by several workers, and which reports are worth that.
 //! - `gated_runs`: runs whose workers gates hold: that they work at the same time, and steal.
 #![tactic(auto)]
 
@@ -55,5 +56,7 @@ mod rows_of_code;
 mod rows_of_tables;
 #[cfg(test)]
 mod several_workers;
+#[cfg(test)]
+mod shared_text;
 #[cfg(test)]
 mod yardstick;

@@ -35,7 +35,7 @@ pub(crate) static NAMED_FILE: [u8; 480] = [
 ];
 
 /// The blocks of that file: start, end, and what they end with.
-static NAMED_BLOCKS: [(u64, u64, EndKind); 6] = [
+pub(crate) static NAMED_BLOCKS: [(u64, u64, EndKind); 6] = [
     (0x10000, 0x10004, EndKind::Jump),
     (0x10004, 0x10008, EndKind::Return),
     (0x10008, 0x1000c, EndKind::Jump),
@@ -45,7 +45,7 @@ static NAMED_BLOCKS: [(u64, u64, EndKind); 6] = [
 ];
 
 /// The edges of that file.
-static NAMED_EDGES: [(u64, u64, EdgeKind); 2] = [
+pub(crate) static NAMED_EDGES: [(u64, u64, EdgeKind); 2] = [
     (0x10000, 0x10004, EdgeKind::Tail),
     (0x10008, 0x10014, EdgeKind::Jump),
 ];
@@ -120,7 +120,7 @@ fn prints(
 }
 
 /// The graph with these blocks and edges, and no functions.
-fn graph_of(
+pub(crate) fn graph_of(
     alloc: Global,
     block_rows: &[(u64, u64, EndKind)],
     edge_rows: &[(u64, u64, EdgeKind)],
@@ -150,7 +150,7 @@ fn graph_of(
 }
 
 /// The graph of the file with names.
-fn named_graph(alloc: Global) -> Result<Graph, AllocError> {
+pub(crate) fn named_graph(alloc: Global) -> Result<Graph, AllocError> {
     let mut functions = Vec::new(alloc);
     for &(entry, returns, body) in NAMED_FUNCTIONS.iter() {
         functions.push(Function {
@@ -307,7 +307,11 @@ static NAMES: [(&[u8], usize, &str); 12] = [
 ];
 
 /// The file whose function has this part, so often, for its name.
-fn file_with_parts(alloc: Global, part: &[u8], count: usize) -> Result<Vec<u8>, AllocError> {
+pub(crate) fn file_with_parts(
+    alloc: Global,
+    part: &[u8],
+    count: usize,
+) -> Result<Vec<u8>, AllocError> {
     let mut name = Vec::new(alloc);
     for _ in 0..count {
         name.extend_from_slice(part)?;

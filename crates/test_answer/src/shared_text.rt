@@ -1,0 +1,173 @@
+//! The text of a report by several workers.
+
+ghost use Rattle.std.specs.Prelude.{◌≢◌, ◌≤◌};
+
+use crate::one_run::{Left, PLAIN, Streams, left_by};
+use crate::report_text::{
+    NAMED_BLOCKS, NAMED_EDGES, NAMED_FILE, file_with_parts, graph_of, named_graph,
+};
+use big_case::big_file;
+use cfg_model::{Addresses, Function, Functions, Graph};
+use cfg_run::Status;
+use crew::OpenGate;
+use elf_image::Image;
+use elf_symbols::seeds;
+use graph_report::{ReportKind, ReportLines, report};
+use report_crew::{LEAST_LINES, is_worth_sharing, text_by};
+use std::alloc::{AllocError, Global};
+use std::marker::Sync;
+use std::process::Abort;
+use std::sync::Wait;
+use std::test::Fail;
+use std::thread::Threads;
+
+/// Workers give the text of the graph of the file with names that one thread gives.
+fn agree<R: Threads + Abort + AllocGlobal + Sync>(
+    rt: &R,
+    graph: &Graph,
+    kind: ReportKind,
+) -> Result<(), Fail>
+    requires { kind ≢ ReportKind.Live }
+{
+    let alloc = rt.alloc();
+    let image = Image::parse(alloc, Vec::from_slice(alloc, &NAMED_FILE)?)?;
+    let seeds = seeds(alloc, &image)?;
+    let whole = report(alloc, &image, &seeds, graph, kind)?;
+    for workers in 1..=5 {
+        let lines = ReportLines::new(&image, &seeds, graph, kind);
+        let mut all = Vec::new(alloc);
+        for text in text_by(rt, alloc, lines, workers)? {
+            all.extend_from_slice(&text)?;
+        }
+        assert_eq!(rt; all.as_slice(), whole.as_slice());
+    }
+    Ok(())
+}
+
+#[test]
+fn parts_of_each_kind(rt: HostRuntime) -> Result<(), Fail> {
+    let graph = named_graph(rt.alloc())?;
+    agree(&rt, &graph, ReportKind::Graph)?;
+    agree(&rt, &graph, ReportKind::Functions)?;
+    agree(&rt, &graph, ReportKind::Blocks)?;
+    agree(&rt, &graph, ReportKind::Edges)
+}
+
+/// Parts that end in the midst of each section.
+#[test]
+fn parts_of_long_sections(rt: HostRuntime) -> Result<(), Fail> {
+    let alloc = rt.alloc();
+    let mut blocks = Vec::new(alloc);
+    let mut edges = Vec::new(alloc);
+    for _ in 0..30 {
+        blocks.extend_from_slice(&NAMED_BLOCKS)?;
+        edges.extend_from_slice(&NAMED_EDGES)?;
+    }
+    let functions = many_functions(alloc, 40, 3)?;
+    let graph = Graph {
+        functions,
+        ..graph_of(alloc, &blocks, &edges)?
+    };
+    agree(&rt, &graph, ReportKind::Graph)
+}
+
+/// This many functions, all at the address 10004 (hexadecimal), with bodies of this many blocks.
+fn many_functions(alloc: Global, count: usize, blocks: usize) -> Result<Functions, AllocError> {
+    let mut functions = Vec::new(alloc);
+    for _ in 0..count {
+        let body = Vec::from_elem(alloc, 0x10004, blocks)?;
+        functions.push(Function {
+            entry: 0x10004,
+            returns: true,
+            body: Addresses::from_vec(body),
+        })?;
+    }
+    Ok(Functions::from_vec(functions))
+}
+
+/// Whether the report of so many functions, each with this many lines and a name of this many
+/// bytes, is worth sharing.
+fn is_shared(alloc: Global, functions: usize, lines: usize, name: usize) -> Result<bool, Fail> {
+    let graph = Graph {
+        functions: many_functions(alloc, functions, lines.saturating_sub(1))?,
+        ..graph_of(alloc, &[], &[])?
+    };
+    let image = Image::parse(alloc, file_with_parts(alloc, b"n", name)?)?;
+    let seeds = seeds(alloc, &image)?;
+    let lines = ReportLines::new(&image, &seeds, &graph, ReportKind::Functions);
+    Ok(is_worth_sharing(&lines))
+}
+
+/// Reports of few lines, and those whose names might make more than 256 MiB of text, are not shared.
+#[test]
+fn measures_of_reports(rt: HostRuntime) -> Result<(), Fail> {
+    let alloc = rt.alloc();
+    assert!(rt; !is_shared(alloc, 100, LEAST_LINES / 200, 1)?);
+    assert!(rt; is_shared(alloc, 100, LEAST_LINES / 100, 1)?);
+    assert!(rt; is_shared(alloc, 100, LEAST_LINES / 100, 100_000)?);
+    assert!(rt; !is_shared(alloc, 100, LEAST_LINES / 100, 1_000_000)?);
+    Ok(())
+}
+
+/// What a run with this many workers leaves of the program made from a number, if the write of this
+/// number fails.
+fn left_of<R: Threads + Wait + AllocGlobal + Sync>(
+    rt: &R,
+    workers: &str,
+    kind: &str,
+    n: u32,
+    failing_write: u64,
+) -> Result<Left, Fail>
+    requires { (4 ≤ n) × (n ≤ 100000) }
+{
+    let words = ["--workers", workers, "--report", kind, "F"];
+    let streams = Streams {
+        failing_write,
+        ..PLAIN
+    };
+    left_by(rt, &words, big_file(rt.alloc(), n)?, streams, &OpenGate)
+}
+
+/// Workers write the report that one worker writes.
+fn runs_agree<R: Threads + Wait + Abort + AllocGlobal + Sync>(
+    rt: &R,
+    kind: &str,
+    n: u32,
+) -> Result<(), Fail>
+    requires { (4 ≤ n) × (n ≤ 100000) }
+{
+    let alone = left_of(rt, "1", kind, n, 0)?;
+    assert_eq!(rt; alone.status, Status::Done);
+    for workers in ["2", "4"] {
+        let left = left_of(rt, workers, kind, n, 0)?;
+        assert_eq!(rt; left.status, Status::Done);
+        assert_eq!(rt; left.out.bytes(), alone.out.bytes());
+    }
+    Ok(())
+}
+
+#[test]
+fn runs_of_many_lines(rt: HostRuntime) -> Result<(), Fail> {
+    runs_agree(&rt, "graph", 1100)?;
+    runs_agree(&rt, "live", 3400)
+}
+
+/// One worker writes a report of many lines in pieces, and comes to a write that fails. Several
+/// write it in parts, of which there are fewer; but not a report of few lines.
+#[test]
+fn workers_write_parts(rt: HostRuntime) -> Result<(), Fail> {
+    assert_eq!(rt;
+        left_of(&rt, "1", "graph", 1100, 50)?.status,
+        Status::WriteFault
+    );
+    assert_eq!(rt; left_of(&rt, "4", "graph", 1100, 50)?.status, Status::Done);
+    assert_eq!(rt;
+        left_of(&rt, "4", "graph", 1100, 2)?.status,
+        Status::WriteFault
+    );
+    assert_eq!(rt;
+        left_of(&rt, "4", "graph", 900, 50)?.status,
+        Status::WriteFault
+    );
+    Ok(())
+}
