@@ -1,6 +1,6 @@
 //! What the blocks of a part lead to.
 
-ghost use Rattle.std.specs.Prelude.{◌≡◌, ◌↔◌, IfOk, IsTrue, IsSome, OnOk, AllPairs, Some};
+ghost use Rattle.std.specs.Prelude.{◌≡◌, ◌↔◌, IfOk, IsTrue, IsSome, OnOk, AllPairs, Contains, Some};
 ghost use Rattle.cfg_model.specs.Graph.Edge.{Leaves};
 ghost use Rattle.cfg_model.specs.Graph.Graph.{EdgeBefore};
 ghost use Rattle.cfg_model.specs.Graph.Listing.{Gains};
@@ -21,7 +21,8 @@ use std::alloc::Global;
 
 /// The edges from the blocks of these leaders, in the order of a graph. A call returns if its target
 /// ends in a listed return. [`Memory`] if memory ran out.
-/// Time: O(edges · log edges). Memory: O(edges).
+/// Time: O(edges · log edges), and O(edges) but for those of each block where no edge is double.
+/// Memory: O(edges).
 pub(crate) fn edges_of<C: Numbered>(
     alloc: Global,
     code: &C,
@@ -39,7 +40,7 @@ pub(crate) fn edges_of<C: Numbered>(
     for (i, run) in runs.iter().enumerate() {
         add_ways(code, returns, leads[i].at, run.last, run.flow, &mut edges)?;
     }
-    Ok(edges_in_order(edges))
+    Ok(by_source(edges))
 }
 
 /// Adds the edges of the block that starts at `s` and whose last instruction, of this flow, stands at
@@ -59,8 +60,29 @@ fn add_ways<C: Numbered>(
         (Leaves (C.map code.now) (EndsIn (C.map code.now) (IsReturn returns.now.lines.now)) s k)) }
 {
     let back = callee_returns(code, returns, k, flow);
+    let before = edges.len();
     add_edges_by(code, s, k, flow, back, edges)?;
+    sort_from(edges, before);
     Ok(())
+}
+
+/// Puts the edges from place `from` on into the order of a graph. Blocks are gone over in that
+/// order, so with those of each block sorted, all are in order, but for double ones.
+fn sort_from(edges: &mut Vec<Edge>, from: usize)
+    ensures { (edge : _) → Contains edges.new.items edge ↔ Contains edges.old.items edge }
+{
+    let from = from.min(edges.len());
+    edges[from..].sort_unstable();
+}
+
+/// The same edges, each once, in the order of a graph. The first sort makes use of the order that
+/// they have. If memory for it is missing, the second one does all.
+fn by_source(mut edges: Vec<Edge>) -> Vec<Edge>
+    ensures in_order { AllPairs EdgeBefore result.items }
+    ensures same { (edge : _) → Contains result.items edge ↔ Contains edges.items edge }
+{
+    let _ = edges.sort();
+    edges_in_order(edges)
 }
 
 /// If a known address is called at `k`, where this is the flow: whether it ends in a listed return.

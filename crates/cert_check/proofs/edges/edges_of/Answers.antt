@@ -14,9 +14,9 @@ returns g c =
     let runs = c.args.runs.now in
     let edges = c.loop-i.edges.items in
     record {
-      in_order = c.edges_in_order.ensures.in_order;
+      in_order = c.by_source.ensures.in_order;
       exact = λ edge. (
-        λ listed. ways_sound map leads returns runs c.requires.runs edges c.loop-i.i (omega (arith, c.requires.runs.as_many)) (omega (arith, c.requires.runs.as_many)) c.loop-i.invariant edge ((c.edges_in_order.ensures.same edge).0 listed),
-        λ way. (c.edges_in_order.ensures.same edge).1 (ways_complete map leads returns runs c.requires.runs edges c.loop-i.i (omega (arith, c.requires.runs.as_many)) (omega (arith, c.requires.runs.as_many)) c.loop-i.invariant edge way),
+        λ listed. ways_sound map leads returns runs c.requires.runs edges c.loop-i.i (omega (arith, c.requires.runs.as_many)) (omega (arith, c.requires.runs.as_many)) c.loop-i.invariant edge ((c.by_source.ensures.same edge).0 listed),
+        λ way. (c.by_source.ensures.same edge).1 (ways_complete map leads returns runs c.requires.runs edges c.loop-i.i (omega (arith, c.requires.runs.as_many)) (omega (arith, c.requires.runs.as_many)) c.loop-i.invariant edge way),
       );
     }
