@@ -178,7 +178,7 @@ class WorkersOf(unittest.TestCase):
                 self.assertEqual([cells[0] for cells in table[2:]], [*map(str, range(workers)), "all"])
                 for cells in table[2:]:
                     count = dict(zip(table[0][1:], map(int, cells[1:])))
-                    self.assertLessEqual(count["from kept"] + count["put"], count["kept"])
+                    self.assertLessEqual(count["made"] + count["put"], count["kept"] + count["from deques"])
                     self.assertLessEqual(count["made"], count["from kept"] + count["from deques"])
                 # The names of the six functions are dealt out.
                 self.assertLessEqual(count["from deques"], count["put"] + 6)
