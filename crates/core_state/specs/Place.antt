@@ -1,6 +1,7 @@
 -- What a place that a builder works on tells: what it knows, and what becomes of its maps if it
 -- tells them.
-use Rattle.std.specs.Prelude.{◌≡◌, ◌<◌, ℕ, List, [], ◌∷◌, Option, Some, None}
+use Rattle.std.specs.Prelude.{◌≡◌, ◌<◌, ◌≤◌, ℕ, List, [], ◌∷◌, Option, Some, None}
+use Rattle.std.specs.Prelude.{Result, OnErr, IfErr}
 use Rattle.std.specs.Option.{ForSome}
 use Rattle.cfg_model.specs.Program.Instructions.{InstructionMap}
 use Rattle.cfg_model.specs.Builder.State.{BuilderState, IsNear, near_at}
@@ -64,3 +65,32 @@ abbrev pub IsBusyAt : ShardKind → ℕ → ℕ → ℕ → PlaceEnd → Type 0
 IsBusyAt kind key before after (Busy k shard) =
     (k ≡ kind) × (shard ≡ shard_of key) × (before < after)
 IsBusyAt kind key before after Memory = Unit {0}
+
+-- A place was asked for a change of the shard of this key. This holds whatever came of it. What
+-- maps, knows and busies mean, the place tells.
+pub record ChangeTried {X : Type 0} (map : InstructionMap) (seeds : List ℕ) (maps : X
+    → Option BuilderState) (knows : X → Fact → Type 0) (busies : X → ℕ) (kind : ShardKind)
+    (key : ℕ) (old new : X) {T : Type 0} (result : Result T PlaceEnd) : Type 0 where
+  -- Its maps are kept.
+  pub kept : AreKept map seeds (maps new)
+  -- What it knew it knows.
+  pub remembers : Remembers (knows old) (knows new)
+  -- If it is refused, no map changed.
+  pub refused : OnErr result (maps new ≡ maps old)
+  -- If it is refused for want of a shard, that shard is the one of the key, and the count rose.
+  pub busy : IfErr result (IsBusyAt kind key (busies old) (busies new))
+  -- The count never falls.
+  pub counted : busies old ≤ busies new
+
+-- A place was asked for what is in the shard of this key. This holds whatever came of it.
+pub record ReadTried {X : Type 0} (maps : X → Option BuilderState) (knows : X → Fact → Type 0)
+    (busies : X → ℕ) (kind : ShardKind) (key : ℕ) (old new : X) {T : Type 0}
+    (result : Result T PlaceEnd) : Type 0 where
+  -- No map changed.
+  pub same : maps new ≡ maps old
+  -- What it knew it knows.
+  pub remembers : Remembers (knows old) (knows new)
+  -- If it is refused for want of a shard, that shard is the one of the key, and the count rose.
+  pub busy : IfErr result (IsBusyAt kind key (busies old) (busies new))
+  -- The count never falls.
+  pub counted : busies old ≤ busies new

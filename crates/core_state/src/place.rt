@@ -34,7 +34,7 @@ impl Job for Brand {
 /// not; if it does, it knows exactly what holds of them. A call that is refused changes no map.
 pub trait Place<J: Job> {
     ghost use Rattle.std.specs.Prelude.{◌≡◌, ◌↔◌, ℕ, ◌<◌, ◌≤◌, Option, Some, None, IsTrue};
-    ghost use Rattle.std.specs.Prelude.{OnOk, OnErr, IfOk, IfErr, IfSome, OnSome, IfNone};
+    ghost use Rattle.std.specs.Prelude.{OnOk, IfOk, IfSome, OnSome, IfNone};
     ghost use Rattle.std.specs.Option.{ForSome};
     ghost use Rattle.cfg_model.specs.Program.Instructions.{IsLawful};
     ghost use Rattle.cfg_model.specs.Builder.State.{BuilderState, IsStart, IsMoved};
@@ -46,7 +46,7 @@ pub trait Place<J: Job> {
     ghost use Rattle.core_state.specs.Line.{IsNextInLine};
     ghost use Rattle.core_state.specs.Reads.{IsNextToTell, HasNextToTell};
     ghost use Rattle.core_state.specs.Place.{AreKept, Makes, Brings, Remembers};
-    ghost use Rattle.core_state.specs.Place.{near_after, IsArrival, IsBusyAt};
+    ghost use Rattle.core_state.specs.Place.{near_after, IsArrival, ChangeTried, ReadTried};
 
     /// How often a shard was in other hands. It never falls.
     ghost busies: { Self → ℕ };
@@ -57,6 +57,13 @@ pub trait Place<J: Job> {
     /// The maps, if the place tells them.
     ghost maps: { Self → Option BuilderState };
 
+    // What each change says: `step`, after `Ok` the maps allowed the event, and it made its step.
+    // `brings`: the place knows what the event brings. `answer`: by the maps before, or after.
+    // `tried`: what holds whatever came of it.
+    //
+    // What each read says: `answer`, after `Ok`, by the maps. `tried`: what holds whatever came of
+    // it. The other clauses: what the place knows by the answer.
+
     /// Makes `s` a wanted start, if it is none. Answers whether it is new.
     fn want(&mut self, s: u64) -> Result<bool, PlaceEnd>
         requires lawful { IsLawful J.map }
@@ -64,15 +71,11 @@ pub trait Place<J: Job> {
         requires reason { Reason J.map J.seeds (knows self.old) (Event.Want s) }
         ensures step { OnOk result
             (Makes J.map J.seeds (Event.Want s) (maps self.old) (maps self.new)) }
-        ensures kept { AreKept J.map J.seeds (maps self.new) }
         ensures brings { OnOk result (Brings (Event.Want s) (knows self.new)) }
-        ensures remembers { Remembers (knows self.old) (knows self.new) }
         ensures answer { IfOk result
             (λ new. ForSome (maps self.old) (λ state. IsTrue new ↔ ¬ IsStart state.starts s)) }
-        ensures refused { OnErr result (maps self.new ≡ maps self.old) }
-        ensures busy { IfErr result
-            (IsBusyAt ShardKind.Starts s (busies self.old) (busies self.new)) }
-        ensures counted { busies self.old ≤ busies self.new };
+        ensures tried { ChangeTried J.map J.seeds maps knows busies ShardKind.Starts s
+            self.old self.new result };
 
     /// Makes the start `s` a parsed one.
     fn parsed(&mut self, s: u64) -> Result<(), PlaceEnd>
@@ -81,13 +84,9 @@ pub trait Place<J: Job> {
         requires reason { Reason J.map J.seeds (knows self.old) (Event.Parsed s) }
         ensures step { OnOk result
             (Makes J.map J.seeds (Event.Parsed s) (maps self.old) (maps self.new)) }
-        ensures kept { AreKept J.map J.seeds (maps self.new) }
         ensures brings { OnOk result (Brings (Event.Parsed s) (knows self.new)) }
-        ensures remembers { Remembers (knows self.old) (knows self.new) }
-        ensures refused { OnErr result (maps self.new ≡ maps self.old) }
-        ensures busy { IfErr result
-            (IsBusyAt ShardKind.Starts s (busies self.old) (busies self.new)) }
-        ensures counted { busies self.old ≤ busies self.new };
+        ensures tried { ChangeTried J.map J.seeds maps knows busies ShardKind.Starts s
+            self.old self.new result };
 
     /// The start `s` arrives at the end `k`: the first one there is near; another one splits the
     /// end at the first address on the chains of both.
@@ -98,16 +97,12 @@ pub trait Place<J: Job> {
         requires reason { Reason J.map J.seeds (knows self.old) (Event.Arrive k s) }
         ensures step { OnOk result
             (Makes J.map J.seeds (Event.Arrive k s) (maps self.old) (maps self.new)) }
-        ensures kept { AreKept J.map J.seeds (maps self.new) }
         ensures brings { OnOk result (Brings (Event.Arrive k s) (knows self.new)) }
         ensures near { IfOk result
             (λ arrival. knows self.new (Fact.Anchored (near_after s arrival) k)) }
-        ensures remembers { Remembers (knows self.old) (knows self.new) }
         ensures answer { IfOk result (IsArrival k s (maps self.old) (maps self.new)) }
-        ensures refused { OnErr result (maps self.new ≡ maps self.old) }
-        ensures busy { IfErr result
-            (IsBusyAt ShardKind.Ends k (busies self.old) (busies self.new)) }
-        ensures counted { busies self.old ≤ busies self.new };
+        ensures tried { ChangeTried J.map J.seeds maps knows busies ShardKind.Ends k
+            self.old self.new result };
 
     /// Takes `x` out of the displaced starts of the end `k`.
     fn settle(&mut self, k: u64, x: u64) -> Result<(), PlaceEnd>
@@ -116,12 +111,8 @@ pub trait Place<J: Job> {
         requires reason { Reason J.map J.seeds (knows self.old) (Event.Settle k x) }
         ensures step { OnOk result
             (Makes J.map J.seeds (Event.Settle k x) (maps self.old) (maps self.new)) }
-        ensures kept { AreKept J.map J.seeds (maps self.new) }
-        ensures remembers { Remembers (knows self.old) (knows self.new) }
-        ensures refused { OnErr result (maps self.new ≡ maps self.old) }
-        ensures busy { IfErr result
-            (IsBusyAt ShardKind.Ends k (busies self.old) (busies self.new)) }
-        ensures counted { busies self.old ≤ busies self.new };
+        ensures tried { ChangeTried J.map J.seeds maps knows busies ShardKind.Ends k
+            self.old self.new result };
 
     /// Enters `k` as a terminator, if it is none. Answers whether it is new.
     fn term(&mut self, k: u64) -> Result<bool, PlaceEnd>
@@ -130,15 +121,11 @@ pub trait Place<J: Job> {
         requires reason { Reason J.map J.seeds (knows self.old) (Event.Terminator k) }
         ensures step { OnOk result
             (Makes J.map J.seeds (Event.Terminator k) (maps self.old) (maps self.new)) }
-        ensures kept { AreKept J.map J.seeds (maps self.new) }
         ensures brings { OnOk result (Brings (Event.Terminator k) (knows self.new)) }
-        ensures remembers { Remembers (knows self.old) (knows self.new) }
         ensures answer { IfOk result (λ new. ForSome (maps self.old)
             (λ state. IsTrue new ↔ ¬ IsEntered state.terminators k)) }
-        ensures refused { OnErr result (maps self.new ≡ maps self.old) }
-        ensures busy { IfErr result
-            (IsBusyAt ShardKind.Terms k (busies self.old) (busies self.new)) }
-        ensures counted { busies self.old ≤ busies self.new };
+        ensures tried { ChangeTried J.map J.seeds maps knows busies ShardKind.Terms k
+            self.old self.new result };
 
     /// Makes `w` wait at the terminator `k`, untold, if it does not wait there yet. Answers whether
     /// it is new there.
@@ -148,15 +135,11 @@ pub trait Place<J: Job> {
         requires reason { Reason J.map J.seeds (knows self.old) (Event.Wait k w) }
         ensures step { OnOk result
             (Makes J.map J.seeds (Event.Wait k w) (maps self.old) (maps self.new)) }
-        ensures kept { AreKept J.map J.seeds (maps self.new) }
         ensures brings { OnOk result (Brings (Event.Wait k w) (knows self.new)) }
-        ensures remembers { Remembers (knows self.old) (knows self.new) }
         ensures answer { IfOk result (λ new. ForSome (maps self.old)
             (λ state. IsTrue new ↔ ¬ WaitsAt state.terminators k w)) }
-        ensures refused { OnErr result (maps self.new ≡ maps self.old) }
-        ensures busy { IfErr result
-            (IsBusyAt ShardKind.Terms k (busies self.old) (busies self.new)) }
-        ensures counted { busies self.old ≤ busies self.new };
+        ensures tried { ChangeTried J.map J.seeds maps knows busies ShardKind.Terms k
+            self.old self.new result };
 
     /// Makes `w` wait at the terminator `k` as [`Place::wait`] does. Answers whether it is to be
     /// told now: it is new there, and `k` is known to return. Both are read where it is placed, by
@@ -168,15 +151,11 @@ pub trait Place<J: Job> {
         requires reason { Reason J.map J.seeds (knows self.old) (Event.Wait k w) }
         ensures step { OnOk result
             (Makes J.map J.seeds (Event.Wait k w) (maps self.old) (maps self.new)) }
-        ensures kept { AreKept J.map J.seeds (maps self.new) }
         ensures brings { OnOk result (Brings (Event.Wait k w) (knows self.new)) }
-        ensures remembers { Remembers (knows self.old) (knows self.new) }
         ensures answer { IfOk result (λ due. ForSome (maps self.old) (λ state. IsTrue due
             ↔ (¬ WaitsAt state.terminators k w) × IsReturned state.terminators k)) }
-        ensures refused { OnErr result (maps self.new ≡ maps self.old) }
-        ensures busy { IfErr result
-            (IsBusyAt ShardKind.Terms k (busies self.old) (busies self.new)) }
-        ensures counted { busies self.old ≤ busies self.new };
+        ensures tried { ChangeTried J.map J.seeds maps knows busies ShardKind.Terms k
+            self.old self.new result };
 
     /// Notes that the terminator `k` returns. Answers whether that is new.
     fn returned(&mut self, k: u64) -> Result<bool, PlaceEnd>
@@ -185,15 +164,11 @@ pub trait Place<J: Job> {
         requires reason { Reason J.map J.seeds (knows self.old) (Event.Returned k) }
         ensures step { OnOk result
             (Makes J.map J.seeds (Event.Returned k) (maps self.old) (maps self.new)) }
-        ensures kept { AreKept J.map J.seeds (maps self.new) }
         ensures brings { OnOk result (Brings (Event.Returned k) (knows self.new)) }
-        ensures remembers { Remembers (knows self.old) (knows self.new) }
         ensures answer { IfOk result (λ new. ForSome (maps self.old)
             (λ state. IsTrue new ↔ ¬ IsReturned state.terminators k)) }
-        ensures refused { OnErr result (maps self.new ≡ maps self.old) }
-        ensures busy { IfErr result
-            (IsBusyAt ShardKind.Terms k (busies self.old) (busies self.new)) }
-        ensures counted { busies self.old ≤ busies self.new };
+        ensures tried { ChangeTried J.map J.seeds maps knows busies ShardKind.Terms k
+            self.old self.new result };
 
     /// Notes that `w` was told that the terminator `k`, at which it waits, returns.
     fn told(&mut self, k: u64, w: Waiter) -> Result<(), PlaceEnd>
@@ -202,13 +177,9 @@ pub trait Place<J: Job> {
         requires reason { Reason J.map J.seeds (knows self.old) (Event.Told k w) }
         ensures step { OnOk result
             (Makes J.map J.seeds (Event.Told k w) (maps self.old) (maps self.new)) }
-        ensures kept { AreKept J.map J.seeds (maps self.new) }
         ensures brings { OnOk result (Brings (Event.Told k w) (knows self.new)) }
-        ensures remembers { Remembers (knows self.old) (knows self.new) }
-        ensures refused { OnErr result (maps self.new ≡ maps self.old) }
-        ensures busy { IfErr result
-            (IsBusyAt ShardKind.Terms k (busies self.old) (busies self.new)) }
-        ensures counted { busies self.old ≤ busies self.new };
+        ensures tried { ChangeTried J.map J.seeds maps knows busies ShardKind.Terms k
+            self.old self.new result };
 
     /// Notes that `w` was told that the terminator `k`, at which it waits, returns, as
     /// [`Place::told`] does. Answers whether another waiter is left to be told there, which is read
@@ -219,15 +190,11 @@ pub trait Place<J: Job> {
         requires reason { Reason J.map J.seeds (knows self.old) (Event.Told k w) }
         ensures step { OnOk result
             (Makes J.map J.seeds (Event.Told k w) (maps self.old) (maps self.new)) }
-        ensures kept { AreKept J.map J.seeds (maps self.new) }
         ensures brings { OnOk result (Brings (Event.Told k w) (knows self.new)) }
-        ensures remembers { Remembers (knows self.old) (knows self.new) }
         ensures answer { IfOk result (λ left. ForSome (maps self.new)
             (λ state. IsTrue left ↔ HasNextToTell state.terminators k)) }
-        ensures refused { OnErr result (maps self.new ≡ maps self.old) }
-        ensures busy { IfErr result
-            (IsBusyAt ShardKind.Terms k (busies self.old) (busies self.new)) }
-        ensures counted { busies self.old ≤ busies self.new };
+        ensures tried { ChangeTried J.map J.seeds maps knows busies ShardKind.Terms k
+            self.old self.new result };
 
     /// Notes that the ways on of the terminator `k` are dealt with.
     fn edges_done(&mut self, k: u64) -> Result<(), PlaceEnd>
@@ -236,23 +203,15 @@ pub trait Place<J: Job> {
         requires reason { Reason J.map J.seeds (knows self.old) (Event.EdgesDone k) }
         ensures step { OnOk result
             (Makes J.map J.seeds (Event.EdgesDone k) (maps self.old) (maps self.new)) }
-        ensures kept { AreKept J.map J.seeds (maps self.new) }
         ensures brings { OnOk result (Brings (Event.EdgesDone k) (knows self.new)) }
-        ensures remembers { Remembers (knows self.old) (knows self.new) }
-        ensures refused { OnErr result (maps self.new ≡ maps self.old) }
-        ensures busy { IfErr result
-            (IsBusyAt ShardKind.Terms k (busies self.old) (busies self.new)) }
-        ensures counted { busies self.old ≤ busies self.new };
+        ensures tried { ChangeTried J.map J.seeds maps knows busies ShardKind.Terms k
+            self.old self.new result };
 
     /// Whether `s` is known to be a start. A place that cannot tell answers that it is not.
     fn has_start(&mut self, s: u64) -> Result<bool, PlaceEnd>
         requires kept { AreKept J.map J.seeds (maps self.old) }
-        ensures same { maps self.new ≡ maps self.old }
         ensures start { IfOk result (λ is. IsTrue is → knows self.new (Fact.Start s)) }
-        ensures remembers { Remembers (knows self.old) (knows self.new) }
-        ensures busy { IfErr result
-            (IsBusyAt ShardKind.Starts s (busies self.old) (busies self.new)) }
-        ensures counted { busies self.old ≤ busies self.new }
+        ensures tried { ReadTried maps knows busies ShardKind.Starts s self.old self.new result }
     {
         let _asked = s;
         Ok(false)
@@ -262,50 +221,37 @@ pub trait Place<J: Job> {
     /// there.
     fn start_behind(&mut self, a: u64) -> Result<Option<u64>, PlaceEnd>
         requires kept { AreKept J.map J.seeds (maps self.old) }
-        ensures same { maps self.new ≡ maps self.old }
         ensures answer { IfOk result
             (λ next. ForSome (maps self.old) (λ state. IsNextInLine state.starts a next)) }
         ensures behind { IfOk result (λ next. IfSome next (λ t. a < t)) }
         ensures start { IfOk result (λ next. IfSome next (λ t. knows self.new (Fact.Start t))) }
-        ensures remembers { Remembers (knows self.old) (knows self.new) }
-        ensures busy { IfErr result
-            (IsBusyAt ShardKind.Starts a (busies self.old) (busies self.new)) }
-        ensures counted { busies self.old ≤ busies self.new };
+        ensures tried { ReadTried maps knows busies ShardKind.Starts a self.old self.new result };
 
     /// The start of the block that ends at `k`; `None` if no block is known to.
     fn near(&mut self, k: u64) -> Result<Option<u64>, PlaceEnd>
         requires kept { AreKept J.map J.seeds (maps self.old) }
-        ensures same { maps self.new ≡ maps self.old }
         ensures answer { IfOk result
             (λ near. ForSome (maps self.old) (λ state. near ≡ near_at state.ends k)) }
         ensures end { IfOk result (λ near. OnSome near (knows self.new (Fact.End k))) }
         ensures anchored { IfOk result
             (λ near. IfSome near (λ p. knows self.new (Fact.Anchored p k))) }
-        ensures remembers { Remembers (knows self.old) (knows self.new) }
-        ensures busy { IfErr result
-            (IsBusyAt ShardKind.Ends k (busies self.old) (busies self.new)) }
-        ensures counted { busies self.old ≤ busies self.new };
+        ensures tried { ReadTried maps knows busies ShardKind.Ends k self.old self.new result };
 
     /// The least displaced start of the end `k`; `None` if there is none.
     fn moved(&mut self, k: u64) -> Result<Option<u64>, PlaceEnd>
         requires kept { AreKept J.map J.seeds (maps self.old) }
-        ensures same { maps self.new ≡ maps self.old }
         ensures answer { IfOk result
             (λ moved. ForSome (maps self.old) (λ state. IsLeast (IsMoved state.ends k) moved)) }
         ensures end { IfOk result (λ moved. OnSome moved (knows self.new (Fact.End k))) }
         ensures anchored { IfOk result
             (λ moved. IfSome moved (λ x. knows self.new (Fact.Anchored x k))) }
-        ensures remembers { Remembers (knows self.old) (knows self.new) }
-        ensures busy { IfErr result
-            (IsBusyAt ShardKind.Ends k (busies self.old) (busies self.new)) }
-        ensures counted { busies self.old ≤ busies self.new };
+        ensures tried { ReadTried maps knows busies ShardKind.Ends k self.old self.new result };
 
     /// The first waiter that is to be told that `k` returns: the one with the least terminator, and
     /// `Follow` before `Release`. `None` if `k` is not known to return or no waiter is left to be
     /// told.
     fn untold(&mut self, k: u64) -> Result<Option<Waiter>, PlaceEnd>
         requires kept { AreKept J.map J.seeds (maps self.old) }
-        ensures same { maps self.new ≡ maps self.old }
         ensures answer { IfOk result
             (λ next. ForSome (maps self.old) (λ state. IsNextToTell state.terminators k next)) }
         ensures waits { IfOk result (λ next. IfSome next (λ w. knows self.new (Fact.Waits k w))) }
@@ -316,10 +262,7 @@ pub trait Place<J: Job> {
         ensures all_told { IfOk result
             (λ next. IfNone next (knows self.old (Fact.Returned k) → (w : Waiter)
             → knows self.old (Fact.Waits k w) → knows self.new (Fact.Told k w))) }
-        ensures remembers { Remembers (knows self.old) (knows self.new) }
-        ensures busy { IfErr result
-            (IsBusyAt ShardKind.Terms k (busies self.old) (busies self.new)) }
-        ensures counted { busies self.old ≤ busies self.new };
+        ensures tried { ReadTried maps knows busies ShardKind.Terms k self.old self.new result };
 
     /// Passes on new work. It cannot be refused.
     fn found(&mut self, name: Name)

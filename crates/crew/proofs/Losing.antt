@@ -1,14 +1,16 @@
 -- What a call of a seat says of the tries that were lost, and of what is known, in the words of a place.
-use Rattle.std.proofs.Common.{◌≡◌, ℕ, ◌+◌, ◌<◌, ◌≤◌, List, length, sym, subst, ap, arith, ⊎_elim}
+use Rattle.std.proofs.Common.{◌≡◌, ℕ, ◌+◌, ◌<◌, ◌≤◌, List, length, refl, sym, subst, ap, arith, ⊎_elim}
 use Rattle.std.proofs.lemmas.Bool.{cases_lt}
+use Rattle.std.proofs.lemmas.Option.{none-some}
 use Rattle.std.proofs.lemmas.List.{set_past}
 use Rattle.std.proofs.lemmas.List.Sums.{sum_by-set}
-use Rattle.std.specs.Prelude.{sum, Option, Some, None, Result, Ok, Err, IfOk, IfErr, OnOk, slice_set, slice_index}
+use Rattle.std.specs.Prelude.{sum, Option, Some, None, Result, Ok, Err, IfOk, IfErr, OnOk, OnErr, slice_set, slice_index}
 use Rattle.std.specs.Option.{IfNone}
 use Rattle.cfg_model.specs.Program.Instructions.{InstructionMap}
 use Rattle.cfg_model.specs.declared.state.Waiter.{Waiter}
 use Rattle.cfg_model.specs.Builder.Event.{Event}
 use Rattle.cfg_model.specs.Builder.Fact.{Fact}
+use Rattle.cfg_model.specs.Builder.State.{BuilderState}
 use Rattle.core_state.specs.declared.answer.ShardKind.{ShardKind}
 use Rattle.core_state.specs.declared.answer.PlaceEnd.{PlaceEnd}
 use Rattle.core_state.specs.declared.answer.PlaceEnd.TheVariants.{Busy, Memory}
@@ -57,6 +59,25 @@ never_fewer map seeds event kind key old new (Err Memory) made tried =
     subst (λ (s : SeatState). all_lost old ≤ all_lost s) (sym tried.memory.had.turn) (omega arith)
 never_fewer map seeds event kind key old new (Err (Busy k number)) made tried =
     subst (λ (s : SeatState). all_lost old ≤ all_lost s) (sym tried.busy.2) (never_falls old.notes.lost (slot_of (shard_for kind key)))
+
+-- A worker tells no maps, so a refusal changes none.
+none_changed : {T E : Type 0} (result : Result T E) (maps : Option BuilderState) → OnErr result (maps ≡ maps)
+none_changed (Ok x) maps = tt
+none_changed (Err e) maps = refl
+
+-- What a change of the seat says, in the words of a place.
+pub change_tried : {T : Type 0} (map : InstructionMap) (seeds : List ℕ) (event : Event) (kind : ShardKind) (key : ℕ)
+    (old seat new : SeatState) → seat ≡ old → (result : Result T PlaceEnd) → OnOk result (MadeEvent map seeds event seat new)
+    → TriedAt map seeds kind key seat new result
+    → place.ChangeTried map seeds (λ _. None) (KnowsSoundly map seeds) all_lost kind key old new result
+change_tried map seeds event kind key old seat new same result made tried =
+    subst (λ (s : SeatState). place.ChangeTried map seeds (λ _. None) (KnowsSoundly map seeds) all_lost kind key s new result) same (record {
+      kept = λ state is. absurd (none-some state is);
+      remembers = λ fact known. (tried.remembers fact known.0, known.1);
+      refused = none_changed result None;
+      busy = where_busy map seeds kind key seat new result tried;
+      counted = never_fewer map seeds event kind key seat new result made tried;
+    })
 
 -- Where no waiter is left to be told, what the seat knows of it is true.
 pub all_told : (map : InstructionMap) (seeds : List ℕ) (k : ℕ) (old seat new : SeatState) → seat ≡ old

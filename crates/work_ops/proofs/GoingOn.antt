@@ -9,7 +9,7 @@ use Rattle.cfg_model.specs.Builder.Run.{IsRun}
 use Rattle.core_state.specs.declared.answer.PlaceEnd.{PlaceEnd}
 use Rattle.core_state.specs.declared.answer.PlaceEnd.TheVariants.{Busy, Memory}
 use Rattle.core_state.specs.declared.answer.ShardKind.{ShardKind}
-use Rattle.core_state.specs.Place.{AreKept, Makes, Remembers, IsBusyAt}
+use Rattle.core_state.specs.Place.{AreKept, Makes, Remembers, IsBusyAt, ChangeTried, ReadTried}
 use Rattle.work_ops.specs.Going.{Runs, RoseIfBusy, Went}
 
 -- a run goes on with another
@@ -52,12 +52,16 @@ module _ (map : InstructionMap) (seeds : List ℕ) where
         record { run = runs_then (maps a) (maps b) (maps c) one.run two.run; kept = two.kept; remembers = λ fact h. two.remembers fact (one.remembers fact h); counted = counted }
 
     -- one change
-    pub changes : {T E : Type 0} (r : Result T E) (event : Event) (a b : X) → OnOk r (Makes map seeds event (maps a) (maps b)) → OnErr r (maps b ≡ maps a) → AreKept map seeds (maps b) → Remembers (knows a) (knows b) → busies a ≤ busies b → Went map seeds maps knows busies a b
-    changes r event a b made same kept more counted = record { run = runs_call r event (maps a) (maps b) made same; kept = kept; remembers = more; counted = counted }
+    pub changes : {T : Type 0} (r : Result T PlaceEnd) (event : Event) (kind : ShardKind) (key : ℕ) (a b : X) → OnOk r (Makes map seeds event (maps a) (maps b)) → ChangeTried map seeds maps knows busies kind key a b r → Went map seeds maps knows busies a b
+    changes r event kind key a b made tried = record { run = runs_call r event (maps a) (maps b) made tried.refused; kept = tried.kept; remembers = tried.remembers; counted = tried.counted }
 
     -- a call that changes no map
-    pub reads : (a b : X) → maps b ≡ maps a → AreKept map seeds (maps a) → Remembers (knows a) (knows b) → busies a ≤ busies b → Went map seeds maps knows busies a b
-    reads a b same kept more counted = record { run = runs_none (maps a) (maps b) same; kept = λ state is. kept state (sym same ∙ is); remembers = more; counted = counted }
+    pub finds : (a b : X) → maps b ≡ maps a → AreKept map seeds (maps a) → Remembers (knows a) (knows b) → busies a ≤ busies b → Went map seeds maps knows busies a b
+    finds a b same kept more counted = record { run = runs_none (maps a) (maps b) same; kept = λ state is. kept state (sym same ∙ is); remembers = more; counted = counted }
+
+    -- one read
+    pub reads : {T : Type 0} (r : Result T PlaceEnd) (kind : ShardKind) (key : ℕ) (a b : X) → ReadTried maps knows busies kind key a b r → AreKept map seeds (maps a) → Went map seeds maps knows busies a b
+    reads r kind key a b tried kept = finds a b tried.same kept tried.remembers tried.counted
 
 -- a refusal that was handed through
 pub busy_here : {T : Type 0} (r : Result T PlaceEnd) (kind : ShardKind) (key a b : ℕ) → IfErr r (IsBusyAt kind key a b) → IfErr r (RoseIfBusy a b)

@@ -33,4 +33,4 @@ returns-clause-run g c =
     c.call_all.ensures.went.run
     (runs_then _ _ _ _ _
     c.return_alone.ensures.went.run
-    (runs_call _ _ c.edges_done.result (Event.EdgesDone c.args.k) _ _ c.edges_done.ensures.step c.edges_done.ensures.refused)))
+    (runs_call _ _ c.edges_done.result (Event.EdgesDone c.args.k) _ _ c.edges_done.ensures.step c.edges_done.ensures.tried.refused)))

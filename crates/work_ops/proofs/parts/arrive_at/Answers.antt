@@ -7,13 +7,13 @@ use Rattle.core_state.specs.Place.{near_after}
 use Rattle.std.proofs.Common.{sym, ap, ◌∙◌}
 use Rattle.std.proofs.lemmas.Result.{on_ok_weaker}
 use Rattle.cfg_model.specs.Builder.State.{EndMap, IsNear, IsStart}
-use Rattle.work_ops.proofs.GoingOn.{changes, reads, goes_on, always}
+use Rattle.work_ops.proofs.GoingOn.{changes, finds, goes_on, always}
 use Rattle.work_ops.proofs.EndsTold.{ends_back, ends_then, ends_same, ends_gone, arrived, arrived_there}
 use Rattle.work_ops.proofs.parts.arrive_at.Goals as goal
 
 pub returns-in_err-near-clause-went : goal.returns-in_err-near-clause-went
 returns-in_err-near-clause-went g c =
-    changes _ _ _ _ _ c.arrive.result (Event.Arrive c.args.k c.args.s) _ _ c.arrive.ensures.step c.arrive.ensures.refused c.arrive.ensures.kept c.arrive.ensures.remembers c.arrive.ensures.counted
+    changes _ _ _ _ _ c.arrive.result (Event.Arrive c.args.k c.args.s) _ _ _ _ c.arrive.ensures.step c.arrive.ensures.tried
 
 pub start-requires-clause-reason : goal.start-requires-clause-reason
 start-requires-clause-reason g c =
@@ -24,9 +24,9 @@ start-requires-clause-reason g c =
 pub returns-in-Split-clause-went : goal.returns-in-Split-clause-went
 returns-in-Split-clause-went g c =
     goes_on _ _ _ _ _ _ _ _
-    (changes _ _ _ _ _ c.arrive.result (Event.Arrive c.args.k c.args.s) _ _ c.arrive.ensures.step c.arrive.ensures.refused c.arrive.ensures.kept c.arrive.ensures.remembers c.arrive.ensures.counted)
+    (changes _ _ _ _ _ c.arrive.result (Event.Arrive c.args.k c.args.s) _ _ _ _ c.arrive.ensures.step c.arrive.ensures.tried)
     (goes_on _ _ _ _ _ _ _ _
-    (reads _ _ _ _ _ _ _ c.found.ensures.same c.arrive.ensures.kept c.found.ensures.remembers c.found.ensures.counted)
+    (finds _ _ _ _ _ _ _ c.found.ensures.same c.arrive.ensures.tried.kept c.found.ensures.remembers c.found.ensures.counted)
     c.start.ensures.went)
 
 pub returns-in-Split-clause-near : goal.returns-in-Split-clause-near
@@ -40,22 +40,22 @@ returns-in-Split-clause-near g c =
     c.start.ensures.start
 
 pub returns-in-First-clause-went : goal.returns-in-First-clause-went
-returns-in-First-clause-went g c = changes _ _ _ _ _ c.arrive.result (Event.Arrive c.args.k c.args.s) _ _ c.arrive.ensures.step c.arrive.ensures.refused c.arrive.ensures.kept c.arrive.ensures.remembers c.arrive.ensures.counted
+returns-in-First-clause-went g c = changes _ _ _ _ _ c.arrive.result (Event.Arrive c.args.k c.args.s) _ _ _ _ c.arrive.ensures.step c.arrive.ensures.tried
 
 pub returns-in-First-clause-near : goal.returns-in-First-clause-near
 returns-in-First-clause-near g c state told near at =
     let same = arrived g.J.Job.map g.J.Job.seeds c.args.k c.args.s _ _ c.in_ok-near.field-0 state c.in_ok-near.ensures.step c.in_ok-near.ensures.answer told near at in
     subst (IsStart state.starts) (sym (ap (near_after c.args.s) c.in-First.is) ∙ same)
-    ((g.met.P.Place.exact c.arrive.new.self state told (Fact.Start c.args.s)).0 (c.arrive.ensures.remembers _ c.requires.reason.start))
+    ((g.met.P.Place.exact c.arrive.new.self state told (Fact.Start c.args.s)).0 (c.arrive.ensures.tried.remembers _ c.requires.reason.start))
 
 pub returns-in-Same-clause-went : goal.returns-in-Same-clause-went
-returns-in-Same-clause-went g c = changes _ _ _ _ _ c.arrive.result (Event.Arrive c.args.k c.args.s) _ _ c.arrive.ensures.step c.arrive.ensures.refused c.arrive.ensures.kept c.arrive.ensures.remembers c.arrive.ensures.counted
+returns-in-Same-clause-went g c = changes _ _ _ _ _ c.arrive.result (Event.Arrive c.args.k c.args.s) _ _ _ _ c.arrive.ensures.step c.arrive.ensures.tried
 
 pub returns-in-Same-clause-near : goal.returns-in-Same-clause-near
 returns-in-Same-clause-near g c state told near at =
     let same = arrived g.J.Job.map g.J.Job.seeds c.args.k c.args.s _ _ c.in_ok-near.field-0 state c.in_ok-near.ensures.step c.in_ok-near.ensures.answer told near at in
     subst (IsStart state.starts) (sym (ap (near_after c.args.s) c.in-Same.is) ∙ same)
-    ((g.met.P.Place.exact c.arrive.new.self state told (Fact.Start c.args.s)).0 (c.arrive.ensures.remembers _ c.requires.reason.start))
+    ((g.met.P.Place.exact c.arrive.new.self state told (Fact.Start c.args.s)).0 (c.arrive.ensures.tried.remembers _ c.requires.reason.start))
 
 pub returns-in-Split-clause-arrived : goal.returns-in-Split-clause-arrived
 returns-in-Split-clause-arrived g c =

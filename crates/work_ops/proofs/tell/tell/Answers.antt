@@ -7,5 +7,5 @@ returns-clause-went g c =
     (goes_on _ _ _ _ _ _ _ _
     c.give.ensures.went
     (goes_on _ _ _ _ _ _ _ _
-    (changes _ _ _ _ _ c.mark_told.result (Event.Told c.args.k c.args.w) _ _ c.mark_told.ensures.step c.mark_told.ensures.refused c.mark_told.ensures.kept c.mark_told.ensures.remembers c.mark_told.ensures.counted)
+    (changes _ _ _ _ _ c.mark_told.result (Event.Told c.args.k c.args.w) _ _ _ _ c.mark_told.ensures.step c.mark_told.ensures.tried)
     c.pass_on.ensures.went))

@@ -1,4 +1,4 @@
-use Rattle.std.proofs.Common.{refl, sym, subst}
+use Rattle.std.proofs.Common.{arith, refl, sym, subst}
 use mathlib.Core.Logic.{inl}
 use Rattle.cfg_model.specs.Program.Instructions.{InstructionMap}
 use Rattle.cfg_model.specs.Program.Chain.{OnChain}
@@ -15,12 +15,6 @@ returns-clause-step g c =
     makes _ _ (Event.Arrive c.args.k c.args.s) _ _ c.requires.kept c.requires.reason
     (subst (λ (map : InstructionMap). Steps map c.args.self.now.maps (Event.Arrive c.args.k c.args.s) c.arrive_along.new.self.maps) c.requires.code c.in_ok-arrive_along.ensures.arrives)
 
-pub returns-clause-kept : goal.returns-clause-kept
-returns-clause-kept g c =
-    keeps _ _ (Event.Arrive c.args.k c.args.s) _ _ c.requires.kept c.requires.reason
-    (subst (λ (map : InstructionMap). Steps map c.args.self.now.maps (Event.Arrive c.args.k c.args.s) c.arrive_along.new.self.maps) c.requires.code c.in_ok-arrive_along.ensures.arrives)
-    c.requires.lawful
-
 pub returns-clause-brings : goal.returns-clause-brings
 returns-clause-brings g c =
     brings _ _ (Event.Arrive c.args.k c.args.s) _ _ c.requires.kept c.requires.reason
@@ -34,8 +28,11 @@ returns-clause-near g c =
     (keeps g.J.Job.map g.J.Job.seeds (Event.Arrive c.args.k c.args.s) c.args.self.now.maps c.arrive_along.new.self.maps c.requires.kept c.requires.reason step c.requires.lawful)
     known.0 known.1.0 c.in_ok-arrive_along.ensures.answer
 
-pub returns-clause-remembers : goal.returns-clause-remembers
-returns-clause-remembers g c =
-    remembers _ _ (Event.Arrive c.args.k c.args.s) _ _ c.requires.kept c.requires.reason
-    (subst (λ (map : InstructionMap). Steps map c.args.self.now.maps (Event.Arrive c.args.k c.args.s) c.arrive_along.new.self.maps) c.requires.code c.in_ok-arrive_along.ensures.arrives)
-    c.requires.lawful
+pub returns-clause-tried : goal.returns-clause-tried
+returns-clause-tried g c = record {
+  kept = keeps _ _ (Event.Arrive c.args.k c.args.s) _ _ c.requires.kept c.requires.reason (subst (λ (map : InstructionMap). Steps map c.args.self.now.maps (Event.Arrive c.args.k c.args.s) c.arrive_along.new.self.maps) c.requires.code c.in_ok-arrive_along.ensures.arrives) c.requires.lawful;
+  remembers = remembers _ _ (Event.Arrive c.args.k c.args.s) _ _ c.requires.kept c.requires.reason (subst (λ (map : InstructionMap). Steps map c.args.self.now.maps (Event.Arrive c.args.k c.args.s) c.arrive_along.new.self.maps) c.requires.code c.in_ok-arrive_along.ensures.arrives) c.requires.lawful;
+  refused = tt;
+  busy = tt;
+  counted = omega arith;
+}

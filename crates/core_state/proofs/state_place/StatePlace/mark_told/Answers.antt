@@ -1,4 +1,4 @@
-use Rattle.std.proofs.Common.{refl}
+use Rattle.std.proofs.Common.{arith, refl}
 use Rattle.cfg_model.specs.Builder.Event.{Event}
 use Rattle.core_state.proofs.StatePlace.{makes, keeps, brings, remembers}
 use Rattle.core_state.proofs.TermChanges.{waits_entered}
@@ -10,11 +10,14 @@ mark_told-requires g c = waits_entered _ _ refl c.args.k c.args.w c.requires.rea
 pub returns-clause-step : goal.returns-clause-step
 returns-clause-step g c = makes _ _ (Event.Told c.args.k c.args.w) _ _ c.requires.kept c.requires.reason (c.mark_told.ensures.told g.J.Job.map)
 
-pub returns-clause-kept : goal.returns-clause-kept
-returns-clause-kept g c = keeps _ _ (Event.Told c.args.k c.args.w) _ _ c.requires.kept c.requires.reason (c.mark_told.ensures.told g.J.Job.map) c.requires.lawful
-
 pub returns-clause-brings : goal.returns-clause-brings
 returns-clause-brings g c = brings _ _ (Event.Told c.args.k c.args.w) _ _ c.requires.kept c.requires.reason (c.mark_told.ensures.told g.J.Job.map)
 
-pub returns-clause-remembers : goal.returns-clause-remembers
-returns-clause-remembers g c = remembers _ _ (Event.Told c.args.k c.args.w) _ _ c.requires.kept c.requires.reason (c.mark_told.ensures.told g.J.Job.map) c.requires.lawful
+pub returns-clause-tried : goal.returns-clause-tried
+returns-clause-tried g c = record {
+  kept = keeps _ _ (Event.Told c.args.k c.args.w) _ _ c.requires.kept c.requires.reason (c.mark_told.ensures.told g.J.Job.map) c.requires.lawful;
+  remembers = remembers _ _ (Event.Told c.args.k c.args.w) _ _ c.requires.kept c.requires.reason (c.mark_told.ensures.told g.J.Job.map) c.requires.lawful;
+  refused = tt;
+  busy = tt;
+  counted = omega arith;
+}

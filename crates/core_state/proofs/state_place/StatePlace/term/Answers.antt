@@ -1,3 +1,4 @@
+use Rattle.std.proofs.Common.{arith}
 use Rattle.cfg_model.specs.Builder.Event.{Event}
 use Rattle.core_state.proofs.StatePlace.{makes, keeps, brings, remembers}
 use Rattle.core_state.proofs.state_place.StatePlace.term.Goals as goal
@@ -5,11 +6,14 @@ use Rattle.core_state.proofs.state_place.StatePlace.term.Goals as goal
 pub returns-clause-step : goal.returns-clause-step
 returns-clause-step g c = makes _ _ (Event.Terminator c.args.k) _ _ c.requires.kept c.requires.reason (c.in_ok-term.ensures.entered g.J.Job.map)
 
-pub returns-clause-kept : goal.returns-clause-kept
-returns-clause-kept g c = keeps _ _ (Event.Terminator c.args.k) _ _ c.requires.kept c.requires.reason (c.in_ok-term.ensures.entered g.J.Job.map) c.requires.lawful
-
 pub returns-clause-brings : goal.returns-clause-brings
 returns-clause-brings g c = brings _ _ (Event.Terminator c.args.k) _ _ c.requires.kept c.requires.reason (c.in_ok-term.ensures.entered g.J.Job.map)
 
-pub returns-clause-remembers : goal.returns-clause-remembers
-returns-clause-remembers g c = remembers _ _ (Event.Terminator c.args.k) _ _ c.requires.kept c.requires.reason (c.in_ok-term.ensures.entered g.J.Job.map) c.requires.lawful
+pub returns-clause-tried : goal.returns-clause-tried
+returns-clause-tried g c = record {
+  kept = keeps _ _ (Event.Terminator c.args.k) _ _ c.requires.kept c.requires.reason (c.in_ok-term.ensures.entered g.J.Job.map) c.requires.lawful;
+  remembers = remembers _ _ (Event.Terminator c.args.k) _ _ c.requires.kept c.requires.reason (c.in_ok-term.ensures.entered g.J.Job.map) c.requires.lawful;
+  refused = tt;
+  busy = tt;
+  counted = omega arith;
+}

@@ -1,12 +1,7 @@
 use Rattle.cfg_model.specs.Builder.Event.{Event}
 use Rattle.core_state.specs.declared.answer.ShardKind.TheVariants.{Ends}
 use Rattle.crew.proofs.Reasons.{seat_reason}
-use Rattle.crew.proofs.Losing.{where_busy}
-use Rattle.std.proofs.Common.{subst}
-use Rattle.std.specs.Prelude.{IfErr}
-use Rattle.core_state.specs.Place.{IsBusyAt}
-use Rattle.board.specs.Seat.{SeatState}
-use Rattle.crew.specs.inner.Worker.{all_lost}
+use Rattle.crew.proofs.Losing.{change_tried}
 use Rattle.crew.proofs.Caching.{stays_at, still_cached}
 use Rattle.crew.proofs.worker.WorkerPlace.arrive.Goals as goal
 
@@ -21,7 +16,6 @@ invariant_of-self g c = (
 pub arrive_along-requires-clause-reason : goal.arrive_along-requires-clause-reason
 arrive_along-requires-clause-reason g c = seat_reason g.J.Job.map g.J.Job.seeds c.self.inside.seat c.args.self.now c.self.view_is (Event.Arrive c.args.k c.args.s) c.requires.reason
 
-pub returns-clause-busy : goal.returns-clause-busy
-returns-clause-busy g c =
-    subst (λ (s : SeatState). IfErr c.arrive_along.result (IsBusyAt Ends c.args.k (all_lost s) (all_lost c.arrive_along.new.self))) c.self.view_is
-    (where_busy g.J.Job.map g.J.Job.seeds Ends c.args.k c.self.inside.seat c.arrive_along.new.self c.arrive_along.result c.arrive_along.ensures.tried)
+pub returns-clause-tried : goal.returns-clause-tried
+returns-clause-tried g c =
+    change_tried g.J.Job.map g.J.Job.seeds (Event.Arrive c.args.k c.args.s) Ends c.args.k c.args.self.now c.self.inside.seat c.arrive_along.new.self c.self.view_is c.arrive_along.result c.arrive_along.ensures.event c.arrive_along.ensures.tried

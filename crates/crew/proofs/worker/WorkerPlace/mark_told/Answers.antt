@@ -1,10 +1,7 @@
-use Rattle.std.proofs.Common.{◌≤◌, subst}
 use Rattle.cfg_model.specs.Builder.Event.{Event}
 use Rattle.core_state.specs.declared.answer.ShardKind.TheVariants.{Terms}
-use Rattle.board.specs.Seat.{SeatState}
-use Rattle.crew.specs.inner.Worker.{all_lost}
 use Rattle.crew.proofs.Reasons.{seat_reason}
-use Rattle.crew.proofs.Losing.{never_fewer}
+use Rattle.crew.proofs.Losing.{change_tried}
 use Rattle.crew.proofs.Caching.{stays_at, still_cached}
 use Rattle.crew.proofs.worker.WorkerPlace.mark_told.Goals as goal
 
@@ -19,7 +16,6 @@ invariant_of-self g c = (
 pub mark_told-requires-clause-reason : goal.mark_told-requires-clause-reason
 mark_told-requires-clause-reason g c = seat_reason g.J.Job.map g.J.Job.seeds c.self.inside.seat c.args.self.now c.self.view_is (Event.Told c.args.k c.args.w) c.requires.reason
 
-pub returns-clause-counted : goal.returns-clause-counted
-returns-clause-counted g c =
-    subst (λ (s : SeatState). all_lost s ≤ all_lost c.mark_told.new.self) c.self.view_is
-    (never_fewer g.J.Job.map g.J.Job.seeds (Event.Told c.args.k c.args.w) Terms c.args.k c.self.inside.seat c.mark_told.new.self c.mark_told.result c.mark_told.ensures.event c.mark_told.ensures.tried)
+pub returns-clause-tried : goal.returns-clause-tried
+returns-clause-tried g c =
+    change_tried g.J.Job.map g.J.Job.seeds (Event.Told c.args.k c.args.w) Terms c.args.k c.args.self.now c.self.inside.seat c.mark_told.new.self c.self.view_is c.mark_told.result c.mark_told.ensures.event c.mark_told.ensures.tried
