@@ -4,7 +4,6 @@
 //! - [`shard()`]: the shard that an address belongs to, of 64.
 //! - [`starts`], [`ends`], [`terms`]: one shard of each of the three maps.
 //! - [`state`]: all shards, as one state that counts its changes, and the work that is left in it.
-//! - [`laws`]: that events keep the state, and that their order does not matter.
 //! - [`along`]: walks along the chains of a program, for a trait's method that was handed one.
 //! - [`place`]: what a builder works on, told or not.
 //! - [`answer`]: what changes answer, and how shards and work are named.
@@ -18,7 +17,6 @@ pub mod answer;
 mod crowd;
 mod end;
 pub mod ends;
-pub mod laws;
 mod left;
 pub mod place;
 mod row;
@@ -34,7 +32,6 @@ mod walk;
 pub use along::{Along, Walk};
 pub use answer::{Arrival, Name, PlaceEnd, ShardKind, WorkKind};
 pub use ends::Ends;
-pub use laws::{confluence, events_keep_the_state, what_is_known_is_true, what_was_seen_is_known};
 pub use place::{Job, Place};
 pub use starts::Starts;
 pub use state::State;

@@ -1,5 +1,5 @@
 use Rattle.status_laws.proofs.BroughtLaws.{events_bring_facts, standing_is_known}
-use Rattle.core_state.proofs.laws.what_was_seen_is_known.Goals as goal
+use Rattle.status_laws.proofs.what_was_seen_is_known.Goals as goal
 
 pub returns : goal.returns
 returns c = record { brought = events_bring_facts; read = standing_is_known }
