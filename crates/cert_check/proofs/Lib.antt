@@ -5,7 +5,6 @@ pub mod Ways
 pub mod Each
 pub mod Reasoned
 pub mod Searched
-pub mod Sorting
 pub mod Decided
 pub mod Outlined
 pub mod Entered

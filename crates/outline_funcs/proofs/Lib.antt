@@ -7,6 +7,7 @@ pub mod Stamps
 pub mod Extending
 pub mod Following
 pub mod Sorting
+pub mod PartSorted
 pub mod Marks
 pub mod Marked
 pub mod Together

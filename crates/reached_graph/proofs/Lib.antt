@@ -10,4 +10,3 @@ mod Mixed
 mod Leading
 mod Making
 mod Calling
-mod Sorting

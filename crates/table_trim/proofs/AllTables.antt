@@ -1,5 +1,5 @@
--- The jump tables of all code: how they are found, and what their cuts are where all are reached.
-use Rattle.std.proofs.Common.{◌≡◌, ℕ, ◌<◌, List, [], ◌∷◌, ◌++◌, length, get_or, Option, Some, None, is_some, IsSome, Ok, Err, false, sym, ap, ◌∙◌, subst, ⊎_elim, arith}
+-- The jump tables of all code: how they are found.
+use Rattle.std.proofs.Common.{◌≡◌, ℕ, ◌<◌, List, [], ◌∷◌, ◌++◌, length, get_or, Option, Some, None, is_some, IsSome, Ok, Err, sym, ap, ◌∙◌, subst, ⊎_elim, arith}
 use Rattle.std.specs.Prelude.{All, IfOk}
 use Rattle.std.specs.List.{Contains, flat_map}
 use Rattle.std.proofs.lemmas.List.{map-append}
@@ -7,13 +7,6 @@ use Rattle.std.proofs.lemmas.List.Elements.{All-push, Contains-append_left, Cont
 use Rattle.std.proofs.lemmas.Option.{none-some}
 use Rattle.jump_table.specs.declared.table.Table.{Table}
 use Rattle.jump_table.specs.Table.{table_at}
-use Rattle.cfg_model.specs.Program.Instructions.{IsLawful}
-use Rattle.cfg_model.specs.Program.Cuts.{AreCuts}
-use Rattle.cfg_model.specs.Program.Reach.{Reached}
-use Rattle.cfg_model.specs.Builder.Kept.{IsClosed}
-use Rattle.cfg_model.specs.Builder.State.{BuilderState, IsEntered}
-use Rattle.code_view.specs.Cuts.{CutsFit}
-use Rattle.code_view.specs.Program.{program_under}
 use Rattle.code_view.specs.RegisterJump.{IsBetween}
 use Rattle.core_state.specs.Least.{IsAbove}
 use Rattle.parallel.specs.declared.ranges.AddressRange.{AddressRange}
@@ -22,15 +15,10 @@ use Rattle.parallel.specs.Gaps.{gap}
 use Rattle.parallel.proofs.Covered.{in_some_gap}
 use Rattle.parallel.proofs.GapByGap.{item_of, from_part, all_joined}
 use Rattle.code_view.specs.declared.table_jump.TableJump.{TableJump}
-use Rattle.table_cuts.specs.Extents.{extent_at}
 use Rattle.code_view.specs.Tables.{AreTablesOf, AreAllTables, addresses_of}
 use Rattle.parallel.specs.Lists.{Answered, AreMade, made_in}
 use Rattle.table_trim.specs.Parts.{AreTablesAmong, AreTablesIn, AreTablesByGap}
 use Rattle.table_trim.proofs.Shared.{addresses_in, addresses_joined}
-use Rattle.code_view.proofs.Sought.{same_length, jump_is}
-use Rattle.table_cuts.proofs.Counted.{cuts-other, has-table}
-use Rattle.table_trim.proofs.Reached.{reached_jump}
-use Rattle.table_trim.proofs.Fewer.{reached-uncut}
 
 -- ---- finding them
 
@@ -100,28 +88,3 @@ module _ (bytes bounds : List ℕ) (answers : List (Answered TableJump)) (gaps :
   -- What was found in each gap is, put together, all that there is.
   pub gaps-all : (jumps : List TableJump) → All AreMade answers → jumps ≡ flat_map made_in answers → AreAllTables bytes jumps
   gaps-all jumps made is = subst (AreAllTables bytes) (sym is) (gaps-joined made)
-
--- ---- where all are reached
-
--- what stands for a jump past the end
-past : TableJump
-past = record { jump = 0; table = record { base = 0; width = 0; count = 0; bound = 0; add = 0; is_open = false } }
-
-all-listed : (P : ℕ → Type 0) (jumps : List TableJump) → All (λ (f : TableJump). P f.jump) jumps → (j : ℕ) → Contains (addresses_of jumps) j → P j
-all-listed P jumps all j there =
-    let within : there.0 < length jumps = omega (arith, there.1, same_length jumps) in
-    subst P (sym (jump_is jumps there.0 j past within) ∙ there.2) (all there.0 past within)
-
-module _ (bytes : List ℕ) (cuts none : ℕ → Option ℕ) (fit : CutsFit bytes cuts) (uncut : (j : ℕ) → none j ≡ None)
-    (seeds : List ℕ) (state : BuilderState) (lawful : IsLawful (program_under bytes cuts)) (closed : IsClosed (program_under bytes cuts) seeds state)
-    (jumps : List TableJump) (all : AreAllTables bytes jumps) (entered : All (λ (f : TableJump). IsEntered state.terminators f.jump) jumps) where
-  reached-listed : (j : ℕ) → Contains (addresses_of jumps) j → Reached (program_under bytes none) seeds j
-  reached-listed j there =
-      reached-uncut bytes cuts none fit uncut seeds j (reached_jump bytes cuts seeds state lawful closed j (all-listed (λ a. IsEntered state.terminators a) jumps entered j there))
-
-  -- Where the jumps of all tables are reached under the cuts that these tables give, these are the cuts of the program.
-  pub cuts-of-all : AreCuts (extent_at bytes) (λ j. Contains (addresses_of jumps) j) cuts → AreCuts (extent_at bytes) (Reached (program_under bytes none) seeds) cuts
-  cuts-of-all is =
-      cuts-other (extent_at bytes) (λ j. Contains (addresses_of jumps) j) (Reached (program_under bytes none) seeds)
-      (λ j extent at. (λ listed. reached-listed j listed, λ reached. all.all_jumps j (has-table bytes j extent at)))
-      cuts is

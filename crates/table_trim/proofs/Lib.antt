@@ -1,5 +1,4 @@
 pub mod Walk
 pub mod Reached
 pub mod Shared
-pub mod Fewer
 pub mod AllTables

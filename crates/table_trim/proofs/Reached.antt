@@ -1,12 +1,8 @@
 -- The table jumps of a closed state are those that are reached, and cut the same tables.
-use Rattle.std.proofs.Common.{ℕ, ◌⊎◌, List, Option, Some, None, get_or, IsSome, IsTrue, refl, ⊎_elim}
-use Rattle.std.specs.Prelude.{◌↔◌, All, IfOk, Result, Ok, Err}
+use Rattle.std.proofs.Common.{ℕ, ◌⊎◌, List, Option, ⊎_elim}
+use Rattle.std.specs.Prelude.{◌↔◌, IfOk, Result, Ok, Err}
 use Rattle.std.specs.List.{Contains}
-use Rattle.std.specs.Option.{option_map}
-use Rattle.std.proofs.lemmas.List.Elements.{Contains-get_or}
-use Rattle.elf_image.specs.Code.{is_code}
-use Rattle.cfg_model.specs.Program.Instructions.{InstructionMap, Instruction, IsLawful}
-use Rattle.cfg_model.specs.Program.Chain.{EndsChain}
+use Rattle.cfg_model.specs.Program.Instructions.{InstructionMap, IsLawful}
 use Rattle.cfg_model.specs.Program.Cuts.{AreCuts}
 use Rattle.cfg_model.specs.Builder.Kept.{IsClosed}
 use Rattle.cfg_model.specs.Program.Reach.{Reached}
@@ -16,17 +12,8 @@ use Rattle.code_view.specs.Program.{program_under}
 use Rattle.table_cuts.specs.Extents.{extent_at}
 use Rattle.code_view.specs.Tables.{HasTable}
 use Rattle.table_trim.specs.Inner.{IsTableJump}
-use Rattle.table_cuts.proofs.Flows.{table-code, table-ends}
+use Rattle.table_cuts.proofs.Flows.{table-ends}
 use Rattle.table_cuts.proofs.Counted.{cuts-other, has-table}
-
--- ---- the instruction of a known terminator
-
-stands : (o : Option Instruction) → EndsChain (option_map (λ (i : Instruction). i.flow) o) → IsSome o
-stands None ends = absurd ends
-stands (Some i) ends = refl
-
-pub entered-stands : (map : InstructionMap) (seeds : List ℕ) (state : BuilderState) (k : ℕ) → IsClosed map seeds state → IsEntered state.terminators k → IsSome (map k)
-entered-stands map seeds state k closed entered = stands (map k) (closed.kept.entries k entered).ends.ends
 
 -- ---- where no terminator is known, nothing is reached
 
@@ -47,11 +34,6 @@ module _ (map : InstructionMap) (seeds : List ℕ) (state : BuilderState) (close
 
 abbrev IsReachedJump : InstructionMap → List ℕ → List ℕ → ℕ → Type 0
 IsReachedJump map seeds bytes j = Reached map seeds j × HasTable bytes j
-
--- An entered terminator is reached.
-pub reached_jump : (bytes : List ℕ) (cuts : ℕ → Option ℕ) (seeds : List ℕ) (state : BuilderState) → IsLawful (program_under bytes cuts) → IsClosed (program_under bytes cuts) seeds state
-    → (j : ℕ) → IsEntered state.terminators j → Reached (program_under bytes cuts) seeds j
-reached_jump bytes cuts seeds state lawful closed j entered = (((closed_shows_graph (program_under bytes cuts) seeds lawful state closed).terminators j).0 entered).reached
 
 module _ (bytes : List ℕ) (cuts : ℕ → Option ℕ) (seeds : List ℕ) (state : BuilderState) (closed : IsClosed (program_under bytes cuts) seeds state) where
   abbrev map : InstructionMap
@@ -80,10 +62,6 @@ module _ (bytes : List ℕ) (before : ℕ → Option ℕ) (seeds : List ℕ) (st
         λ reached. (are j).1 ((jump_is bytes before seeds state closed either j).1 (reached, has-table bytes j extent at)),
       ))
       cuts is
-
--- All are code addresses.
-pub jumps-code : (bytes : List ℕ) (state : BuilderState) (jumps : List ℕ) → ((j : ℕ) → Contains jumps j ↔ IsTableJump bytes state j) → All (λ j. IsTrue (is_code bytes j)) jumps
-jumps-code bytes state jumps are k d within = table-code bytes (λ _. None) (get_or jumps k d) ((are (get_or jumps k d)).0 (Contains-get_or jumps k d within)).1
 
 -- What holds of an answer gives what else does.
 pub if_ok_map : {T E : Type 0} {P Q : T → Type 0} (r : Result T E) → ((x : T) → P x → Q x) → IfOk r P → IfOk r Q

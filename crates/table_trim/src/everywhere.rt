@@ -1,13 +1,11 @@
 //! The jump tables of all code, reached or not.
 
-ghost use Rattle.std.specs.Prelude.{◌↔◌, IfOk, IsTrue, All};
+ghost use Rattle.std.specs.Prelude.{IfOk, IsTrue, All};
 ghost use Rattle.elf_image.specs.Code.{is_code};
-ghost use Rattle.cfg_model.specs.Builder.State.{IsEntered};
 ghost use Rattle.code_view.specs.Tables.{AreAllTables};
 ghost use Rattle.table_trim.specs.Parts.{AreTablesAmong, AreTablesIn};
 
 use code_view::{AllTables, Code, Memory, TableJump};
-use core_state::State;
 use parallel::AddressRange;
 use std::alloc::Global;
 
@@ -48,12 +46,4 @@ fn tables_among(alloc: Global, code: &Code<'_>, places: &[u64]) -> Result<Vec<Ta
         }
     }
     Ok(jumps)
-}
-
-/// Whether the state has entered all of these jumps.
-pub fn all_entered(state: &State, jumps: &[TableJump]) -> bool
-    ensures { IsTrue result
-        ↔ All (λ found. IsEntered state.now.maps.terminators found.jump) jumps.now }
-{
-    jumps.iter().all(|found| state.done(found.jump).is_some())
 }

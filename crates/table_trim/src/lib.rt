@@ -12,6 +12,6 @@ mod jumps;
 mod sharing;
 mod trim;
 
-pub use everywhere::{all_entered, all_tables};
+pub use everywhere::all_tables;
 pub use sharing::{all_tables_by, cuts_by};
 pub use trim::cuts;

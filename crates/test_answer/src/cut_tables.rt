@@ -19,7 +19,7 @@ use std::process::Abort;
 use std::test::Fail;
 use std::thread::Threads;
 use table_cuts::cuts_of;
-use table_trim::{all_entered, all_tables, all_tables_by, cuts, cuts_by};
+use table_trim::{all_tables, all_tables_by, cuts, cuts_by};
 
 /// The jumps of row 15: one through a table of four entries, and one through a table of two that
 /// begins at the third of them.
@@ -182,16 +182,12 @@ fn are_found_by_threads<R: Threads + Abort + AllocGlobal + Sync>(
     Ok(())
 }
 
-/// The cuts of all tables, and whether the closed state and an empty one entered their jumps.
+/// All tables, and their cuts.
 fn cuts_all_tables(rt: &(impl Abort + AllocGlobal), code: &Code<'_>) -> Result<(), Fail> {
     let tables = all_tables(rt.alloc(), code)?;
     are_tables(rt, &tables, FIRST, SECOND);
     let cuts = cuts_of(rt.alloc(), tables.jumps())?;
     cuts_the_first(rt, &cuts);
-    let state = closed_state(rt, rt.alloc(), code)?;
-    assert!(rt; all_entered(&state, tables.jumps()));
-    let nothing = State::new(rt.alloc())?;
-    assert!(rt; !all_entered(&nothing, tables.jumps()) && all_entered(&nothing, &[]));
     Ok(())
 }
 

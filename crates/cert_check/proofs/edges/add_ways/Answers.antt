@@ -4,7 +4,7 @@ use Rattle.cfg_model.proofs.Graphs.Gaining.{Gains-same}
 use Rattle.cfg_model.proofs.Graphs.WaysOn.{leads_same}
 use Rattle.cert_laws.specs.Lines.{IsReturn}
 use Rattle.cert_laws.specs.Ways.{EndsIn}
-use Rattle.cert_check.proofs.Sorting.{gains_moved}
+use Rattle.outline_funcs.proofs.PartSorted.{gains_moved}
 use Rattle.cert_check.proofs.edges.add_ways.Goals as goal
 
 pub returns : goal.returns

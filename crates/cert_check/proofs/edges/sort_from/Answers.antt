@@ -1,5 +1,5 @@
 use Rattle.std.proofs.Common.{sym}
-use Rattle.cert_check.proofs.Sorting.{part_sorted}
+use Rattle.outline_funcs.proofs.PartSorted.{part_sorted}
 use Rattle.cert_check.proofs.edges.sort_from.Goals as goal
 
 pub returns : goal.returns

@@ -4,7 +4,7 @@ use Rattle.cfg_model.specs.Program.Status.{Returns}
 use Rattle.cfg_model.proofs.Graphs.Gaining.{Gains-same}
 use Rattle.cfg_model.proofs.Graphs.WaysOn.{leads_same}
 use Rattle.reached_graph.proofs.Calling.{asks_callee, tells_callee}
-use Rattle.reached_graph.proofs.Sorting.{gains_moved}
+use Rattle.outline_funcs.proofs.PartSorted.{gains_moved}
 use Rattle.reached_graph.proofs.edges.add_ways.Goals as goal
 
 pub callee_returns-back-requires : goal.callee_returns-back-requires

@@ -1,5 +1,5 @@
 use Rattle.std.proofs.Common.{sym}
-use Rattle.reached_graph.proofs.Sorting.{part_sorted}
+use Rattle.outline_funcs.proofs.PartSorted.{part_sorted}
 use Rattle.reached_graph.proofs.edges.sort_from.Goals as goal
 
 pub returns : goal.returns
