@@ -6,3 +6,4 @@ pub mod MemInput
 pub mod MemSink
 pub mod SafeInput
 pub mod CountSink
+pub mod Inner

@@ -1,7 +1,8 @@
 //! Reading an input to its end.
-ghost use Rattle.std.specs.Prelude.{◌≡◌, ◌+◌, ◌≤◌, ◌<◌, [], length, take, drop, IfSome, IfOk};
+ghost use Rattle.std.specs.Prelude.{◌≡◌, ◌+◌, ◌≤◌, ◌<◌, [], length, take, IfSome, IfOk};
 ghost use Rattle.std.specs.Prelude.{IsErrOf, OnOk, OnErr, vec_len};
 ghost use Rattle.cfg_io.specs.Fault.{Rose};
+ghost use Rattle.cfg_io.specs.Inner.{ReadAt};
 ghost use Rattle.cfg_io.specs.Opened.{IsOpened};
 ghost use Rattle.cfg_io.specs.Told.{Takes, TakesCount, TakesAtMost};
 ghost use Rattle.cfg_io.specs.declared.reading.ReadEnd.TheVariants.{Read, Memory};
@@ -104,13 +105,9 @@ fn read_piece<I: Input>(
     requires filled_part { filled ≤ vec_len buffer.old }
     requires buffer_fits { vec_len buffer.old ≤ limit + 1 }
 
-    ensures filled_part { IfOk result (λ n. filled + n ≤ vec_len buffer.new) }
+    ensures piece { ReadAt filled buffer.old.items buffer.new.items
+        (I.rest input.old) (I.rest input.new) result }
     ensures buffer_fits { vec_len buffer.new ≤ limit + 1 }
-    ensures keeps { take filled buffer.new.items ≡ take filled buffer.old.items }
-    ensures takes { IfOk result
-        (λ n. Takes (I.rest input.old) (take n (drop filled buffer.new.items)) (I.rest input.new)) }
-    ensures at_end { IfOk result (λ n. n ≡ 0 → IfSome (I.rest input.new) (λ left. left ≡ [])) }
-    ensures failed_takes_nothing { OnErr result (I.rest input.new ≡ I.rest input.old) }
     ensures in_limit { IsErrOf result ReadEnd.OverLimit → ⊥ }
     ensures failed { IsErrOf result ReadEnd.Read → Rose (I.faults input.old) (I.faults input.new) }
     ensures never_falls { I.faults input.old ≤ I.faults input.new }
@@ -126,12 +123,7 @@ fn read_at<I: Input>(input: &mut I, buffer: &mut [u8], at: usize) -> Result<usiz
     requires is_opened { IsOpened (I.opened input.old) }
     requires has_room { at < length buffer.old }
 
-    ensures in_bounds { IfOk result (λ n. at + n ≤ length buffer.new) }
-    ensures keeps { take at buffer.new ≡ take at buffer.old }
-    ensures takes { IfOk result
-        (λ n. Takes (I.rest input.old) (take n (drop at buffer.new)) (I.rest input.new)) }
-    ensures at_end { IfOk result (λ n. n ≡ 0 → IfSome (I.rest input.new) (λ left. left ≡ [])) }
-    ensures failed_takes_nothing { OnErr result (I.rest input.new ≡ I.rest input.old) }
+    ensures piece { ReadAt at buffer.old buffer.new (I.rest input.old) (I.rest input.new) result }
     ensures failed { OnErr result (Rose (I.faults input.old) (I.faults input.new)) }
     ensures never_falls { I.faults input.old ≤ I.faults input.new }
     ensures stays_opened { I.opened input.new ≡ I.opened input.old }
