@@ -13,7 +13,7 @@ use crate::maker::Maker;
 use cfg_io::{Sink, write_whole};
 use cfg_model::AllLives;
 use file_graph::FileGraph;
-use graph_report::{ReportKind, ReportLines, ReportPieces};
+use graph_report::{FileNames, ReportKind, ReportLines, ReportPieces};
 use run_ends::{Unwritten, write_pieces, write_texts};
 use std::alloc::Global;
 use std::marker::Model;
@@ -54,7 +54,8 @@ impl FileReport {
         ensures { result ≡ self.now }
     {
         let file = &self.file;
-        ReportLines::new(file.image(), file.seeds(), file.graph(), self.kind)
+        let names = FileNames::new(file.image(), file.seeds());
+        ReportLines::new(&names, file.graph(), self.kind)
     }
 }
 
@@ -92,7 +93,8 @@ impl LiveReport {
         ensures { result ≡ self.now }
     {
         let file = &self.file;
-        ReportLines::of_lives(file.image(), file.seeds(), file.graph(), &self.lives)
+        let names = FileNames::new(file.image(), file.seeds());
+        ReportLines::of_lives(&names, file.graph(), &self.lives)
     }
 }
 

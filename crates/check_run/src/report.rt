@@ -10,7 +10,7 @@ use cfg_io::Sink;
 use cfg_model::Graph;
 use elf_image::Image;
 use elf_symbols::Seeds;
-use graph_report::{ReportKind, ReportPieces};
+use graph_report::{FileNames, ReportKind, ReportPieces};
 use run_ends::{Unwritten, write_pieces};
 use std::alloc::Global;
 use std::marker::Model;
@@ -60,13 +60,8 @@ impl GraphReport {
         ensures untouched { IsErrOf result Unwritten.Memory
             → O.written out.new ≡ O.written out.old }
     {
-        let pieces = ReportPieces::new(
-            alloc,
-            &self.image,
-            &self.seeds,
-            &self.graph,
-            ReportKind::Graph,
-        )?;
+        let names = FileNames::new(&self.image, &self.seeds);
+        let pieces = ReportPieces::new(alloc, &names, &self.graph, ReportKind::Graph)?;
         Ok(write_pieces(pieces, out)?)
     }
 }

@@ -3,12 +3,13 @@ use Rattle.std.specs.Prelude.{ℕ, ◌+◌, ◌<◌, ◌≤◌, Bool, true, fals
 use Rattle.std.specs.Prelude.{List, [], ◌++◌, length, zip, Option, Some, None, codes}
 use Rattle.std.specs.List.{flat_map}
 use Rattle.std.specs.Option.{option_map}
+use Rattle.cfg_model.specs.declared.graph.Block.{Block}
+use Rattle.cfg_model.specs.declared.graph.Edge.{Edge}
 use Rattle.graph_report.specs.declared.page.TheConstants.{LINE_ROOM}
 use Rattle.graph_report.specs.declared.kind.ReportKind.{ReportKind}
 use Rattle.graph_report.specs.declared.kind.ReportKind.TheVariants as reports
 use Rattle.graph_report.specs.declared.left.FunctionsLeft.{FunctionsLeft}
-use Rattle.graph_report.specs.declared.left.BlocksLeft.{BlocksLeft}
-use Rattle.graph_report.specs.declared.left.EdgesLeft.{EdgesLeft}
+use Rattle.graph_report.specs.declared.list_left.ListLeft.{ListLeft}
 use Rattle.graph_report.specs.declared.left.ReportLeft.{ReportLeft}
 use Rattle.graph_report.specs.declared.live_left.LivesLeft.{LivesLeft}
 use Rattle.graph_report.specs.declared.live_left.LiveLeft.{LiveLeft}
@@ -65,13 +66,14 @@ functions_left names left =
     ++ (flat_map in_line left.body.now
     ++ flat_map (function_lines names) left.functions.now))
 
-abbrev pub blocks_left : BlocksLeft → List ℕ
-blocks_left left =
-    count_left left.count blocks_line ++ flat_map block_line left.blocks.now
+abbrev pub list_left : {T : Type 0} → (ℕ → List ℕ) → (T → List ℕ) → ListLeft T → List ℕ
+list_left first line left = count_left left.count first ++ flat_map line left.items.now
 
-abbrev pub edges_left : EdgesLeft → List ℕ
-edges_left left =
-    count_left left.count edges_line ++ flat_map edge_line left.edges.now
+abbrev pub blocks_left : ListLeft Block → List ℕ
+blocks_left left = list_left blocks_line block_line left
+
+abbrev pub edges_left : ListLeft Edge → List ℕ
+edges_left left = list_left edges_line edge_line left
 
 -- The last line, unless it was given.
 abbrev pub end_left : Bool → List ℕ

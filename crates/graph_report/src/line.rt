@@ -12,6 +12,7 @@ use crate::field::{
     address_and_mask, address_digits, push_address, push_count, push_edge_field, push_end_field,
     push_field, push_number, status_word, two_addresses,
 };
+use crate::list_left::Listed;
 use crate::name::{begin_name, push_front};
 use crate::page::{LINE_ROOM, PAGE_ROOM, Page};
 use cfg_model::{Block, Edge, Function, Live};
@@ -88,48 +89,40 @@ pub fn push_in(page: &mut Page, block: u64)
     page.push(&line);
 }
 
-/// Appends the line that says how many blocks follow.
-pub fn push_block_count(page: &mut Page, count: usize)
-    requires room { length page.old + LINE_ROOM ≤ PAGE_ROOM }
-    ensures text { page.new ≡ page.old ++ blocks_line count }
-    ensures line { IsLine page.old page.new }
-{
-    page.push(b"blocks");
-    push_count(page, count);
+impl Listed for Block {
+    ghost first = { blocks_line };
+
+    ghost line = { block_line };
+
+    fn push_count(page: &mut Page, count: usize) {
+        page.push(b"blocks");
+        push_count(page, count);
+    }
+
+    fn push_line(&self, page: &mut Page) {
+        let mut front = *b"block 0000000000000000 0000000000000000";
+        front[5..].copy_from_slice(&two_addresses(self.start, self.end));
+        page.push(&front);
+        push_end_field(page, self.kind);
+    }
 }
 
-/// Appends the line of a block.
-pub fn push_block(page: &mut Page, block: &Block)
-    requires room { length page.old + LINE_ROOM ≤ PAGE_ROOM }
-    ensures text { page.new ≡ page.old ++ block_line block.now }
-    ensures line { IsLine page.old page.new }
-{
-    let mut front = *b"block 0000000000000000 0000000000000000";
-    front[5..].copy_from_slice(&two_addresses(block.start, block.end));
-    page.push(&front);
-    push_end_field(page, block.kind);
-}
+impl Listed for Edge {
+    ghost first = { edges_line };
 
-/// Appends the line that says how many edges follow.
-pub fn push_edge_count(page: &mut Page, count: usize)
-    requires room { length page.old + LINE_ROOM ≤ PAGE_ROOM }
-    ensures text { page.new ≡ page.old ++ edges_line count }
-    ensures line { IsLine page.old page.new }
-{
-    page.push(b"edges");
-    push_count(page, count);
-}
+    ghost line = { edge_line };
 
-/// Appends the line of an edge.
-pub fn push_edge(page: &mut Page, edge: &Edge)
-    requires room { length page.old + LINE_ROOM ≤ PAGE_ROOM }
-    ensures text { page.new ≡ page.old ++ edge_line edge.now }
-    ensures line { IsLine page.old page.new }
-{
-    let mut front = *b"edge 0000000000000000 0000000000000000";
-    front[4..].copy_from_slice(&two_addresses(edge.from, edge.to));
-    page.push(&front);
-    push_edge_field(page, edge.kind);
+    fn push_count(page: &mut Page, count: usize) {
+        page.push(b"edges");
+        push_count(page, count);
+    }
+
+    fn push_line(&self, page: &mut Page) {
+        let mut front = *b"edge 0000000000000000 0000000000000000";
+        front[4..].copy_from_slice(&two_addresses(self.from, self.to));
+        page.push(&front);
+        push_edge_field(page, self.kind);
+    }
 }
 
 /// Appends the line that says how many functions follow, each with its live registers.

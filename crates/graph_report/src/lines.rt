@@ -1,21 +1,17 @@
 //! The lines of a report, which can be cut into parts whose texts are made side by side.
 
-ghost use Rattle.std.specs.Prelude.{◌≡◌, ◌≢◌, ℕ, ◌++◌, Option, IfOk, IfSome};
-ghost use Rattle.std.specs.Option.{option_map};
-ghost use Rattle.elf_image.specs.ReadOnly.{span_bytes};
+ghost use Rattle.std.specs.Prelude.{◌≡◌, ◌≢◌, ◌++◌, IfOk};
 ghost use Rattle.elf_image.specs.Seeds.{seed_name};
-ghost use Rattle.elf_symbols.specs.Seeds.{name_in, LiesIn};
 
 use crate::Memory;
+use crate::file_names::FileNames;
 use crate::kind::ReportKind;
-use crate::left::{ReportLeft, name_at};
+use crate::left::ReportLeft;
 use crate::live_left::{LiveLeft, TextLeft};
 use crate::page::LINE_ROOM;
 use crate::pieces::ReportPieces;
 use crate::whole::all_of;
 use cfg_model::{AllLives, Function, Graph};
-use elf_image::Image;
-use elf_symbols::Seeds;
 use std::alloc::Global;
 use std::marker::Model;
 
@@ -23,29 +19,20 @@ use std::marker::Model;
 /// that text.
 #[derive(Drop)]
 pub struct ReportLines<'a> {
-    pub(crate) image: &'a Image,
-    pub(crate) seeds: &'a Seeds,
+    pub(crate) names: FileNames<'a>,
     /// The address that the heading tells, if it is among them.
     pub(crate) heading: Option<u64>,
     pub(crate) left: TextLeft<'a>,
 }
 
 impl<'a> Model for ReportLines<'a> {
-    ghost use Rattle.std.specs.Prelude.{◌≡◌, ℕ, List, ◌++◌, IfSome};
-    ghost use Rattle.std.specs.Option.{option_map};
-    ghost use Rattle.elf_image.specs.ReadOnly.{span_bytes};
+    ghost use Rattle.std.specs.Prelude.{ℕ, List, ◌++◌};
     ghost use Rattle.elf_image.specs.Seeds.{seed_name};
-    ghost use Rattle.elf_symbols.specs.Seeds.{name_in, LiesIn};
     ghost use Rattle.graph_report.specs.Inner.{heading_left, text_left};
 
     ghost Value = { List ℕ };
 
-    ghost view = { λ l. heading_left l.heading ++ text_left (seed_name l.image.now) l.left };
-
-    ghost invariant = { λ l.
-        ((a : ℕ) → option_map (span_bytes l.image.now) (name_in l.seeds.now a)
-        ≡ seed_name l.image.now a)
-        × ((a : ℕ) → IfSome (name_in l.seeds.now a) (LiesIn l.image.now)) };
+    ghost view = { λ l. heading_left l.heading ++ text_left (seed_name l.names) l.left };
 }
 
 impl<'a> ReportLines<'a> {
@@ -55,23 +42,14 @@ impl<'a> ReportLines<'a> {
     /// The lines of a report of `graph`.
     ///
     /// It has the parts that `kind` names, with functions, blocks and edges in the order of their
-    /// lists. A function has the name that `seeds`, those of the file `image`, have at its entry.
-    /// Live registers are no part of a graph: for those take [`ReportLines::of_lives`].
-    pub fn new(
-        image: &'a Image,
-        seeds: &'a Seeds,
-        graph: &'a Graph,
-        kind: ReportKind,
-    ) -> ReportLines<'a>
-        requires names { (a : ℕ) → option_map (span_bytes image.now) (name_in seeds.now a)
-            ≡ seed_name image.now a }
-        requires in_file { (a : ℕ) → IfSome (name_in seeds.now a) (LiesIn image.now) }
+    /// lists. A function has the name that its file gives it. Live registers are no part of a
+    /// graph: for those take [`ReportLines::of_lives`].
+    pub fn new(names: &FileNames<'a>, graph: &'a Graph, kind: ReportKind) -> ReportLines<'a>
         requires kind { kind ≢ ReportKind.Live }
-        ensures text { result ≡ report_text kind (seed_name image.now) graph.now }
+        ensures text { result ≡ report_text kind (seed_name names.now) graph.now }
     {
         ReportLines {
-            image,
-            seeds,
+            names: names.again(),
             heading: Some(graph.entry),
             left: TextLeft::Graph(ReportLeft::new(graph, kind)),
         }
@@ -79,23 +57,14 @@ impl<'a> ReportLines<'a> {
 
     /// The lines of the report of the live registers `lives` of `graph`.
     ///
-    /// `lives` has the blocks of each function's body in order. A function has the name that `seeds`,
-    /// those of the file `image`, have at its entry.
-    pub fn of_lives(
-        image: &'a Image,
-        seeds: &'a Seeds,
-        graph: &'a Graph,
-        lives: &'a AllLives,
-    ) -> ReportLines<'a>
-        requires names { (a : ℕ) → option_map (span_bytes image.now) (name_in seeds.now a)
-            ≡ seed_name image.now a }
-        requires in_file { (a : ℕ) → IfSome (name_in seeds.now a) (LiesIn image.now) }
+    /// `lives` has the blocks of each function's body in order. A function has the name that its
+    /// file gives it.
+    pub fn of_lives(names: &FileNames<'a>, graph: &'a Graph, lives: &'a AllLives) -> ReportLines<'a>
         requires lives { AreForAll graph.now.functions lives.now }
-        ensures text { result ≡ live_text (seed_name image.now) graph.now lives.now }
+        ensures text { result ≡ live_text (seed_name names.now) graph.now lives.now }
     {
         ReportLines {
-            image,
-            seeds,
+            names: names.again(),
             heading: Some(graph.entry),
             left: TextLeft::Live(LiveLeft::new(graph, lives)),
         }
@@ -111,7 +80,7 @@ impl<'a> ReportLines<'a> {
     /// byte of a name takes four at most.
     /// Time: O(f log s) for f functions and s seeds.
     pub fn most_bytes(&self) -> usize {
-        let names = bytes_of_names(self.image, self.seeds, self.left.functions());
+        let names = bytes_of_names(&self.names, self.left.functions());
         let lines = self.count().saturating_mul(LINE_ROOM);
         names.saturating_mul(4).saturating_add(lines)
     }
@@ -125,8 +94,7 @@ impl<'a> ReportLines<'a> {
         let heading = self.heading;
         self.heading = None;
         ReportLines {
-            image: self.image,
-            seeds: self.seeds,
+            names: self.names.again(),
             heading,
             left: self.left.cut(lines),
         }
@@ -143,14 +111,10 @@ impl<'a> ReportLines<'a> {
 }
 
 /// How many bytes the names of these functions have together; `usize::MAX` if there are more.
-fn bytes_of_names(image: &Image, seeds: &Seeds, functions: &[Function]) -> usize
-    requires names { (a : ℕ) → option_map (span_bytes image.now) (name_in seeds.now a)
-        ≡ seed_name image.now a }
-    requires in_file { (a : ℕ) → IfSome (name_in seeds.now a) (LiesIn image.now) }
-{
+fn bytes_of_names(names: &FileNames, functions: &[Function]) -> usize {
     let mut sum = 0_usize;
     for function in functions {
-        if let Some(name) = name_at(image, seeds, function.entry) {
+        if let Some(name) = names.name_at(function.entry) {
             sum = sum.saturating_add(name.len());
         }
     }

@@ -1,22 +1,18 @@
 //! What is left of a report of live registers: its one section, from where it stands on.
 
 ghost use Rattle.std.specs.Prelude.{◌≡◌, ℕ, ◌+◌, ◌≤◌, [], ◌++◌, false, length};
-ghost use Rattle.std.specs.Prelude.{IfSome, IsTrue};
-ghost use Rattle.std.specs.Option.{option_map};
-ghost use Rattle.elf_image.specs.ReadOnly.{span_bytes};
+ghost use Rattle.std.specs.Prelude.{IsTrue};
 ghost use Rattle.elf_image.specs.Seeds.{seed_name};
-ghost use Rattle.elf_symbols.specs.Seeds.{name_in, LiesIn};
 ghost use Rattle.graph_report.specs.Name.{Names};
 ghost use Rattle.graph_report.specs.Line.{end_line};
 ghost use Rattle.graph_report.specs.Live.{lives_section};
 ghost use Rattle.graph_report.specs.Inner.{IsLine, lives_left, live_left, text_left};
 
-use crate::left::{ReportLeft, count_lines, functions_with, name_at, step_end};
+use crate::file_names::FileNames;
+use crate::left::{ReportLeft, count_lines, functions_with, step_end};
 use crate::line::{begin_function, go_on_with_name, push_live, push_live_count};
 use crate::page::{LINE_ROOM, PAGE_ROOM, Page};
 use cfg_model::{AllLives, Function, Graph, Live, Lives};
-use elf_image::Image;
-use elf_symbols::Seeds;
 
 /// What is left of the section of the live registers.
 #[derive(Clone, Copy)]
@@ -96,16 +92,13 @@ impl<'a> LivesLeft<'a> {
     }
 
     /// Puts the next line on the page, or a part of it; `false` if nothing is left.
-    fn step(&mut self, image: &'a Image, seeds: &Seeds, page: &mut Page) -> bool
-        requires names { (a : ℕ) → option_map (span_bytes image.now) (name_in seeds.now a)
-            ≡ seed_name image.now a }
-        requires in_file { (a : ℕ) → IfSome (name_in seeds.now a) (LiesIn image.now) }
+    fn step(&mut self, names: &FileNames<'a>, page: &mut Page) -> bool
         requires room { length page.old + LINE_ROOM ≤ PAGE_ROOM }
-        ensures moves { page.new ++ lives_left (seed_name image.now) self.new
-            ≡ page.old ++ lives_left (seed_name image.now) self.old }
+        ensures moves { page.new ++ lives_left (seed_name names.now) self.new
+            ≡ page.old ++ lives_left (seed_name names.now) self.old }
         ensures line { IsTrue result → IsLine page.old page.new }
         ensures stays { result ≡ false → (page.new ≡ page.old) × (self.new ≡ self.old) }
-        ensures end { result ≡ false → lives_left (seed_name image.now) self.old ≡ [] }
+        ensures end { result ≡ false → lives_left (seed_name names.now) self.old ≡ [] }
     {
         if let Some(count) = self.count {
             self.count = None;
@@ -127,7 +120,7 @@ impl<'a> LivesLeft<'a> {
         let [first, lives @ ..] = self.lives else {
             return false;
         };
-        let name = name_at(image, seeds, function.entry);
+        let name = names.name_at(function.entry);
         self.name = Some(begin_function(page, function, name));
         self.body = first.as_slice();
         self.functions = functions;
@@ -186,18 +179,15 @@ impl<'a> LiveLeft<'a> {
     }
 
     /// Puts the next line on the page, or a part of it; `false` if nothing is left.
-    pub fn step(&mut self, image: &'a Image, seeds: &Seeds, page: &mut Page) -> bool
-        requires names { (a : ℕ) → option_map (span_bytes image.now) (name_in seeds.now a)
-            ≡ seed_name image.now a }
-        requires in_file { (a : ℕ) → IfSome (name_in seeds.now a) (LiesIn image.now) }
+    pub fn step(&mut self, names: &FileNames<'a>, page: &mut Page) -> bool
         requires room { length page.old + LINE_ROOM ≤ PAGE_ROOM }
-        ensures moves { page.new ++ live_left (seed_name image.now) self.new
-            ≡ page.old ++ live_left (seed_name image.now) self.old }
+        ensures moves { page.new ++ live_left (seed_name names.now) self.new
+            ≡ page.old ++ live_left (seed_name names.now) self.old }
         ensures line { IsTrue result → IsLine page.old page.new }
         ensures stays { result ≡ false → page.new ≡ page.old }
-        ensures end { result ≡ false → live_left (seed_name image.now) self.new ≡ [] }
+        ensures end { result ≡ false → live_left (seed_name names.now) self.new ≡ [] }
     {
-        if self.lives.step(image, seeds, page) {
+        if self.lives.step(names, page) {
             return true;
         }
         step_end(&mut self.ended, page)
@@ -242,20 +232,17 @@ impl<'a> TextLeft<'a> {
     }
 
     /// Puts the next line on the page, or a part of it; `false` if nothing is left.
-    pub fn step(&mut self, image: &'a Image, seeds: &Seeds, page: &mut Page) -> bool
-        requires names { (a : ℕ) → option_map (span_bytes image.now) (name_in seeds.now a)
-            ≡ seed_name image.now a }
-        requires in_file { (a : ℕ) → IfSome (name_in seeds.now a) (LiesIn image.now) }
+    pub fn step(&mut self, names: &FileNames<'a>, page: &mut Page) -> bool
         requires room { length page.old + LINE_ROOM ≤ PAGE_ROOM }
-        ensures moves { page.new ++ text_left (seed_name image.now) self.new
-            ≡ page.old ++ text_left (seed_name image.now) self.old }
+        ensures moves { page.new ++ text_left (seed_name names.now) self.new
+            ≡ page.old ++ text_left (seed_name names.now) self.old }
         ensures line { IsTrue result → IsLine page.old page.new }
         ensures stays { result ≡ false → page.new ≡ page.old }
-        ensures end { result ≡ false → text_left (seed_name image.now) self.new ≡ [] }
+        ensures end { result ≡ false → text_left (seed_name names.now) self.new ≡ [] }
     {
         match self {
-            TextLeft::Graph(left) => left.step(image, seeds, page),
-            TextLeft::Live(left) => left.step(image, seeds, page),
+            TextLeft::Graph(left) => left.step(names, page),
+            TextLeft::Live(left) => left.step(names, page),
         }
     }
 }

@@ -4,12 +4,10 @@ ghost use Rattle.std.specs.Prelude.{◌≡◌, IfOk};
 ghost use Rattle.graph_report.specs.Summary.{may_return_count, no_return_count, summary_text};
 
 use crate::Memory;
-use crate::line::{
-    push_block_count, push_edge_count, push_function_count, push_made, push_may_return_count,
-    push_no_return_count,
-};
+use crate::line::{push_function_count, push_made, push_may_return_count, push_no_return_count};
+use crate::list_left::Listed;
 use crate::page::Page;
-use cfg_model::{Function, Graph};
+use cfg_model::{Block, Edge, Function, Graph};
 use std::alloc::Global;
 
 /// The summary of `graph`, the graph of the program that is made from `n`, or want of memory: how
@@ -23,8 +21,8 @@ pub fn summary(alloc: Global, n: u32, graph: &Graph) -> Result<Vec<u8>, Memory>
     let mut page = Page::new(alloc)?;
     push_made(&mut page, n);
     push_function_count(&mut page, graph.functions.as_slice().len());
-    push_block_count(&mut page, graph.blocks.as_slice().len());
-    push_edge_count(&mut page, graph.edges.as_slice().len());
+    Block::push_count(&mut page, graph.blocks.as_slice().len());
+    Edge::push_count(&mut page, graph.edges.as_slice().len());
     push_may_return_count(&mut page, may_return_count(graph.functions.as_slice()));
     push_no_return_count(&mut page, no_return_count(graph.functions.as_slice()));
     Ok(page.into_bytes())

@@ -1,25 +1,22 @@
 //! The text of a report, given out piece by piece.
 
-ghost use Rattle.std.specs.Prelude.{⊤, ◌≡◌, ◌≢◌, ℕ, ◌≤◌, ◌<◌, ◌+◌, [], ◌++◌};
-ghost use Rattle.std.specs.Prelude.{drop, length, Option, IfOk, IfSome};
+ghost use Rattle.std.specs.Prelude.{⊤, ◌≡◌, ◌≢◌, ◌≤◌, ◌<◌, ◌+◌, [], ◌++◌};
+ghost use Rattle.std.specs.Prelude.{drop, length, IfOk};
 ghost use Rattle.std.specs.Option.{option_map};
 ghost use Rattle.std.specs.Borrow.{sem};
 ghost use mir.Syntax.{named};
-ghost use Rattle.elf_image.specs.ReadOnly.{span_bytes};
 ghost use Rattle.elf_image.specs.Seeds.{seed_name};
-ghost use Rattle.elf_symbols.specs.Seeds.{name_in, LiesIn};
 ghost use Rattle.graph_report.specs.Report.{heading};
 ghost use Rattle.graph_report.specs.Inner.{heading_left, text_left};
 
 use crate::Memory;
+use crate::file_names::FileNames;
 use crate::kind::ReportKind;
 use crate::line::{push_entry, push_first};
 use crate::lines::ReportLines;
 use crate::live_left::TextLeft;
 use crate::page::{PAGE_ROOM, PIECE, Page};
 use cfg_model::{AllLives, Graph};
-use elf_image::Image;
-use elf_symbols::Seeds;
 use std::alloc::Global;
 use std::marker::Model;
 
@@ -31,8 +28,7 @@ use std::marker::Model;
 /// come.
 #[derive(Drop)]
 pub struct ReportPieces<'a> {
-    image: &'a Image,
-    seeds: &'a Seeds,
+    names: FileNames<'a>,
     left: TextLeft<'a>,
     page: Page,
     /// How many bytes at the front of the page were given out.
@@ -40,24 +36,17 @@ pub struct ReportPieces<'a> {
 }
 
 impl<'a> Model for ReportPieces<'a> {
-    ghost use Rattle.std.specs.Prelude.{◌≡◌, ℕ, ◌≤◌, List, ◌++◌, length, drop, IfSome};
-    ghost use Rattle.std.specs.Option.{option_map};
-    ghost use Rattle.elf_image.specs.ReadOnly.{span_bytes};
+    ghost use Rattle.std.specs.Prelude.{ℕ, ◌≤◌, List, ◌++◌, length, drop};
     ghost use Rattle.elf_image.specs.Seeds.{seed_name};
-    ghost use Rattle.elf_symbols.specs.Seeds.{name_in, LiesIn};
 
     ghost Value = { List ℕ };
 
     ghost use Rattle.graph_report.specs.declared.page.TheConstants.{PAGE_ROOM};
     ghost use Rattle.graph_report.specs.Inner.{text_left};
 
-    ghost view = { λ p. drop p.given p.page ++ text_left (seed_name p.image.now) p.left };
+    ghost view = { λ p. drop p.given p.page ++ text_left (seed_name p.names) p.left };
 
-    ghost invariant = { λ p. (p.given ≤ length p.page)
-        × (length p.page ≤ PAGE_ROOM)
-        × ((a : ℕ) → option_map (span_bytes p.image.now) (name_in p.seeds.now a)
-        ≡ seed_name p.image.now a)
-        × ((a : ℕ) → IfSome (name_in p.seeds.now a) (LiesIn p.image.now)) };
+    ghost invariant = { λ p. (p.given ≤ length p.page) × (length p.page ≤ PAGE_ROOM) };
 }
 
 impl<'a> ReportPieces<'a> {
@@ -71,45 +60,37 @@ impl<'a> ReportPieces<'a> {
     /// The text of a report of `graph`, with nothing given out yet, or want of memory.
     ///
     /// It has the parts that `kind` names, with functions, blocks and edges in the order of their
-    /// lists. A function has the name that `seeds`, those of the file `image`, have at its entry.
-    /// Live registers are no part of a graph: for those take [`ReportPieces::of_lives`].
+    /// lists. A function has the name that its file gives it. Live registers are no part of a
+    /// graph: for those take [`ReportPieces::of_lives`].
     pub fn new(
         alloc: Global,
-        image: &'a Image,
-        seeds: &'a Seeds,
+        names: &FileNames<'a>,
         graph: &'a Graph,
         kind: ReportKind,
     ) -> Result<ReportPieces<'a>, Memory>
-        requires names { (a : ℕ) → option_map (span_bytes image.now) (name_in seeds.now a)
-            ≡ seed_name image.now a }
-        requires in_file { (a : ℕ) → IfSome (name_in seeds.now a) (LiesIn image.now) }
         requires kind { kind ≢ ReportKind.Live }
         ensures text { IfOk result
-            (λ pieces. pieces ≡ report_text kind (seed_name image.now) graph.now) }
+            (λ pieces. pieces ≡ report_text kind (seed_name names.now) graph.now) }
     {
-        ReportPieces::of_lines(alloc, &ReportLines::new(image, seeds, graph, kind))
+        ReportPieces::of_lines(alloc, &ReportLines::new(names, graph, kind))
     }
 
     /// The text of the report of the live registers `lives` of `graph`, of which nothing is given out
     /// yet, or want of memory.
     ///
-    /// `lives` has the blocks of each function's body in order. A function has the name that `seeds`,
-    /// those of the file `image`, have at its entry.
+    /// `lives` has the blocks of each function's body in order. A function has the name that its
+    /// file gives it.
     pub fn of_lives(
         alloc: Global,
-        image: &'a Image,
-        seeds: &'a Seeds,
+        names: &FileNames<'a>,
         graph: &'a Graph,
         lives: &'a AllLives,
     ) -> Result<ReportPieces<'a>, Memory>
-        requires names { (a : ℕ) → option_map (span_bytes image.now) (name_in seeds.now a)
-            ≡ seed_name image.now a }
-        requires in_file { (a : ℕ) → IfSome (name_in seeds.now a) (LiesIn image.now) }
         requires lives { AreForAll graph.now.functions lives.now }
         ensures text { IfOk result
-            (λ pieces. pieces ≡ live_text (seed_name image.now) graph.now lives.now) }
+            (λ pieces. pieces ≡ live_text (seed_name names.now) graph.now lives.now) }
     {
-        ReportPieces::of_lines(alloc, &ReportLines::of_lives(image, seeds, graph, lives))
+        ReportPieces::of_lines(alloc, &ReportLines::of_lives(names, graph, lives))
     }
 
     /// The text of these lines, of which nothing is given out yet, or want of memory.
@@ -117,8 +98,7 @@ impl<'a> ReportPieces<'a> {
         ensures text { IfOk result (λ pieces. pieces ≡ lines.now) }
     {
         Ok(ReportPieces {
-            image: lines.image,
-            seeds: lines.seeds,
+            names: lines.names.again(),
             left: lines.left,
             page: first_page(alloc, lines.heading)?,
             given: 0,
@@ -134,7 +114,7 @@ impl<'a> ReportPieces<'a> {
             (λ _ _. ⊤) (GivesPiece self.old (option_map (λ s. s.now) result))) }
     {
         self.page.drop_front(self.given);
-        fill(self.image, self.seeds, &mut self.left, &mut self.page);
+        fill(&self.names, &mut self.left, &mut self.page);
         let n = self.page.len().min(PIECE);
         self.given = n;
         if n == 0 {
@@ -167,18 +147,15 @@ fn headed(alloc: Global, entry: u64) -> Result<Page, Memory>
 }
 
 /// Puts lines on the page until a piece stands there or nothing is left.
-fn fill<'a>(image: &'a Image, seeds: &'a Seeds, left: &mut TextLeft<'a>, page: &mut Page)
-    requires names { (a : ℕ) → option_map (span_bytes image.now) (name_in seeds.now a)
-        ≡ seed_name image.now a }
-    requires in_file { (a : ℕ) → IfSome (name_in seeds.now a) (LiesIn image.now) }
+fn fill<'a>(names: &FileNames<'a>, left: &mut TextLeft<'a>, page: &mut Page)
     requires room { length page.old ≤ PAGE_ROOM }
-    ensures moves { page.new ++ text_left (seed_name image.now) left.new ≡ page.old ++ text_left
-        (seed_name image.now) left.old }
+    ensures moves { page.new ++ text_left (seed_name names.now) left.new ≡ page.old ++ text_left
+        (seed_name names.now) left.old }
     ensures room { length page.new ≤ PAGE_ROOM }
-    ensures filled { length page.new < PIECE → text_left (seed_name image.now) left.new ≡ [] }
+    ensures filled { length page.new < PIECE → text_left (seed_name names.now) left.new ≡ [] }
 {
     while page.len() < PIECE {
-        if !left.step(image, seeds, page) {
+        if !left.step(names, page) {
             break;
         }
     }

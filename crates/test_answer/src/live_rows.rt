@@ -6,7 +6,7 @@ use crate::one_run::prints;
 use crate::report_text::NAMED_FILE;
 use crate::row_files::file_of;
 use file_graph::file_graph;
-use graph_report::live_report;
+use graph_report::{FileNames, live_report};
 use live_crew::graph_lives;
 use std::alloc::Global;
 use std::marker::Sync;
@@ -85,7 +85,8 @@ fn live_text(alloc: Global, bytes: &[u8]) -> Result<Vec<u8>, Fail> {
     let file = file_graph(alloc, Vec::from_slice(alloc, bytes)?)?;
     let (image, graph) = (file.image(), file.graph());
     let lives = graph_lives(alloc, image, graph)?;
-    Ok(live_report(alloc, image, file.seeds(), graph, &lives)?)
+    let names = FileNames::new(image, file.seeds());
+    Ok(live_report(alloc, &names, graph, &lives)?)
 }
 
 /// A jump to another function reads all, as a return does, and where execution stops nothing is

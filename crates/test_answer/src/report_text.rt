@@ -5,7 +5,7 @@ use cfg_model::{
 };
 use elf_image::Image;
 use elf_symbols::seeds;
-use graph_report::{ReportKind, ReportPieces, report, summary};
+use graph_report::{FileNames, ReportKind, ReportPieces, report, summary};
 use std::alloc::{AllocError, Global};
 use std::process::Abort;
 use std::test::Fail;
@@ -114,7 +114,8 @@ fn prints(
     let image = Image::parse(alloc, Vec::from_slice(alloc, file)?)?;
     let seeds = seeds(alloc, &image)?;
     assert!(rt; kind != ReportKind::Live);
-    let text = report(alloc, &image, &seeds, graph, kind)?;
+    let names = FileNames::new(&image, &seeds);
+    let text = report(alloc, &names, graph, kind)?;
     assert_eq!(rt; text.as_slice(), want.as_bytes());
     Ok(())
 }
@@ -239,7 +240,8 @@ fn pieces_of_a_long_report(rt: HostRuntime) -> Result<(), Fail> {
     let graph = long_graph(alloc)?;
     let image = Image::parse(alloc, Vec::from_slice(alloc, &NAMED_FILE)?)?;
     let seeds = seeds(alloc, &image)?;
-    let mut pieces = ReportPieces::new(alloc, &image, &seeds, &graph, ReportKind::Blocks)?;
+    let names = FileNames::new(&image, &seeds);
+    let mut pieces = ReportPieces::new(alloc, &names, &graph, ReportKind::Blocks)?;
     let text = long_text(alloc)?;
     are_pieces(&rt, &mut pieces, text.as_bytes(), &[4096, 4096, 2899]);
     Ok(())

@@ -12,7 +12,7 @@ use cfg_run::Status;
 use crew::OpenGate;
 use elf_image::Image;
 use elf_symbols::seeds;
-use graph_report::{ReportKind, ReportLines, report};
+use graph_report::{FileNames, ReportKind, ReportLines, report};
 use report_crew::{LEAST_LINES, is_worth_sharing, text_by};
 use std::alloc::{AllocError, Global};
 use std::marker::Sync;
@@ -32,9 +32,10 @@ fn agree<R: Threads + Abort + AllocGlobal + Sync>(
     let alloc = rt.alloc();
     let image = Image::parse(alloc, Vec::from_slice(alloc, &NAMED_FILE)?)?;
     let seeds = seeds(alloc, &image)?;
-    let whole = report(alloc, &image, &seeds, graph, kind)?;
+    let names = FileNames::new(&image, &seeds);
+    let whole = report(alloc, &names, graph, kind)?;
     for workers in 1..=5 {
-        let lines = ReportLines::new(&image, &seeds, graph, kind);
+        let lines = ReportLines::new(&names, graph, kind);
         let mut all = Vec::new(alloc);
         for text in text_by(rt, alloc, lines, workers)? {
             all.extend_from_slice(&text)?;
@@ -94,7 +95,8 @@ fn is_shared(alloc: Global, functions: usize, lines: usize, name: usize) -> Resu
     };
     let image = Image::parse(alloc, file_with_parts(alloc, b"n", name)?)?;
     let seeds = seeds(alloc, &image)?;
-    let lines = ReportLines::new(&image, &seeds, &graph, ReportKind::Functions);
+    let names = FileNames::new(&image, &seeds);
+    let lines = ReportLines::new(&names, &graph, ReportKind::Functions);
     Ok(is_worth_sharing(&lines))
 }
 

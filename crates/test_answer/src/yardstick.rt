@@ -14,7 +14,7 @@ use code_view::{Code, Cuts};
 use elf_image::Image;
 use elf_symbols::seeds;
 use file_graph::file_graph;
-use graph_report::{ReportKind, report};
+use graph_report::{FileNames, ReportKind, report};
 use std::alloc::Global;
 use std::process::Abort;
 use std::test::Fail;
@@ -85,14 +85,15 @@ fn plain_report(alloc: Global, file: Vec<u8>) -> Result<Vec<u8>, Fail> {
     let image = Image::parse(alloc, file)?;
     let seeds = seeds(alloc, &image)?;
     let graph = plain_graph_of(alloc, &image, seeds.addresses())?;
-    Ok(report(alloc, &image, &seeds, &graph, ReportKind::Graph)?)
+    let names = FileNames::new(&image, &seeds);
+    Ok(report(alloc, &names, &graph, ReportKind::Graph)?)
 }
 
 /// The report of the graph of a file by the builder's core.
 fn core_report(alloc: Global, file: Vec<u8>) -> Result<Vec<u8>, Fail> {
     let file = file_graph(alloc, file)?;
-    let kind = ReportKind::Graph;
-    Ok(report(alloc, file.image(), file.seeds(), file.graph(), kind)?)
+    let names = FileNames::new(file.image(), file.seeds());
+    Ok(report(alloc, &names, file.graph(), ReportKind::Graph)?)
 }
 
 /// Both graphs of a file have the same report.

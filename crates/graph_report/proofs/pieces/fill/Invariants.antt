@@ -7,7 +7,7 @@ use Rattle.graph_report.proofs.pieces.fill.Given as goal
 -- what is on the page and what is left are all of the text
 abbrev pub invariant-loop-left : goal.invariant-loop-left
 invariant-loop-left l = record {
-  text : l.page ++ text_left (seed_name l.image) l.left ≡ l.fn.page ++ text_left (seed_name l.image) l.fn.left;
+  text : l.page ++ text_left (seed_name l.names) l.left ≡ l.fn.page ++ text_left (seed_name l.names) l.fn.left;
   room : length l.page ≤ PAGE_ROOM;
 }
 

@@ -7,7 +7,7 @@ graph_lives-requires-clause-order c = in-order c.in_ok-file.file.bytes c.graph-g
 pub graph_lives-requires-clause-bodies : goal.graph_lives-requires-clause-bodies
 graph_lives-requires-clause-bodies c = bodies-rise c.in_ok-file.file.bytes c.graph-graph.result.now c.graph-graph.ensures.of_file
 
-pub live_report-requires-clause-lives : goal.live_report-requires-clause-lives
-live_report-requires-clause-lives c =
+pub live_report-requires : goal.live_report-requires
+live_report-requires c =
     let graph = c.graph-graph.result.now in
-    for-all c.image-image.result.now graph.blocks graph.edges graph.functions c.in_ok-lives.lives c.in_ok-lives.ensures
+    record { lives = for-all c.image-image.result.now graph.blocks graph.edges graph.functions c.in_ok-lives.lives c.in_ok-lives.ensures }

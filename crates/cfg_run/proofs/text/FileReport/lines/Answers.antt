@@ -9,5 +9,5 @@ pub returns : goal.returns
 returns c =
     let kind = c.self.inside.kind in
     let file = c.self.inside.file in
-    c.new.ensures.text ∙ ap (λ (b : List ℕ). report_text kind (seed_name b) c.graph.result.now) c.image.ensures
+    c.new.ensures.text ∙ ap (λ (b : List ℕ). report_text kind (seed_name b) c.graph.result.now) (c.new-names.ensures ∙ c.image.ensures)
     ∙ ap (λ (graph : Graph). report_text kind (seed_name file.bytes) graph) c.graph.ensures.graph ∙ c.self.view_is

@@ -9,5 +9,5 @@ pub returns : goal.returns
 returns c =
     let lives = c.self.inside.lives in
     let file = c.self.inside.file in
-    c.of_lives.ensures.text ∙ ap (λ (b : List ℕ). live_text (seed_name b) c.graph.result.now lives) c.image.ensures
+    c.of_lives.ensures.text ∙ ap (λ (b : List ℕ). live_text (seed_name b) c.graph.result.now lives) (c.new-names.ensures ∙ c.image.ensures)
     ∙ ap (λ (graph : Graph). live_text (seed_name file.bytes) graph lives) c.graph.ensures.graph ∙ c.self.view_is

@@ -10,6 +10,6 @@ returns-clause-moves c =
     let all = c.args.self.now.functions.now in
     let rest : List Function = take (length all - 1) (drop 1 all) in
     let behind : rest ≡ drop 1 all = grind (arith, common_steps) in
-    function_given (seed_name c.args.image.now) c.begin_function.new.page c.args.page.now c.args.self.now c.function-item.result rest c.begin_function.result.now c.as_slice-self.result.now
+    function_given (seed_name c.args.names.now) c.begin_function.new.page c.args.page.now c.args.self.now c.function-item.result rest c.begin_function.result.now c.as_slice-self.result.now
     c.in_default.is c.in_default-name.is c.in_default-body.len_below c.in-len1-up-functions.len_at_least
     c.function-item.is behind c.as_slice-self.ensures (rw c.name_at-name.ensures at c.begin_function.ensures.text)

@@ -7,14 +7,14 @@ use Rattle.graph_report.proofs.left.ReportLeft.step.Goals as goal
 pub returns-then-step-clause-moves : goal.returns-then-step-clause-moves
 returns-then-step-clause-moves c =
     let old = c.args.self.now in
-    let names = seed_name c.args.image.now in
+    let names = seed_name c.args.names.now in
     moved_front c.step.new.page c.args.page.now (functions_left names c.step.new.self) (functions_left names old.functions)
     (blocks_left old.blocks ++ (edges_left old.edges ++ end_left old.ended)) c.step.ensures.moves
 
 pub returns-then-step-2-clause-moves : goal.returns-then-step-2-clause-moves
 returns-then-step-2-clause-moves c =
     let old = c.args.self.now in
-    let names = seed_name c.args.image.now in
+    let names = seed_name c.args.names.now in
     let rest = edges_left old.edges ++ end_left old.ended in
     moved_behind (functions_left names) old.functions c.step.new.self c.args.page.now c.step.new.page c.step-2.new.page
     (blocks_left c.step-2.new.self ++ rest) (blocks_left old.blocks ++ rest)
@@ -24,7 +24,7 @@ returns-then-step-2-clause-moves c =
 pub returns-then-step-3-clause-moves : goal.returns-then-step-3-clause-moves
 returns-then-step-3-clause-moves c =
     let old = c.args.self.now in
-    let names = seed_name c.args.image.now in
+    let names = seed_name c.args.names.now in
     let rest = end_left old.ended in
     let a = edges_left c.step-3.new.self ++ rest in
     let b = edges_left old.edges ++ rest in
@@ -38,7 +38,7 @@ returns-then-step-3-clause-moves c =
 pub returns-clause-moves : goal.returns-clause-moves
 returns-clause-moves c =
     let old = c.args.self.now in
-    let names = seed_name c.args.image.now in
+    let names = seed_name c.args.names.now in
     let last = end_left c.step_end.new.ended in
     let a = edges_left c.step-3.new.self ++ last in
     let b = edges_left old.edges ++ end_left old.ended in

@@ -15,6 +15,6 @@ returns-clause-moves c =
     let behind : rest ≡ drop 1 all = grind (arith, common_steps) in
     let lives_behind : others ≡ drop 1 all_lives = grind (arith, common_steps) in
     rw c.as_slice-self.ensures
-    (lives_given (seed_name c.args.image.now) c.begin_function.new.page c.args.page.now c.args.self.now c.function-item.result c.first-item.result rest others c.begin_function.result.now
+    (lives_given (seed_name c.args.names.now) c.begin_function.new.page c.args.page.now c.args.self.now c.function-item.result c.first-item.result rest others c.begin_function.result.now
     c.in_default.is c.in_default-name.is c.in_default-body.len_below c.in-len1-up-functions.len_at_least c.in-len1-up-lives.len_at_least
     c.function-item.is behind c.first-item.is lives_behind (rw c.name_at-name.ensures at c.begin_function.ensures.text))
