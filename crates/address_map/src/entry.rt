@@ -110,12 +110,12 @@ fn is_above(key: u64, a: Option<u64>) -> bool
 }
 
 /// A row of n entries that is full grows by n divided by this, and [`GROWTH_LEAST`]. So it has room
-/// for little more than a fourth of what it needs, and is moved a number of times that is
-/// logarithmic in its length.
-const GROWTH_PART: usize = 4;
+/// for little more than half as many again, and is moved a number of times that is logarithmic in
+/// its length. If threads share maps, a move takes the lock of the heap that the row lies in.
+const GROWTH_PART: usize = 2;
 
 /// What a row of entries grows by at least.
-const GROWTH_LEAST: usize = 8;
+const GROWTH_LEAST: usize = 24;
 
 /// Appends an entry.
 pub(crate) fn append<T: Drop>(

@@ -17,6 +17,9 @@ use std::marker::Model;
 /// How many waiters stand in the row.
 const FEW: usize = 24;
 
+/// How many it has room for from the beginning.
+const FEW_FIRST: usize = 6;
+
 /// Waiters, each with whether it was told: a few in a row in their order, and those that come later
 /// in a crowd. Many waiters take time logarithmic in their number each.
 #[derive(Drop)]
@@ -53,7 +56,7 @@ impl Several {
         ensures { IfOk result (λ several.
             several ≡ over (first ∷ second ∷ third ∷ []) maps.empty) }
     {
-        let mut few = Vec::with_capacity(alloc, 3)?;
+        let mut few = Vec::with_capacity(alloc, FEW_FIRST)?;
         put(&mut few, third.0, third.1)?;
         put(&mut few, second.0, second.1)?;
         put(&mut few, first.0, first.1)?;

@@ -47,7 +47,10 @@ pub fn graph_of<B: Builder>(
     let reached = reached_jumps(alloc, &code, &followed, tables.jumps())?;
     match other_cuts(alloc, &uncut, seeds, &tables, &likely, &reached)? {
         None => by.graph(&code, seeds.addresses(), image.entry(), followed),
-        Some(cuts) => graph_anew(by, &uncut.under(&cuts), seeds.addresses(), image.entry()),
+        Some(cuts) => {
+            drop(followed);
+            graph_anew(by, &uncut.under(&cuts), seeds.addresses(), image.entry())
+        }
     }
 }
 
