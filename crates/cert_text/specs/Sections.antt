@@ -1,5 +1,5 @@
--- Words of private functions, which no public contract cites: what is read from the front of the
--- bytes line after line.
+-- What is read from the front of the bytes, line after line. These are words of private functions;
+-- of public contracts only one clause of `parse` cites one of them, `Gives`.
 use Rattle.std.specs.Prelude.{◌≡◌, ℕ, ◌-◌, ◌<◌, List, ◌++◌, length, map, slice_index, Option, None}
 use Rattle.std.specs.Prelude.{Result, IfSome, MatchResult, codes}
 use Rattle.std.specs.List.{flat_map, AllByRecursion}
