@@ -122,7 +122,7 @@ fn write_made<O: Sink>(
             mem::forget(texts);
             Ok(written?)
         }
-        None => Ok(write_pieces(ReportPieces::of_lines(alloc, &lines)?, out)?),
+        None => write_pieces(alloc, ReportPieces::of_lines(alloc, &lines)?, out),
     }
 }
 

@@ -4,6 +4,8 @@ use Rattle.std.proofs.Common.{◌≡◌, ℕ, ◌+◌, ◌*◌, ◌<◌, ◌≤�
 use Rattle.std.specs.Option.{option_map_or}
 use Rattle.std.proofs.lemmas.Bool.{cond_both, cond-true, cond-false}
 use Rattle.std.proofs.lemmas.Option.{cond_some, none-some, same_Some}
+use Rattle.elf_image.specs.declared.extensions.Extensions.{Extensions}
+use Rattle.elf_image.specs.Architecture.{extensions_of}
 use Rattle.elf_image.specs.Code.{is_code, half_at, word_at}
 use Rattle.elf_image.specs.Faults.{IsImage}
 use Rattle.rv_decode.specs.declared.instructions.Insn.{Insn}
@@ -36,17 +38,17 @@ module _ (bytes : List ℕ) (a : ℕ) where
   of_whole None n is = absurd (none-some n is)
   of_whole (Some insn) n is = own_length (insn_flow bytes a insn) 4 n is
 
-  of_half : (half n : ℕ) → straight_of (placed_by bytes a half) ≡ Some n → n ≡ length_by half
-  of_half half n =
+  of_half : (e : Extensions) (half n : ℕ) → straight_of (placed_by e bytes a half) ≡ Some n → n ≡ length_by half
+  of_half e half n =
       cond_both (half % 4 == 3) _ _ (λ placed. straight_of placed ≡ Some n → n ≡ length_by half)
-      (λ long. cond_both (half / 4 % 8 == 7) bad (whole (whole_insn (word_at bytes a))) (λ placed. straight_of placed ≡ Some n → n ≡ length_by half)
+      (λ long. cond_both (half / 4 % 8 == 7) bad (whole (whole_insn e (word_at bytes a))) (λ placed. straight_of placed ≡ Some n → n ≡ length_by half)
       (λ _. λ is. absurd (none-some n is))
-      (λ _. λ is. of_whole (whole_insn (word_at bytes a)) n is ∙ sym (cond-true (half % 4 == 3) 4 2 long)))
+      (λ _. λ is. of_whole (whole_insn e (word_at bytes a)) n is ∙ sym (cond-true (half % 4 == 3) 4 2 long)))
       (λ short. λ is. own_length _ 2 n is ∙ sym (cond-false (half % 4 == 3) 4 2 short))
 
-  at_half : (o : Option ℕ) (n : ℕ) → straight_of (option_map_or (placed_by bytes a) o bad) ≡ Some n → (half : ℕ) × (o ≡ Some half) × (n ≡ length_by half)
-  at_half None n is = absurd (none-some n is)
-  at_half (Some half) n is = (half, refl, of_half half n is)
+  at_half : (e : Extensions) (o : Option ℕ) (n : ℕ) → straight_of (option_map_or (placed_by e bytes a) o bad) ≡ Some n → (half : ℕ) × (o ≡ Some half) × (n ≡ length_by half)
+  at_half e None n is = absurd (none-some n is)
+  at_half e (Some half) n is = (half, refl, of_half e half n is)
 
   parts_by : (o : Option ℕ) (next : ℕ) → next_behind bytes a o ≡ Some next → (n : ℕ) × (o ≡ Some n) × (next ≡ a + n)
   parts_by None next is = absurd (none-some next is)
@@ -56,7 +58,7 @@ module _ (bytes : List ℕ) (a : ℕ) where
   next_at : (next : ℕ) → next_of bytes a ≡ Some next → (half : ℕ) × (half_at bytes a ≡ Some half) × (next ≡ a + length_by half)
   next_at next is =
       let parts = parts_by (straight_length_at bytes a) next is in
-      let found = at_half (half_at bytes a) parts.0 parts.1 in
+      let found = at_half (extensions_of bytes) (half_at bytes a) parts.0 parts.1 in
       (found.0, found.1, parts.2 ∙ ap (λ n. a + n) found.2)
 
 some_length : (half : ℕ) → 0 < length_by half

@@ -1,10 +1,12 @@
 -- A pass over a stretch of a code section, from the back.
-use Rattle.std.proofs.Common.{◌≡◌, ℕ, ◌+◌, ◌*◌, ◌/◌, ◌<◌, ◌≤◌, ◌⊎◌, ◌^◌, List, length, get_or, set, take, drop, Option, Some, None, true, sym, ap, ◌∙◌, subst, arith, inl, inr}
+use Rattle.std.proofs.Common.{◌≡◌, ℕ, ◌+◌, ◌*◌, ◌/◌, ◌<◌, ◌≤◌, ◌⊎◌, ◌^◌, List, length, get_or, set, take, drop, Option, Some, None, true, refl, sym, ap, ◌∙◌, subst, arith, inl, inr}
 use Rattle.std.specs.Prelude.{IfSome}
 use Rattle.std.specs.Option.{option_map_or}
 use Rattle.std.proofs.lemmas.Bool.{cases_order}
 use Rattle.std.proofs.lemmas.List.{length-set, get_or-set_same, get_or-set_other}
 use Rattle.elf_image.specs.declared.section.Section.{Section}
+use Rattle.elf_image.specs.declared.extensions.Extensions.{Extensions}
+use Rattle.elf_image.specs.Architecture.{extensions_of}
 use Rattle.elf_image.specs.Number.{u16_at}
 use Rattle.elf_image.specs.Code.{is_code}
 use Rattle.rv_flow.specs.Straight.{IsStraightLength, straight_length_at}
@@ -16,8 +18,8 @@ use Rattle.chain_index.proofs.Ends.{reach_is}
 
 -- The length of the instruction at halfword i of these bytes, where control goes straight on behind it:
 -- 2, or 4 where all its bytes are there.
-pub record IsLengthAt (code : List ℕ) (i : ℕ) (n : Option ℕ) : Type 0 where
-  pub answer : IsStraightLength (u16_at code (2 * i)) (word_of code (2 * i)) n
+pub record IsLengthAt (e : Extensions) (code : List ℕ) (i : ℕ) (n : Option ℕ) : Type 0 where
+  pub answer : IsStraightLength e (u16_at code (2 * i)) (word_of code (2 * i)) n
   pub sizes : IfSome n (λ k. (k ≡ 2) ⊎ ((k ≡ 4) × (2 * i + 4 ≤ length code)))
 
 -- the answer for an instruction of 2 bytes or 4
@@ -46,18 +48,18 @@ module _ (bytes : List ℕ) (s : Section) (of : IsCodeOf bytes s) where
   code = take s.size (drop s.offset bytes)
 
   -- the length that the bytes tell is that at the address
-  pub length_is : (i : ℕ) (n : Option ℕ) → i < s.size / 2 → IsLengthAt code i n → straight_length_at bytes (s.address + 2 * i) ≡ n
+  pub length_is : (i : ℕ) (n : Option ℕ) → i < s.size / 2 → IsLengthAt (extensions_of bytes) code i n → straight_length_at bytes (s.address + 2 * i) ≡ n
   length_is i n inside is_length =
       let within : 2 * i + 2 ≤ s.size = omega arith in
-      is_length.answer bytes (s.address + 2 * i) (half-code bytes s of i within) (word-code bytes s of i within)
+      is_length.answer bytes (s.address + 2 * i) refl (half-code bytes s of i within) (word-code bytes s of i within)
 
   -- a long instruction lies in the section whole
-  pub long_inside : (i : ℕ) (n : Option ℕ) → IsLengthAt code i n → n ≡ Some 4 → i + 2 ≤ s.size / 2
+  pub long_inside : (i : ℕ) (n : Option ℕ) → IsLengthAt (extensions_of bytes) code i n → n ≡ Some 4 → i + 2 ≤ s.size / 2
   long_inside i n is_length four =
       let fits = long_within n _ is_length.sizes four in omega (arith, fits, length-code bytes s of)
 
   -- how far the chain of a halfword reaches, from how far those of the halfwords behind it do
-  pub over_first : (i : ℕ) (n near far : Option ℕ) → i < s.size / 2 → IsLengthAt code i n → (n ≡ Some 2 → ReachesFrom bytes s (i + 1) near) → (n ≡ Some 4 → ReachesFrom bytes s (i + 2) far) → IsReach bytes s i (reach_over n near far)
+  pub over_first : (i : ℕ) (n near far : Option ℕ) → i < s.size / 2 → IsLengthAt (extensions_of bytes) code i n → (n ≡ Some 2 → ReachesFrom bytes s (i + 1) near) → (n ≡ Some 4 → ReachesFrom bytes s (i + 2) far) → IsReach bytes s i (reach_over n near far)
   over_first i n near far inside is_length short long =
       let sizes = short_or_long n _ is_length.sizes in
       let near_at : s.address + 2 * (i + 1) ≡ s.address + 2 * i + 2 = omega arith in
@@ -111,7 +113,7 @@ module _ (bytes : List ℕ) (s : Section) (of : IsCodeOf bytes s) (from k : ℕ)
     (so_far : IsPassed bytes s from (k + 1) near far part)
     (inside : from + k < s.size / 2)
     (n : Option ℕ)
-    (is_length : IsLengthAt (take s.size (drop s.offset bytes)) (from + k) n) where
+    (is_length : IsLengthAt (extensions_of bytes) (take s.size (drop s.offset bytes)) (from + k) n) where
   pub reach_here : IsReach bytes s (from + k) (reach_over n near far)
   reach_here =
       over_first bytes s of (from + k) n near far inside is_length

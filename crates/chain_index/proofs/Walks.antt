@@ -3,6 +3,7 @@ use Rattle.std.proofs.Common.{◌≡◌, ℕ, ◌+◌, ◌-◌, ◌*◌, ◌/◌
 use Rattle.elf_image.specs.declared.section.Section.{Section}
 use Rattle.std.specs.Prelude.{IfSome}
 use Rattle.std.proofs.lemmas.Bool.{cond-true}
+use Rattle.elf_image.specs.Architecture.{extensions_of}
 use Rattle.elf_image.specs.Code.{is_code}
 use Rattle.rv_flow.specs.Straight.{straight_length_at}
 use Rattle.chain_index.specs.Chain.{next_behind, next_of, IsChainEnd}
@@ -20,7 +21,7 @@ pub record IsOnChain (bytes : List ℕ) (s : Section) (i at : ℕ) : Type 0 wher
 
 module _ (bytes : List ℕ) (s : Section) (of : IsCodeOf bytes s) (i at : ℕ) (so_far : IsOnChain bytes s i at)
     (n : Option ℕ)
-    (is_length : IsLengthAt (take s.size (drop s.offset bytes)) at n) where
+    (is_length : IsLengthAt (extensions_of bytes) (take s.size (drop s.offset bytes)) at n) where
   -- the walk goes on to the next halfword of the chain in the section
   goes_to : (m : Option ℕ) (next : ℕ) → straight_length_at bytes (s.address + 2 * at) ≡ m → IfSome m (λ k. (k ≡ 2) ⊎ (k ≡ 4)) → next ≡ at + halfwords m → at < next → next < s.size / 2
       → next_of bytes (s.address + 2 * at) ≡ Some (s.address + 2 * next)

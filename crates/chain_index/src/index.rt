@@ -3,6 +3,7 @@
 ghost use Rattle.std.specs.Prelude.{◌≡◌, ℕ, ◌+◌, ◌*◌, ◌/◌, ◌<◌, ◌≤◌, IsTrue, IfOk, true};
 ghost use Rattle.std.specs.Prelude.{vec_len};
 ghost use Rattle.std.specs.List.Sorted.{IsNonDecreasing};
+ghost use Rattle.elf_image.specs.Architecture.{extensions_of};
 ghost use Rattle.elf_image.specs.Code.{is_code};
 ghost use Rattle.rv_flow.specs.InsnBytes.{AreBytesAt};
 ghost use Rattle.chain_index.specs.Chain.{next_of, IsChainEnd};
@@ -114,6 +115,7 @@ impl ChainReaches {
             alloc,
             image,
             |forms, s, behind|
+                requires forms { forms.old ≡ extensions_of image.now }
                 requires section { IsCodeOf image.now s }
                 requires behind { Reaches image.now (s.address + 2 * (s.size / 2)) behind }
                 requires workers { 0 < workers }

@@ -1,6 +1,7 @@
 //! The passes over all code sections, one after the other.
 
 ghost use Rattle.std.specs.Prelude.{◌≡◌, ◌+◌, ◌*◌, ◌/◌, ◌^◌, ◌<◌, IfOk, length};
+ghost use Rattle.elf_image.specs.Architecture.{extensions_of};
 ghost use Rattle.chain_index.specs.Found.{IsCodeOf, AreReaches, AreReachesOf};
 ghost use Rattle.chain_index.specs.Inner.{Reaches};
 
@@ -12,7 +13,8 @@ use rv_flow::StraightForms;
 use std::alloc::Global;
 
 /// The code sections that hold a halfword, from the highest address down, with the reaches that
-/// `pass` makes of each. It gets the forms that all passes on this thread share. If code stands at
+/// `pass` makes of each. It gets the forms that all passes on this thread share, and leaves them those
+/// of the file. If code stands at
 /// the address after the section's last halfword, it also gets how far the chain of that address
 /// reaches.
 pub(crate) fn over_sections<F>(
@@ -22,9 +24,14 @@ pub(crate) fn over_sections<F>(
 ) -> Result<Vec<SectionReaches>, Memory>
 where
     F: Fn(&mut StraightForms, Section, Option<u32>) -> Result<Vec<u32>, Memory>,
-    requires callable { (forms : _) (s : _) (behind : _) → IsCodeOf image.now s
+    requires callable { (forms : _) (s : _) (behind : _) → forms.now ≡ extensions_of image.now
+        → IsCodeOf image.now s
         → Reaches image.now (s.address + 2 * (s.size / 2)) behind → F.pre pass forms s behind }
-    requires right { (forms : _) (s : _) (behind : _) (made : _) (left : _) → IsCodeOf image.now s
+    requires keeps { (forms : _) (s : _) (behind : _) (made : _) (left : _)
+        → forms.now ≡ extensions_of image.now → F.post pass forms s behind made left
+        → left.now ≡ forms.now }
+    requires right { (forms : _) (s : _) (behind : _) (made : _) (left : _)
+        → forms.now ≡ extensions_of image.now → IsCodeOf image.now s
         → Reaches image.now (s.address + 2 * (s.size / 2)) behind
         → F.post pass forms s behind made left
         → IfOk made (λ reaches. (length reaches.items ≡ s.size / 2)
@@ -33,7 +40,7 @@ where
 {
     let mut left = code_sections(alloc, image)?;
     let mut found = Vec::new(alloc);
-    let mut forms = StraightForms::new(alloc);
+    let mut forms = StraightForms::new(alloc, image.extensions());
     while let Some(s) = left.pop() {
         let behind = first_reach(&found, s.address + s.size / 2 * 2);
         let from = more_numbers(halfwords(&found), s.size / 2)?;

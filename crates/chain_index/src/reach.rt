@@ -2,6 +2,7 @@
 
 ghost use Rattle.std.specs.Prelude.{◌≡◌, ℕ, ◌+◌, ◌*◌, ◌/◌, ◌^◌, ◌≤◌, ◌<◌, ◌⊎◌, IfOk, IfSome};
 ghost use Rattle.std.specs.Prelude.{length, take, drop, slice_index_or};
+ghost use Rattle.elf_image.specs.Architecture.{extensions_of};
 ghost use Rattle.elf_image.specs.Number.{u16_at};
 ghost use Rattle.rv_flow.specs.Straight.{IsStraightLength};
 ghost use Rattle.chain_index.specs.Found.{IsCodeOf, AreReaches};
@@ -22,8 +23,10 @@ pub(crate) fn section_reaches(
     s: Section,
     behind: Option<u32>,
 ) -> Result<Vec<u32>, Memory>
+    requires forms { forms.old ≡ extensions_of image.now }
     requires section { IsCodeOf image.now s }
     requires behind { Reaches image.now (s.address + 2 * (s.size / 2)) behind }
+    ensures kept { forms.new ≡ forms.old }
     ensures size { IfOk result (λ reaches. length reaches.items ≡ s.size / 2) }
     ensures reaches { IfOk result (λ reaches. AreReaches image.now s.address reaches.items) }
 {
@@ -57,10 +60,12 @@ pub(crate) fn pass_back(
     from: usize,
     part: &mut [u32],
 )
+    requires forms { forms.old ≡ extensions_of image.now }
     requires section { IsCodeOf image.now s }
     requires behind { ReachesFrom image.now s (s.size / 2) behind }
     requires size { from + length part.old ≤ s.size / 2 }
-    ensures { (k d : ℕ) → k < length part.old
+    ensures kept { forms.new ≡ forms.old }
+    ensures reaches { (k d : ℕ) → k < length part.old
         → IsReach image.now s (from + k) (slice_index_or part.new k d) }
 {
     let code = section_bytes(image, s);
@@ -87,10 +92,11 @@ pub(crate) fn section_bytes(image: &Image, s: Section) -> &[u8]
 }
 
 /// The length of the instruction at an offset of a section's bytes, if control goes straight on
-/// after it.
+/// after it, by the extensions of the forms.
 pub(crate) fn length_at(forms: &mut StraightForms, code: &[u8], at: usize) -> Option<u8>
     requires { at + 2 ≤ length code.now }
-    ensures answer { IsStraightLength (u16_at code.now at) (word_of code.now at) result }
+    ensures answer { IsStraightLength forms.old (u16_at code.now at) (word_of code.now at) result }
+    ensures kept { forms.new ≡ forms.old }
     ensures bytes { IfSome result (λ n. (n ≡ 2) ⊎ ((n ≡ 4) × (at + 4 ≤ length code.now))) }
 {
     let word = if code.len() - at >= 4 {

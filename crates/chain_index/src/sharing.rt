@@ -2,6 +2,7 @@
 
 ghost use Rattle.std.specs.Prelude.{◌≡◌, ℕ, ◌+◌, ◌*◌, ◌/◌, ◌≤◌, ◌<◌, IfOk, length};
 ghost use Rattle.std.specs.Prelude.{slice_index_or};
+ghost use Rattle.elf_image.specs.Architecture.{extensions_of};
 ghost use Rattle.chain_index.specs.Found.{IsCodeOf, AreReaches};
 ghost use Rattle.chain_index.specs.Inner.{Reaches, ReachesFrom, IsReach};
 
@@ -35,9 +36,11 @@ pub(crate) fn reaches_by<R: Threads + Sync>(
     behind: Option<u32>,
     workers: usize,
 ) -> Result<Vec<u32>, Memory>
+    requires forms { forms.old ≡ extensions_of image.now }
     requires section { IsCodeOf image.now s }
     requires behind { Reaches image.now (s.address + 2 * (s.size / 2)) behind }
     requires workers { 0 < workers }
+    ensures kept { forms.new ≡ forms.old }
     ensures size { IfOk result (λ reaches. length reaches.items ≡ s.size / 2) }
     ensures reaches { IfOk result (λ reaches. AreReaches image.now s.address reaches.items) }
 {
@@ -73,7 +76,7 @@ fn pass_all<R: Threads + Sync>(
         reaches,
         share,
         &|from, part| {
-            let mut forms = StraightForms::new(alloc);
+            let mut forms = StraightForms::new(alloc, image.extensions());
             pass_back(image, &mut forms, s, behind, from, part)
         },
     );

@@ -1,6 +1,7 @@
 //! The chain of one halfword of a code section, walked.
 
 ghost use Rattle.std.specs.Prelude.{◌≡◌, ◌/◌, ◌≤◌, ◌<◌};
+ghost use Rattle.elf_image.specs.Architecture.{extensions_of};
 ghost use Rattle.chain_index.specs.Found.{IsCodeOf};
 ghost use Rattle.chain_index.specs.Inner.{ReachesFrom, IsReach, halfwords};
 
@@ -18,9 +19,11 @@ pub(crate) fn reach_at(
     behind: Option<u32>,
     i: usize,
 ) -> Option<u32>
+    requires forms { forms.old ≡ extensions_of image.now }
     requires section { IsCodeOf image.now s }
     requires behind { ReachesFrom image.now s (s.size / 2) behind }
-    ensures { i ≤ s.size / 2 → ReachesFrom image.now s i result }
+    ensures kept { forms.new ≡ forms.old }
+    ensures reach { i ≤ s.size / 2 → ReachesFrom image.now s i result }
 {
     if (i as u64) < s.size / 2 {
         Some(walked(image, forms, s, behind, i))
@@ -38,10 +41,12 @@ fn walked(
     behind: Option<u32>,
     i: usize,
 ) -> u32
+    requires forms { forms.old ≡ extensions_of image.now }
     requires section { IsCodeOf image.now s }
     requires behind { ReachesFrom image.now s (s.size / 2) behind }
     requires inside { i < s.size / 2 }
-    ensures { IsReach image.now s i result }
+    ensures kept { forms.new ≡ forms.old }
+    ensures reach { IsReach image.now s i result }
 {
     let code = section_bytes(image, s);
     let mut at = i;

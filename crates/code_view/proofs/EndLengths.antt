@@ -6,6 +6,7 @@ use Rattle.std.proofs.lemmas.Bool.{cond-true, cond-false}
 use Rattle.std.proofs.lemmas.Bool.Decides.{nat_tests}
 use Rattle.std.proofs.lemmas.Option.{same_Some, none-some}
 use Rattle.elf_image.specs.declared.section.Section.{Section}
+use Rattle.elf_image.specs.Architecture.{extensions_of}
 use Rattle.elf_image.specs.Code.{half_at, word_at, word_in, code_section_of}
 use Rattle.elf_image.specs.Number.{u16_at, u32_at}
 use Rattle.elf_image.specs.Sections.{file_offset, holds_bytes}
@@ -16,7 +17,8 @@ use Rattle.rv_decode.proofs.ByOpcode.{jal_is, branch_cases}
 use Rattle.rv_decode.proofs.ByFields.{jalr_is}
 use Rattle.rv_float.specs.Table.{float_instruction}
 use Rattle.rv_flow.specs.declared.placed.Placed.{Placed}
-use Rattle.rv_flow.specs.Placed.{placed_at, placed_by, word_insn, whole, whole_insn, bad}
+use Rattle.rv_extensions.specs.Table.{extension_instruction}
+use Rattle.rv_flow.specs.Placed.{placed_at, placed_by, rv64gc_insn, word_insn, whole, whole_insn, bad}
 use Rattle.code_view.specs.JumpWord.{is_jump_word}
 
 -- ---- a word that is a jump, a call or a branch
@@ -58,8 +60,8 @@ module _ (bytes : List ℕ) (a half : ℕ) (is : half_at bytes a ≡ Some half) 
   begins None w here there = absurd (none-some half here)
   begins (Some s) w here there = begins-in s w (holds_bytes a 4 s) (same_Some _ half here) there
 
-  by-half : (n : ℕ) → (placed_by bytes a half).length ≡ n → (placed_at bytes a).length ≡ n
-  by-half n length = subst (λ (o : Option ℕ). (option_map_or (placed_by bytes a) o bad).length ≡ n) (sym is) length
+  by-half : (n : ℕ) → (placed_by (extensions_of bytes) bytes a half).length ≡ n → (placed_at bytes a).length ≡ n
+  by-half n length = subst (λ (o : Option ℕ). (option_map_or (placed_by (extensions_of bytes) bytes a) o bad).length ≡ n) (sym is) length
 
   -- A 16-bit form has the length 2.
   pub short-length : (half % 4 == 3) ≡ false → (placed_at bytes a).length ≡ 2
@@ -69,11 +71,13 @@ module _ (bytes : List ℕ) (a half : ℕ) (is : half_at bytes a ≡ Some half) 
   whole-length None some = absurd (cc)
   whole-length (Some insn) some = refl
 
-  word-length : is_jump_word half ≡ true → (word : Option ℕ) → word_at bytes a ≡ word → (whole (whole_insn word)).length ≡ cond (is_some word) 4 2
+  word-length : is_jump_word half ≡ true → (word : Option ℕ) → word_at bytes a ≡ word → (whole (whole_insn (extensions_of bytes) word)).length ≡ cond (is_some word) 4 2
   word-length jump None there = refl
   word-length jump (Some w) there =
       let by = begins (code_section_of bytes a) w is there in
-      whole-length (word_insn w) (either-some (instruction w) (float_instruction w) (word-some half by.0 w by.1 jump))
+      whole-length (word_insn (extensions_of bytes) w)
+      (either-some (rv64gc_insn w) (extension_instruction (extensions_of bytes) w)
+      (either-some (instruction w) (float_instruction w) (word-some half by.0 w by.1 jump)))
 
   -- A jump, a call or a branch of 32 bits has the length 4 where its word is there, and else 2.
   pub jump-length : is_jump_word half ≡ true → (placed_at bytes a).length ≡ cond (is_some (word_at bytes a)) 4 2
@@ -81,5 +85,5 @@ module _ (bytes : List ℕ) (a half : ℕ) (is : half_at bytes a ≡ Some half) 
       let long : (half % 4 == 3) ≡ true = grind (arith, nat_tests) in
       let fits : (half / 4 % 8 == 7) ≡ false = grind (arith, nat_tests) in
       by-half (cond (is_some (word_at bytes a)) 4 2)
-      (ap (λ (p : Placed). p.length) (cond-true (half % 4 == 3) _ _ long ∙ cond-false (half / 4 % 8 == 7) bad (whole (whole_insn (word_at bytes a))) fits)
+      (ap (λ (p : Placed). p.length) (cond-true (half % 4 == 3) _ _ long ∙ cond-false (half / 4 % 8 == 7) bad (whole (whole_insn (extensions_of bytes) (word_at bytes a))) fits)
       ∙ word-length jump (word_at bytes a) refl)

@@ -10,6 +10,7 @@ use Rattle.elf_image.specs.declared.section.Section.{Section}
 use Rattle.elf_image.specs.Sections.{holds_bytes}
 use Rattle.elf_image.specs.Number.{u32_at}
 use Rattle.elf_image.specs.Sections.{file_offset}
+use Rattle.elf_image.specs.Architecture.{extensions_of}
 use Rattle.elf_image.specs.Code.{is_code, section_start, code_section_of, half_at, word_at, word_in}
 use Rattle.elf_image.specs.Faults.{IsImage}
 use Rattle.elf_image.specs.Inner.Found.{IsFoundAt}
@@ -41,11 +42,11 @@ module _ (bytes : List ℕ) (a : ℕ) where
   whole-decoded w is None = inl refl
   whole-decoded w is (Some insn) = inr (refl, ap (λ o. is_some o) is)
 
-  whole-placed : (word : Option ℕ) → word_at bytes a ≡ word → IsPlaced bytes a (whole (whole_insn word))
+  whole-placed : (word : Option ℕ) → word_at bytes a ≡ word → IsPlaced bytes a (whole (whole_insn (extensions_of bytes) word))
   whole-placed None is = inl refl
-  whole-placed (Some w) is = whole-decoded w is (whole_insn (Some w))
+  whole-placed (Some w) is = whole-decoded w is (whole_insn (extensions_of bytes) (Some w))
 
-  by-half : (half : Option ℕ) → IsPlaced bytes a (option_map_or (placed_by bytes a) half bad)
+  by-half : (half : Option ℕ) → IsPlaced bytes a (option_map_or (placed_by (extensions_of bytes) bytes a) half bad)
   by-half None = inl refl
   by-half (Some half) =
       cond_both (half % 4 == 3) _ _ (IsPlaced bytes a)

@@ -1,13 +1,15 @@
--- Only a jump through a register that links to x0 and is not a return has a table, and its first
--- halfword tells it, but for whether a JALR is a return.
-use Rattle.std.proofs.Common.{◌≡◌, ◌≢◌, ℕ, ◌/◌, ◌%◌, ◌^◌, ◌<◌, ◌==◌, ◌&&◌, Bool, true, false, not, cond, List, [], ◌∷◌, ◌++◌, Option, Some, None, refl, sym, ap, ◌∙◌, subst, inl, inr, arith}
-use Rattle.std.specs.Prelude.{ℤ}
+-- Only a jump through a register has a table, and its first halfword tells it, but for which register a
+-- JALR goes through.
+use Rattle.std.proofs.Common.{◌≡◌, ◌≢◌, ℕ, ◌/◌, ◌%◌, ◌^◌, ◌<◌, ◌==◌, ◌&&◌, ◌||◌, Bool, true, false, not, cond, List, [], ◌∷◌, ◌++◌, Option, Some, None, refl, sym, ap, ◌∙◌, subst, inl, inr, arith}
+use Rattle.std.specs.Prelude.{ℤ, IfSome}
 use Rattle.std.specs.List.{list_all}
 use Rattle.std.specs.Option.{option_map, option_map_or, option_and_then, option_or}
 use Rattle.std.proofs.lemmas.Bool.{cases_eq, cases_Bool, false≢true, ne_eqb, eqb-false, and_left, and_right, cond_both, cond-true, cond-false}
 use Rattle.std.proofs.lemmas.Bool.Decides.{nat_tests}
 use Rattle.std.proofs.lemmas.Option.{same_Some, none-some}
 use Rattle.elf_image.specs.declared.section.Section.{Section}
+use Rattle.elf_image.specs.declared.extensions.Extensions.{Extensions}
+use Rattle.elf_image.specs.Architecture.{extensions_of}
 use Rattle.elf_image.specs.Code.{section_start, half_at, word_at, word_in, code_section_of}
 use Rattle.elf_image.specs.Number.{u16_at, u32_at}
 use Rattle.elf_image.specs.Sections.{file_offset, holds_bytes}
@@ -26,14 +28,17 @@ use Rattle.rv_float.specs.Table as floats
 use Rattle.rv_float.specs.Forms.{float_expansion, float_forms}
 use Rattle.rv_flow.specs.declared.placed.Placed.{Placed}
 use Rattle.rv_flow.specs.declared.raw.RawFlow.TheVariants as raw
-use Rattle.rv_flow.specs.Placed.{placed_at, placed_by, word_insn, compressed_insn, whole, whole_insn, bad}
+use Rattle.rv_extensions.specs.Table.{extension_instruction}
+use Rattle.rv_extensions.specs.Forms.{extension_form}
+use Rattle.rv_flow.specs.Placed.{placed_at, placed_by, rv64gc_insn, word_insn, compressed_insn, whole, whole_insn, bad}
 use Rattle.rv_flow.specs.Raw.{raw_flow_at, raw_flow_by, insn_flow, jalr_flow, pair_target, address_plus, is_unimp}
 use Rattle.jump_table.specs.Table.{table_at, table_through, jump_register}
-use Rattle.code_view.specs.RegisterJump.{is_link_register, is_jump_by_c_jr, is_register_jump, is_register_jump_at}
+use Rattle.jump_table.proofs.Extensions as extensions
+use Rattle.code_view.specs.RegisterJump.{is_link_register, is_jump_by_c_jr, is_jump_by_jalr, is_register_jump, is_register_jump_at}
 
--- A JALR that links to x0 and is not a return.
+-- A JALR that links to x0 and is not a return, or one of a stub, which links to x6 and jumps to x28.
 abbrev jumps : Insn → Bool
-jumps (insns.Jalr rd rs1 imm) = rd == 0 && not (is_link_register rs1)
+jumps (insns.Jalr rd rs1 imm) = (rd == 0 && not (is_link_register rs1)) || (rd == 6 && rs1 == 28)
 jumps _ = false
 
 abbrev jumps_some : Option Insn → Bool
@@ -50,13 +55,15 @@ stop-none : (b : Bool) → jump_register (cond b raw.Stop raw.Straight) ≡ None
 stop-none true = refl
 stop-none false = refl
 
-unpaired-none : (zero link : Bool) (rs1 : ℕ) (imm : ℤ) → (zero && not link) ≡ false → jump_register (cond zero (cond link raw.Return (raw.RegisterJump rs1 imm)) raw.IndirectCall) ≡ None
-unpaired-none false link rs1 imm never = refl
-unpaired-none true true rs1 imm never = refl
-unpaired-none true false rs1 imm never = absurd (false≢true (sym never))
+unpaired-none : (zero link stub : Bool) (rs1 : ℕ) (imm : ℤ) → ((zero && not link) || stub) ≡ false
+    → jump_register (cond zero (cond link raw.Return (raw.RegisterJump rs1 imm)) (cond stub (raw.RegisterJump rs1 imm) raw.IndirectCall)) ≡ None
+unpaired-none false link false rs1 imm never = refl
+unpaired-none false link true rs1 imm never = absurd (false≢true (sym never))
+unpaired-none true true stub rs1 imm never = refl
+unpaired-none true false stub rs1 imm never = absurd (false≢true (sym never))
 
-jalr-none : (rd rs1 : ℕ) (imm : ℤ) (paired : Option ℕ) → (rd == 0 && not (is_link_register rs1)) ≡ false → jump_register (jalr_flow rd rs1 imm paired) ≡ None
-jalr-none rd rs1 imm None never = unpaired-none (rd == 0) (is_link_register rs1) rs1 imm never
+jalr-none : (rd rs1 : ℕ) (imm : ℤ) (paired : Option ℕ) → jumps (insns.Jalr rd rs1 imm) ≡ false → jump_register (jalr_flow rd rs1 imm paired) ≡ None
+jalr-none rd rs1 imm None never = unpaired-none (rd == 0) (is_link_register rs1) (rd == 6 && rs1 == 28) rs1 imm never
 jalr-none rd rs1 imm (Some target) never = either-none (rd == 0) target target
 
 module _ (bytes : List ℕ) (a : ℕ) where
@@ -79,6 +86,9 @@ module _ (bytes : List ℕ) (a : ℕ) where
   insn-none insns.Ecall never = refl
   insn-none insns.Ebreak never = refl
   insn-none (insns.Float rd rs1) never = refl
+  insn-none (insns.ShiftAdd shift zero_extended rd rs1 rs2) never = refl
+  insn-none (insns.Extend kind rd rs1) never = refl
+  insn-none (insns.Extension reads writes) never = refl
 
   flow-none : (o : Option Insn) → jumps_some o ≡ false → jump_register (raw_flow_by bytes a o) ≡ None
   flow-none None never = refl
@@ -92,7 +102,7 @@ module _ (bytes : List ℕ) (a : ℕ) where
   unfolding table_at
   table-none never = through-none (section_start bytes a) (jump_register (raw_flow_at bytes a)) (flow-none (placed_at bytes a).insn never)
 
--- ---- the word of such an instruction: opcode 67, rd 0, and rs1 not a link register
+-- ---- the word of such an instruction: opcode 67, and rd 0 or 6
 
 parts : (j rest : Bool) → (not j && rest) ≡ true → (j ≡ false) × (rest ≡ true)
 parts true rest h = absurd (cc)
@@ -112,13 +122,31 @@ others-no : (w : ℕ) → list_all (λ (r : Row). not (jumps (r.meaning w))) (wi
 unfolding rows upper_rows jump_rows branch_rows load_rows store_rows imm_rows imm_w_rows reg_rows reg_w_rows atomic_rows_of atomic_rows fence_rows system_rows
 others-no w = refl
 
-base-no : (w : ℕ) → w % 2 ^ 12 ≢ 0x67 → jumps_some (instruction w) ≡ false
+both-no : (a b : Bool) → a ≡ false → b ≡ false → (a || b) ≡ false
+both-no false b first second = second
+both-no true b first second = absurd (false≢true (sym first))
+
+neither : (a b : Bool) → (a || b) ≡ false → (a ≡ false) × (b ≡ false)
+neither false b none = (refl, none)
+neither true b none = absurd (false≢true (sym none))
+
+-- A word does not begin with a JALR that links to x0 or x6.
+not_by_jalr : (w : ℕ) → w % 2 ^ 12 ≢ 0x67 → w % 2 ^ 12 ≢ 0x367 → is_jump_by_jalr w ≡ false
+not_by_jalr w first second = both-no (w % 2 ^ 12 == 0x67) (w % 2 ^ 12 == 0x367) (ne_eqb (w % 2 ^ 12) 0x67 first) (ne_eqb (w % 2 ^ 12) 0x367 second)
+
+jalr-no : (w : ℕ) → opcode w ≡ 0x67 → is_jump_by_jalr w ≡ false → jumps (insns.Jalr (rd w) (rs1 w) (i_immediate w)) ≡ false
+jalr-no w is other =
+    let none = neither (w % 2 ^ 12 == 0x67) (w % 2 ^ 12 == 0x367) other in
+    both-no (rd w == 0 && not (is_link_register (rs1 w))) (rd w == 6 && rs1 w == 28)
+    (and_left (rd w == 0) (not (is_link_register (rs1 w))) (ne_eqb (rd w) 0 (λ zero. eqb-false (w % 2 ^ 12) 0x67 none.0 (omega (arith, is, zero)))))
+    (and_left (rd w == 6) (rs1 w == 28) (ne_eqb (rd w) 6 (λ six. eqb-false (w % 2 ^ 12) 0x367 none.1 (omega (arith, is, six)))))
+
+base-no : (w : ℕ) → is_jump_by_jalr w ≡ false → jumps_some (instruction w) ≡ false
 unfolding instruction
 base-no w other = elim (cases_eq (opcode w) 0x67) [
   | inl is ↦
       subst (λ (o : Option Insn). jumps_some o ≡ false) (sym (jalr_cases w is))
-      (pick (funct3 w == 0) (insns.Jalr (rd w) (rs1 w) (i_immediate w)) None
-      (and_left (rd w == 0) (not (is_link_register (rs1 w))) (ne_eqb (rd w) 0 (λ zero. other (omega (arith, is, zero))))) refl)
+      (pick (funct3 w == 0) (insns.Jalr (rd w) (rs1 w) (i_immediate w)) None (jalr-no w is other) refl)
   | inr never ↦
       subst (λ (o : Option Insn). jumps_some o ≡ false) (first_meaning-without w (opcode_is 0x67) (ne_eqb (opcode w) 0x67 never) rows)
       (rows-no w (without (opcode_is 0x67) rows) (others-no w))
@@ -138,55 +166,72 @@ either-no : (o p : Option Insn) → jumps_some o ≡ false → jumps_some p ≡ 
 either-no None p first second = second
 either-no (Some insn) p first second = first
 
-word-no : (w : ℕ) → w % 2 ^ 12 ≢ 0x67 → jumps_some (word_insn w) ≡ false
-word-no w other = either-no (instruction w) (float_instruction w) (base-no w other) (float-no w)
+rv64gc-no : (w : ℕ) → is_jump_by_jalr w ≡ false → jumps_some (rv64gc_insn w) ≡ false
+rv64gc-no w other = either-no (instruction w) (float_instruction w) (base-no w other) (float-no w)
 
-opcode-no : (w o : ℕ) → opcode w ≡ o → o ≢ 0x67 → jumps_some (word_insn w) ≡ false
-opcode-no w o is other = word-no w (λ e. other (omega (arith, is, e)))
+-- an instruction of an extension does not jump
+plain-no : (insn : Insn) → extensions.IsPlain insn → jumps insn ≡ false
+plain-no (insns.Jalr rd rs1 imm) plain = absurd plain.1
+plain-no _ plain = refl
+
+plain_one-no : (o : Option Insn) → IfSome o extensions.IsPlain → jumps_some o ≡ false
+plain_one-no None plain = refl
+plain_one-no (Some insn) plain = plain-no insn plain
+
+word-no : (e : Extensions) (w : ℕ) → is_jump_by_jalr w ≡ false → jumps_some (word_insn e w) ≡ false
+word-no e w other = either-no (rv64gc_insn w) (extension_instruction e w) (rv64gc-no w other) (plain_one-no (extension_instruction e w) (extensions.extension_plain e w))
+
+opcode-no : (w o : ℕ) → opcode w ≡ o → o ≢ 0x67 → jumps_some (rv64gc_insn w) ≡ false
+opcode-no w o is other = rv64gc-no w (not_by_jalr w (λ e. other (omega (arith, is, e))) (λ e. other (omega (arith, is, e))))
 
 -- ---- the halfword of such an instruction: C.JR, and its register not a link register
 
-r-no : (o f3 f7 rd rs1 rs2 : ℕ) → o < 2 ^ 7 → o ≢ 0x67 → jumps_some (word_insn (r_type o f3 f7 rd rs1 rs2)) ≡ false
+r-no : (o f3 f7 rd rs1 rs2 : ℕ) → o < 2 ^ 7 → o ≢ 0x67 → jumps_some (rv64gc_insn (r_type o f3 f7 rd rs1 rs2)) ≡ false
 r-no o f3 f7 rd rs1 rs2 fits other = opcode-no (r_type o f3 f7 rd rs1 rs2) o (r_type-opcode o f3 f7 rd rs1 rs2 fits) other
 
-i-no : (o f3 rd rs1 immediate : ℕ) → o < 2 ^ 7 → o ≢ 0x67 → jumps_some (word_insn (i_type o f3 rd rs1 immediate)) ≡ false
+i-no : (o f3 rd rs1 immediate : ℕ) → o < 2 ^ 7 → o ≢ 0x67 → jumps_some (rv64gc_insn (i_type o f3 rd rs1 immediate)) ≡ false
 i-no o f3 rd rs1 immediate fits other = opcode-no (i_type o f3 rd rs1 immediate) o (i_type-opcode o f3 rd rs1 immediate fits) other
 
-s-no : (o f3 rs1 rs2 immediate : ℕ) → o < 2 ^ 7 → o ≢ 0x67 → jumps_some (word_insn (s_type o f3 rs1 rs2 immediate)) ≡ false
+s-no : (o f3 rs1 rs2 immediate : ℕ) → o < 2 ^ 7 → o ≢ 0x67 → jumps_some (rv64gc_insn (s_type o f3 rs1 rs2 immediate)) ≡ false
 s-no o f3 rs1 rs2 immediate fits other = opcode-no (s_type o f3 rs1 rs2 immediate) o (s_type-opcode o f3 rs1 rs2 immediate fits) other
 
-b-no : (o f3 rs1 rs2 offset : ℕ) → o < 2 ^ 7 → o ≢ 0x67 → jumps_some (word_insn (b_type o f3 rs1 rs2 offset)) ≡ false
+b-no : (o f3 rs1 rs2 offset : ℕ) → o < 2 ^ 7 → o ≢ 0x67 → jumps_some (rv64gc_insn (b_type o f3 rs1 rs2 offset)) ≡ false
 b-no o f3 rs1 rs2 offset fits other = opcode-no (b_type o f3 rs1 rs2 offset) o (b_type-opcode o f3 rs1 rs2 offset fits) other
 
-u-no : (o rd immediate : ℕ) → o < 2 ^ 7 → o ≢ 0x67 → jumps_some (word_insn (u_type o rd immediate)) ≡ false
+u-no : (o rd immediate : ℕ) → o < 2 ^ 7 → o ≢ 0x67 → jumps_some (rv64gc_insn (u_type o rd immediate)) ≡ false
 u-no o rd immediate fits other = opcode-no (u_type o rd immediate) o (u_type-opcode o rd immediate fits) other
 
-j-no : (o rd offset : ℕ) → o < 2 ^ 7 → o ≢ 0x67 → jumps_some (word_insn (j_type o rd offset)) ≡ false
+j-no : (o rd offset : ℕ) → o < 2 ^ 7 → o ≢ 0x67 → jumps_some (rv64gc_insn (j_type o rd offset)) ≡ false
 j-no o rd offset fits other = opcode-no (j_type o rd offset) o (j_type-opcode o rd offset fits) other
 
 -- a JALR that links to x1
-link-no : (rs1 : ℕ) → jumps_some (word_insn (i_type 0x67 0 1 rs1 0)) ≡ false
+link-no : (rs1 : ℕ) → jumps_some (rv64gc_insn (i_type 0x67 0 1 rs1 0)) ≡ false
 link-no rs1 =
     let code = i_type-opcode 0x67 0 1 rs1 0 (omega arith) in
     let link = i_type-rd 0x67 0 1 rs1 0 (omega arith) (omega arith) in
-    word-no (i_type 0x67 0 1 rs1 0) (λ e. omega (arith, code, link, e))
+    rv64gc-no (i_type 0x67 0 1 rs1 0) (not_by_jalr (i_type 0x67 0 1 rs1 0) (λ e. omega (arith, code, link, e)) (λ e. omega (arith, code, link, e)))
 
 -- and one through a link register
-return-no : (r : ℕ) → r < 2 ^ 5 → is_link_register r ≡ true → jumps_some (word_insn (i_type 0x67 0 0 r 0)) ≡ false
+return-no : (r : ℕ) → r < 2 ^ 5 → is_link_register r ≡ true → jumps_some (rv64gc_insn (i_type 0x67 0 0 r 0)) ≡ false
 return-no r fits link =
     let w = i_type 0x67 0 0 r 0 in
     let register = i_type-rs1 0x67 0 0 r 0 (omega arith) (omega arith) (omega arith) fits in
+    let zero = i_type-rd 0x67 0 0 r 0 (omega arith) (omega arith) in
     let return = ap (λ s. not (is_link_register s)) register ∙ ap not link in
+    let none =
+    both-no (rd w == 0 && not (is_link_register (rs1 w))) (rd w == 6 && rs1 w == 28)
+    (and_right (rd w == 0) (not (is_link_register (rs1 w))) return)
+    (and_left (rd w == 6) (rs1 w == 28) (ap (λ n. n == 6) zero)) in
     either-no (instruction w) (float_instruction w)
     (subst (λ (o : Option Insn). jumps_some o ≡ false) (sym (jalr_cases w (i_type-opcode 0x67 0 0 r 0 (omega arith))))
-    (pick (funct3 w == 0) (insns.Jalr (rd w) (rs1 w) (i_immediate w)) None (and_right (rd w == 0) (not (is_link_register (rs1 w))) return) refl))
+    (pick (funct3 w == 0) (insns.Jalr (rd w) (rs1 w) (i_immediate w)) None none refl))
     (float-no w)
 
-module _ (h : ℕ) (never : is_jump_by_c_jr h ≡ false) where
+module _ (e : Extensions) (h : ℕ) (never : is_jump_by_c_jr h ≡ false) where
   -- None of the forms that hold of the halfword is one.
   abbrev NoneJumps : List Form → Type 0
   NoneJumps [] = Unit {0}
-  NoneJumps (x ∷ xs) = (x.holds h ≡ true → jumps_some (word_insn (x.word h)) ≡ false) × NoneJumps xs
+  NoneJumps (x ∷ xs) = (x.holds h ≡ true → jumps_some (rv64gc_insn (x.word h)) ≡ false) × NoneJumps xs
 
   join : (xs ys : List Form) → NoneJumps xs → NoneJumps ys → NoneJumps (xs ++ ys)
   join [] ys here there = there
@@ -312,17 +357,20 @@ module _ (h : ℕ) (never : is_jump_by_c_jr h ≡ false) where
   forms-no = join (quadrant_0 ++ quadrant_1) quadrant_2 (join quadrant_0 quadrant_1 zero-no one-no) two-no
 
   abbrev IsNoJump : Option ℕ → Type 0
-  IsNoJump word = jumps_some (option_and_then word_insn word) ≡ false
+  IsNoJump word = jumps_some (option_map_or rv64gc_insn word (extension_form e h)) ≡ false
+
+  extension-no : IsNoJump None
+  extension-no = plain_one-no (extension_form e h) (extensions.form_plain e h)
 
   first-no : (xs : List Form) → NoneJumps xs → IsNoJump (first_word xs h)
-  first-no [] none = refl
+  first-no [] none = extension-no
   first-no (x ∷ xs) none = cond_both (x.holds h) (Some (x.word h)) (first_word xs h) IsNoJump (λ held. none.0 held) (λ _. first-no xs none.1)
 
   one_of-no : (o p : Option ℕ) → IsNoJump o → IsNoJump p → IsNoJump (option_or o p)
   one_of-no None p first second = second
   one_of-no (Some word) p first second = first
 
-  compressed-no : jumps_some (compressed_insn h) ≡ false
+  compressed-no : jumps_some (compressed_insn e h) ≡ false
   unfolding expansion float_expansion
   compressed-no = one_of-no (expansion h) (float_expansion h) (first-no forms forms-no) (first-no float_forms floating-no)
 
@@ -350,21 +398,21 @@ module _ (bytes : List ℕ) (a : ℕ) where
   whole-no None none = refl
   whole-no (Some insn) none = none
 
-  long-no : (half : ℕ) → half_at bytes a ≡ Some half → (half % 2 ^ 12 == 0x67) ≡ false → (word : Option ℕ) → word_at bytes a ≡ word → jumps_some (whole (whole_insn word)).insn ≡ false
+  long-no : (half : ℕ) → half_at bytes a ≡ Some half → is_jump_by_jalr half ≡ false → (word : Option ℕ) → word_at bytes a ≡ word → jumps_some (whole (whole_insn (extensions_of bytes) word)).insn ≡ false
   long-no half is never None there = refl
   long-no half is never (Some w) there =
-      whole-no (word_insn w)
-      (word-no w (λ e. eqb-false (half % 2 ^ 12) 0x67 never (sym (begins bytes a half w (code_section_of bytes a) is there) ∙ e)))
+      whole-no (word_insn (extensions_of bytes) w)
+      (word-no (extensions_of bytes) w (ap (λ n. (n == 0x67) || (n == 0x367)) (begins bytes a half w (code_section_of bytes a) is there) ∙ never))
 
-  half-no : (half : ℕ) → half_at bytes a ≡ Some half → is_register_jump half ≡ false → jumps_some (placed_by bytes a half).insn ≡ false
+  half-no : (half : ℕ) → half_at bytes a ≡ Some half → is_register_jump half ≡ false → jumps_some (placed_by (extensions_of bytes) bytes a half).insn ≡ false
   half-no half is never =
       cond_both (half % 4 == 3) _ _ (λ (p : Placed). jumps_some p.insn ≡ false)
-      (λ long. cond_both (half / 4 % 8 == 7) bad (whole (whole_insn (word_at bytes a))) (λ (p : Placed). jumps_some p.insn ≡ false)
+      (λ long. cond_both (half / 4 % 8 == 7) bad (whole (whole_insn (extensions_of bytes) (word_at bytes a))) (λ (p : Placed). jumps_some p.insn ≡ false)
       (λ _. refl)
       (λ _. long-no half is (sym (cond-true (half % 4 == 3) _ _ long) ∙ never) (word_at bytes a) refl))
-      (λ short. compressed-no half (sym (cond-false (half % 4 == 3) _ _ short) ∙ never))
+      (λ short. compressed-no (extensions_of bytes) half (sym (cond-false (half % 4 == 3) _ _ short) ∙ never))
 
-  placed-no : (o : Option ℕ) → half_at bytes a ≡ o → option_map_or is_register_jump o false ≡ false → jumps_some (option_map_or (placed_by bytes a) o bad).insn ≡ false
+  placed-no : (o : Option ℕ) → half_at bytes a ≡ o → option_map_or is_register_jump o false ≡ false → jumps_some (option_map_or (placed_by (extensions_of bytes) bytes a) o bad).insn ≡ false
   placed-no None is never = refl
   placed-no (Some half) is never = half-no half is never
 

@@ -3,10 +3,10 @@
 use Rattle.std.proofs.Common.{◌≡◌, ℕ, true, false, List, [], ◌∷◌, map, refl}
 use Rattle.code_view.specs.RegisterJump.{is_register_jump}
 
--- c.jr through sp, t1, s1, a0, a5 and t6; and the same first halfword of jr a5 and of jr ra, a return,
--- where these have 32 bits
+-- c.jr through sp, t1, s1, a0, a5 and t6; the same first halfword of jr a5 and of jr ra, a return, where
+-- these have 32 bits; and jalr t1, t3, of a stub
 abbrev told : List ℕ
-told = 0x8102 ∷ 0x8302 ∷ 0x8482 ∷ 0x8502 ∷ 0x8782 ∷ 0x8f82 ∷ 0x8067 ∷ []
+told = 0x8102 ∷ 0x8302 ∷ 0x8482 ∷ 0x8502 ∷ 0x8782 ∷ 0x8f82 ∷ 0x8067 ∷ 0x0367 ∷ []
 
 told_rows : map is_register_jump told ≡ map (λ half. true) told
 told_rows = refl

@@ -15,12 +15,14 @@ is_jump_by_c_jr half =
     half % 2 ^ 7 == 0b10 && half / 2 ^ 12 % 16 == 0b1000
     && not (is_link_register (half / 2 ^ 7 % 32))
 
--- The first halfword of a jump through a register that links to x0 and is not a return by C.JR. It
--- is that of a JALR, whose opcode is 67 and whose rd is 0, or of such a C.JR. A JALR counts
--- whatever its register, which its first halfword does not tell.
+-- A JALR, whose opcode is 67, that links to x0, or to x6 as a stub of an indirect function does. It
+-- counts whatever its register, which its first halfword does not tell.
+abbrev pub is_jump_by_jalr : ℕ → Bool
+is_jump_by_jalr half = half % 2 ^ 12 == 0x067 || half % 2 ^ 12 == 0x367
+
+-- The first halfword of a jump through a register that is not a return by C.JR.
 abbrev pub is_register_jump : ℕ → Bool
-is_register_jump half =
-    if half % 4 == 3 then half % 2 ^ 12 == 0x67 else is_jump_by_c_jr half
+is_register_jump half = if half % 4 == 3 then is_jump_by_jalr half else is_jump_by_c_jr half
 
 -- The same of the halfword at a code address.
 abbrev pub is_register_jump_at : List ℕ → ℕ → Bool

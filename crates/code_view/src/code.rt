@@ -107,11 +107,12 @@ impl<'a> Code<'a> {
         }
     }
 
-    /// The code addresses whose first halfword is that of a jump through a register that links to
-    /// x0 and is not a return by C.JR. No other address has a jump table. An instruction of the
-    /// program may begin there or not. A return by C.JR goes through x1 or x5, the link registers
-    /// (RISC-V Unprivileged ISA 20240411, section 2.5.1, the table of return-address stack hints).
-    /// A return by JALR is among the answers, since its first halfword does not tell its register.
+    /// The code addresses whose first halfword is that of a jump through a register that is not a
+    /// return by C.JR: it links to x0, or to x6 as a stub of an indirect function does. No other
+    /// address has a jump table. An instruction of the program may begin there or not. A return by
+    /// C.JR goes through x1 or x5, the link registers (RISC-V Unprivileged ISA 20240411, section
+    /// 2.5.1, the table of return-address stack hints). A return by JALR is among the answers,
+    /// since its first halfword does not tell its register.
     /// Time: O(bytes of code).
     pub fn register_jumps(&self, alloc: Global) -> Result<Vec<u64>, Memory>
         ensures exact { IfOk result (λ jumps. AreRegisterJumps self.now.bytes jumps.items) }
@@ -155,9 +156,9 @@ impl<'a> Code<'a> {
         }
     }
 
-    /// Whether the instruction at the code address `a` is a jump through a register that links to
-    /// x0 and is not a return by C.JR, by its first halfword. No other instruction has a jump
-    /// table. It decodes nothing.
+    /// Whether the instruction at the code address `a` is a jump through a register that is not a
+    /// return by C.JR, by its first halfword, as in [`register_jumps`](Self::register_jumps). No
+    /// other instruction has a jump table. It decodes nothing.
     pub fn jumps_by_register(&self, a: u64) -> bool
         requires { IsTrue (is_code self.now.bytes a) }
         ensures form { result ≡ is_register_jump_at self.now.bytes a }

@@ -2,7 +2,8 @@
 
 ghost use Rattle.std.specs.Prelude.{◌≡◌, ◌↔◌, ℕ, ◌+◌, ◌*◌, ◌<◌, ◌≤◌, IfOk, IfSome, OnOk};
 ghost use Rattle.elf_image.specs.Header as header;
-ghost use Rattle.code_view.specs.RegisterJump.{is_jump_by_c_jr, is_register_jump};
+ghost use Rattle.code_view.specs.RegisterJump.{is_jump_by_c_jr, is_jump_by_jalr};
+ghost use Rattle.code_view.specs.RegisterJump.{is_register_jump};
 ghost use Rattle.code_view.specs.RegisterJump.{IsBetween, AreRegisterJumpsBetween};
 ghost use Rattle.code_view.specs.Inner.{AreJumpsOfFirst};
 
@@ -10,14 +11,21 @@ use crate::Memory;
 use elf_image::{Image, Span, u16_at};
 use std::alloc::Global;
 
-/// Whether an instruction that begins with the halfword `half` jumps through a register, links to
-/// x0 and is not a return by C.JR. It is a JALR, whose opcode is 67 and whose rd is 0, or a C.JR
-/// through another register than a link register. No halfword is both: the low two bits of a JALR
-/// are 11, and those of a C.JR are 10.
+/// Whether an instruction that begins with the halfword `half` jumps through a register and is not
+/// a return by C.JR: a JALR, or a C.JR through another register than a link register. No halfword
+/// is both: the low two bits of a JALR are 11, and those of a C.JR are 10.
 pub(crate) fn is_register_jump(half: u16) -> bool
     ensures { result ≡ is_register_jump half }
 {
-    half & 0xFFF == 0x067 || is_jump_by_c_jr(half)
+    is_jump_by_jalr(half) || is_jump_by_c_jr(half)
+}
+
+/// Whether `half` is that of a JALR, whose opcode is 67, that links to x0, or to x6 as a stub of an
+/// indirect function does.
+fn is_jump_by_jalr(half: u16) -> bool
+    ensures { result ≡ is_jump_by_jalr half }
+{
+    half & 0xFFF == 0x067 || half & 0xFFF == 0x367
 }
 
 /// Whether `half` is a C.JR that is not a return: its register is neither x1 nor x5, the link
@@ -31,8 +39,7 @@ fn is_jump_by_c_jr(half: u16) -> bool
 }
 
 /// The code addresses of an image, above `after` and up to `last`, whose first halfword is that of
-/// a jump through a register that links to x0 and is not a return by C.JR. An instruction may begin
-/// there or not.
+/// a jump through a register that is not a return by C.JR. An instruction may begin there or not.
 pub(crate) fn register_jumps_between(
     alloc: Global,
     image: &Image,

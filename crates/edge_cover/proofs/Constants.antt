@@ -1,7 +1,7 @@
 -- No ADDI of 32 bits that sets a register to a constant ends with a halfword that is one of 16 bits.
 use Rattle.std.proofs.Common.{◌≡◌, ◌≢◌, ℕ, ◌^◌, ◌<◌, Bool, true, false, cond, List, [], ◌∷◌, Option, Some, None, eqb, refl, sym, ◌∙◌, subst, arith}
 use Rattle.std.specs.Prelude.{ℤ, ◌&&◌}
-use Rattle.std.specs.Option.{option_or}
+use Rattle.std.specs.Option.{option_and_then, option_or}
 use Rattle.std.proofs.lemmas.Bool.{eqb-true, and_parts}
 use Rattle.std.proofs.lemmas.Option.{same_Some, none-some}
 use Rattle.rv_decode.specs.Fields as fields
@@ -16,7 +16,7 @@ use Rattle.rvc_expand.proofs.Quadrants.{expansion-quadrant_0}
 use Rattle.rvc_expand.proofs.FieldsRead.{i_type-opcode, i_type-rs1, s_type-opcode}
 use Rattle.rv_float.specs.Table as float
 use Rattle.rv_float.specs.Forms.{float_forms, float_expansion}
-use Rattle.rv_flow.specs.Placed.{word_insn, expanded, compressed_insn}
+use Rattle.rv_flow.specs.Placed.{expanded, rv64gc_insn}
 use Rattle.edge_cover.proofs.Pairs.{and_then_some}
 use Rattle.edge_cover.proofs.Tested.{sets}
 
@@ -105,7 +105,7 @@ pub record IsConstantWord (w : ℕ) : Type 0 where
   pub code : fields.opcode w ≡ 0x13
   pub from_zero : fields.rs1 w ≡ 0
 
-pub word_of_constant : (w r : ℕ) (constant : ℤ) → word_insn w ≡ Some (sets r constant) → IsConstantWord w
+pub word_of_constant : (w r : ℕ) (constant : ℤ) → rv64gc_insn w ≡ Some (sets r constant) → IsConstantWord w
 word_of_constant w r constant is = by (instruction w) refl is
   where
     by : (o : Option Insn) → instruction w ≡ o → option_or o (float.float_instruction w) ≡ Some (sets r constant) → IsConstantWord w
@@ -176,10 +176,10 @@ expanded_adds h w low is = by (expansion h) refl is
     by (Some word) found e = first_form (λ h w. AddsToStack w) quadrant_0 of_quadrant_0 h w (sym (expansion-quadrant_0 h low) ∙ found ∙ e)
     by None found e = first_form (λ h w. AddsToStack w) float_forms of_floats h w e
 
-pub no_constant : (h r : ℕ) (constant : ℤ) → bits.field h 1 0 ≡ 0 → compressed_insn h ≡ Some (sets r constant) → ⊥
+pub no_constant : (h r : ℕ) (constant : ℤ) → bits.field h 1 0 ≡ 0 → option_and_then rv64gc_insn (expanded h) ≡ Some (sets r constant) → ⊥
 unfolding AddsToStack
 no_constant h r constant low is =
-    let word = and_then_some word_insn (expanded h) (sets r constant) is in
+    let word = and_then_some rv64gc_insn (expanded h) (sets r constant) is in
     let found = word_of_constant word.0 r constant word.2 in
     let adds : AddsToStack word.0 = expanded_adds h word.0 low word.1 in
     clash (sym (adds found.code) ∙ found.from_zero)

@@ -2,23 +2,25 @@
 -- the bound.
 use Rattle.std.proofs.Common.{◌≡◌, ℕ, zero, suc, ◌+◌, ◌*◌, ◌%◌, ◌^◌, ◌<◌, ◌≤◌, Bool, true, false, cond, List, [], ◌∷◌, Option, Some, None, Contains, refl, sym, ap, ◌∙◌, subst, inl, inr, arith}
 use Rattle.std.specs.Prelude.{pos, negsuc, nat_lt, ◌==◌}
-use Rattle.std.specs.Option.{option_and_then, option_or}
+use Rattle.std.specs.Option.{option_map, option_and_then, option_or}
 use Rattle.std.proofs.lemmas.Bool.{cases_order, ltb-true, eqb-true}
 use Rattle.std.proofs.lemmas.Option.{same_Some, none-some}
 use Rattle.elf_image.specs.Code.{is_code, section_start}
+use Rattle.elf_image.specs.DeclaredTables.{declared_at}
 use Rattle.rv_flow.specs.declared.raw.RawFlow.{RawFlow}
 use Rattle.rv_flow.specs.declared.raw.RawFlow.TheVariants as raw
 use Rattle.rv_flow.specs.Raw.{raw_flow_at}
 use Rattle.jump_table.specs.declared.table.Table.{Table}
 use Rattle.jump_table.specs.declared.bound.BoundTest.{BoundTest}
 use Rattle.jump_table.specs.declared.place.Place.{Place}
+use Rattle.jump_table.specs.declared.values.Form.TheVariants.{Bounded, Open}
 use Rattle.jump_table.specs.declared.values.Value.{Value}
 use Rattle.jump_table.specs.declared.values.Value.TheVariants.{Entry, EntryPlus}
 use Rattle.jump_table.specs.Bound.{bound_test}
 use Rattle.jump_table.specs.Nearest.{evens}
 use Rattle.jump_table.specs.Section.{straight_run}
 use Rattle.jump_table.specs.Values.{bytes_of, at_test, after_run, forgotten}
-use Rattle.jump_table.specs.Table.{entry_at, target_by_entry, kept_target, entry_target, targets_from, place_of, value_behind, place_by_test, bounded_place, place_from, open_place, table_of_count, count_of, table_at_place, jump_register, table_through, table_at}
+use Rattle.jump_table.specs.Table.{entry_at, target_by_entry, kept_target, entry_target, targets_from, place_of, value_behind, place_by_test, bounded_place, place_from, declared_place, place_by_record, width_of, table_without_test, open_place, table_of_count, count_of, table_at_place, jump_register, table_through, table_at}
 use Rattle.cfg_model.proofs.Graphs.Lists.{Contains-here, Contains-later}
 use Rattle.edge_cover.proofs.Pairs.{and_then_some, map_some}
 use Rattle.edge_cover.proofs.Tested.{if_there, found_by}
@@ -82,7 +84,7 @@ pub record IsBoundedAt (bytes : List ℕ) (start j r : ℕ) (test : BoundTest) (
   pub run : List ℕ
   pub value : Value
   pub straight : straight_run bytes start j 16 (test.at + 4) ≡ Some run
-  pub held : after_run false bytes run (at_test test.index) r ≡ value
+  pub held : after_run (Bounded place.bound) bytes run (at_test test.index) r ≡ value
   pub bound : test.bound ≡ Some place.bound
   pub is : place_of false place.bound value ≡ Some place
 
@@ -113,15 +115,15 @@ module _ (bytes : List ℕ) (start j r : ℕ) where
       let by_test = and_then_some (place_by_test bytes start j r) (bound_test bytes start j) place is in
       let same : by_test.0 ≡ test = same_Some by_test.0 test (sym by_test.1 ∙ tested) in
       let placed : place_by_test bytes start j r test ≡ Some place = subst (λ (t : BoundTest). place_by_test bytes start j r t ≡ Some place) same by_test.2 in
-      let bound = and_then_some (λ bound. option_and_then (place_of false bound) (value_behind false bytes start j r (at_test test.index) (test.at + 4))) test.bound place placed in
-      let value = and_then_some (place_of false bound.0) (value_behind false bytes start j r (at_test test.index) (test.at + 4)) place bound.2 in
-      let run = map_some (λ run. after_run false bytes run (at_test test.index) r) (straight_run bytes start j 16 (test.at + 4)) value.0 value.1 in
+      let bound = and_then_some (λ bound. option_and_then (place_of false bound) (value_behind (Bounded bound) bytes start j r (at_test test.index) (test.at + 4))) test.bound place placed in
+      let value = and_then_some (place_of false bound.0) (value_behind (Bounded bound.0) bytes start j r (at_test test.index) (test.at + 4)) place bound.2 in
+      let run = map_some (λ run. after_run (Bounded bound.0) bytes run (at_test test.index) r) (straight_run bytes start j 16 (test.at + 4)) value.0 value.1 in
       let at_bound = (place_bound false bound.0 value.0 place value.2).0 in
       record {
         run = run.0;
         value = value.0;
         straight = run.1;
-        held = run.2;
+        held = ap (λ n. after_run (Bounded n) bytes run.0 (at_test test.index) r) at_bound ∙ run.2;
         bound = bound.1 ∙ ap (λ n. Some n) (sym at_bound);
         is = ap (λ n. place_of false n value.0) at_bound ∙ value.2;
       }
@@ -130,8 +132,14 @@ module _ (bytes : List ℕ) (start j r : ℕ) where
   unfolding open_place
   open_is place is =
       let found = found_by (place_from bytes start j r) start j (evens 4 31) place is in
-      let value = and_then_some (place_of true 1024) (value_behind true bytes start j r forgotten found.0) place found.1 in
+      let value = and_then_some (place_of true 1024) (value_behind Open bytes start j r forgotten found.0) place found.1 in
       (place_bound true 1024 value.0 place value.2).1
+
+  declared_is : (place : Place) → declared_place bytes j ≡ Some place → place.is_open ≡ true
+  declared_is place is =
+      let record_is = and_then_some (λ declared. option_map (place_by_record declared) (width_of declared.size)) (declared_at bytes j) place is in
+      let width = map_some (place_by_record record_is.0) (width_of record_is.0.size) place record_is.2 in
+      ap (λ (p : Place). p.is_open) (sym width.2)
 
 -- the table at a place
 pub record IsTableAt (bytes : List ℕ) (place : Place) (table : Table) : Type 0 where
@@ -195,8 +203,20 @@ module _ (bytes : List ℕ) (start j : ℕ) (test : BoundTest) (table : Table) (
       clash : true ≡ false → ⊥
       clash e = cc
 
+      -- a table without a test is open
+      not_open : (place : Place) → table_at_place bytes place ≡ Some table → place.is_open ≡ true → ⊥
+      not_open place at is_open = clash (sym ((table_of bytes place table at).same_open ∙ is_open) ∙ bounded)
+
+      without : (o : Option Table) → option_and_then (table_at_place bytes) (declared_place bytes j) ≡ o → option_or o (option_and_then (table_at_place bytes) (open_place bytes start j r)) ≡ Some table → ⊥
+      without (Some first) found e =
+          let place = and_then_some (table_at_place bytes) (declared_place bytes j) first found in
+          not_open place.0 (place.2 ∙ e) (declared_is bytes start j r place.0 place.1)
+      without None found e =
+          let place = and_then_some (table_at_place bytes) (open_place bytes start j r) table e in
+          not_open place.0 place.2 (open_is bytes start j r place.0 place.1)
+
       by : (o : Option Table) → option_and_then (table_at_place bytes) (bounded_place bytes start j r) ≡ o
-          → option_or o (option_and_then (table_at_place bytes) (open_place bytes start j r)) ≡ Some table → HasPlace bytes start j test table
+          → option_or o (table_without_test bytes start j r) ≡ Some table → HasPlace bytes start j test table
       by (Some first) found e =
           let place = and_then_some (table_at_place bytes) (bounded_place bytes start j r) first found in
           record {
@@ -206,10 +226,7 @@ module _ (bytes : List ℕ) (start j : ℕ) (test : BoundTest) (table : Table) (
             stands = bounded_at bytes start j r test place.0 tested place.1;
             is = table_of bytes place.0 table (place.2 ∙ e);
           }
-      by None found e =
-          let place = and_then_some (table_at_place bytes) (open_place bytes start j r) table e in
-          let open_too = (table_of bytes place.0 table place.2).same_open ∙ open_is bytes start j r place.0 place.1 in
-          absurd (clash (sym open_too ∙ bounded))
+      by None found e = absurd (without (option_and_then (table_at_place bytes) (declared_place bytes j)) refl e)
 
   pub has_place : section_start bytes j ≡ Some start → table_at bytes j ≡ Some table → HasPlace bytes start j test table
   unfolding table_at

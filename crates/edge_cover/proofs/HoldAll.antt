@@ -13,6 +13,7 @@ use Rattle.rv_operations.specs.Arithmetic.{sum}
 use Rattle.rv_operations.specs.Loads.{load_size}
 use Rattle.rv_operations.specs.Operations.{reg_result}
 use Rattle.rv_flow.specs.Raw.{address_plus}
+use Rattle.jump_table.specs.declared.values.Form.TheVariants.{Bounded}
 use Rattle.jump_table.specs.declared.values.Value.{Value}
 use Rattle.jump_table.specs.declared.values.Value.TheVariants.{Unknown, Const}
 use Rattle.jump_table.specs.Values.{Registers, load_value, reg_value, add_value, sum_of, after}
@@ -145,22 +146,25 @@ module _ (bytes : List ℕ) (small : All (λ byte. byte < 256) bytes) (index : �
 
   -- ---- the instructions
 
-  pub step_keeps : (insn : Insn) → KeepsAll bytes index (after false state.pc insn known) (insn_step bytes length insn state memory)
-  step_keeps (insns.Lui rd imm) = by_write rd _ _ refl
-  step_keeps (insns.Auipc rd imm) = by_write rd _ _ refl
-  step_keeps (insns.Jal rd offset) = unknown rd _
-  step_keeps (insns.Jalr rd rs1 imm) = unknown rd _
-  step_keeps (insns.Branch kind rs1 rs2 offset) = hold
-  step_keeps (insns.Load kind rd rs1 imm) = load_keeps kind rd rs1 imm (read_at bytes memory (load_size kind) (address_plus (held state.registers rs1) imm)) refl
-  step_keeps (insns.Store kind rs1 rs2 imm) = store_keeps known _ _ _ _ hold
-  step_keeps (insns.Imm kind rd rs1 imm) = by_write rd _ _ (by_imm bytes index below kind imm (known rs1) (held state.registers rs1) (hold rs1))
-  step_keeps (insns.ImmW kind rd rs1 imm) = unknown rd _
-  step_keeps (insns.Reg kind rd rs1 rs2) = by_write rd _ _ (reg_keeps kind rs1 rs2)
-  step_keeps (insns.RegW kind rd rs1 rs2) = unknown rd _
-  step_keeps (insns.Atomic kind wide acquire release rd rs1 rs2) = atomic_keeps kind wide rd (held state.registers rs1) (held state.registers rs2)
-  step_keeps insns.Fence = hold
-  step_keeps insns.FenceI = hold
-  step_keeps insns.Ecall = tt
-  step_keeps insns.Ebreak = tt
-  step_keeps (insns.Csr kind rd source csr) = tt
-  step_keeps (insns.Float writes reads) = tt
+  pub step_keeps : (bound : ℕ) (insn : Insn) → KeepsAll bytes index (after (Bounded bound) state.pc insn known) (insn_step bytes length insn state memory)
+  step_keeps bound (insns.Lui rd imm) = by_write rd _ _ refl
+  step_keeps bound (insns.Auipc rd imm) = by_write rd _ _ refl
+  step_keeps bound (insns.Jal rd offset) = unknown rd _
+  step_keeps bound (insns.Jalr rd rs1 imm) = unknown rd _
+  step_keeps bound (insns.Branch kind rs1 rs2 offset) = hold
+  step_keeps bound (insns.Load kind rd rs1 imm) = load_keeps kind rd rs1 imm (read_at bytes memory (load_size kind) (address_plus (held state.registers rs1) imm)) refl
+  step_keeps bound (insns.Store kind rs1 rs2 imm) = store_keeps known _ _ _ _ hold
+  step_keeps bound (insns.Imm kind rd rs1 imm) = by_write rd _ _ (by_imm bytes index below bound kind imm (known rs1) (held state.registers rs1) (hold rs1))
+  step_keeps bound (insns.ImmW kind rd rs1 imm) = unknown rd _
+  step_keeps bound (insns.Reg kind rd rs1 rs2) = by_write rd _ _ (reg_keeps kind rs1 rs2)
+  step_keeps bound (insns.RegW kind rd rs1 rs2) = unknown rd _
+  step_keeps bound (insns.Atomic kind wide acquire release rd rs1 rs2) = atomic_keeps kind wide rd (held state.registers rs1) (held state.registers rs2)
+  step_keeps bound insns.Fence = hold
+  step_keeps bound insns.FenceI = hold
+  step_keeps bound insns.Ecall = tt
+  step_keeps bound insns.Ebreak = tt
+  step_keeps bound (insns.Csr kind rd source csr) = tt
+  step_keeps bound (insns.Float writes reads) = tt
+  step_keeps bound (insns.ShiftAdd shift zero_extended rd rs1 rs2) = tt
+  step_keeps bound (insns.Extend kind rd rs1) = tt
+  step_keeps bound (insns.Extension reads writes) = tt

@@ -18,3 +18,4 @@ pub mod Tables
 pub mod Worked
 pub mod Constants
 pub mod Setters
+pub mod FixedBytes

@@ -9,6 +9,7 @@ use Rattle.rv_operations.specs.Operations.{imm_result}
 use Rattle.rv_operations.specs.Arithmetic.{sum, shifted_left, shifted_right}
 use Rattle.jump_table.specs.declared.width.Width.{Width}
 use Rattle.jump_table.specs.declared.width.Width.TheVariants.{Word, Double}
+use Rattle.jump_table.specs.declared.values.Form.TheVariants.{Bounded}
 use Rattle.jump_table.specs.declared.values.Value.{Value}
 use Rattle.jump_table.specs.declared.values.Value.TheVariants.{Unknown, Const, Index, High}
 use Rattle.jump_table.specs.declared.values.Value.TheVariants.{Scaled, Addr, Entry, EntryPlus}
@@ -123,17 +124,17 @@ module _ (bytes : List ℕ) (index : ℕ) (small : index < 2048) where
   right (pos by) (EntryPlus v w k) n means = tt
 
   -- the result of an operation with an immediate
-  pub by_imm : (kind : ImmKind) (imm : ℤ) (value : Value) (n : ℕ) → Means bytes index value n → Means bytes index (imm_value false kind imm value) (imm_result kind n (operand imm))
+  pub by_imm : (bound : ℕ) (kind : ImmKind) (imm : ℤ) (value : Value) (n : ℕ) → Means bytes index value n → Means bytes index (imm_value (Bounded bound) kind imm value) (imm_result kind n (operand imm))
   unfolding imm_result
-  by_imm imms.Addi imm value n means = added_imm imm value n means
-  by_imm imms.Slli imm value n means = left imm value n means
-  by_imm imms.Srli imm value n means = right imm value n means
-  by_imm imms.Slti imm value n means = tt
-  by_imm imms.Sltiu imm value n means = tt
-  by_imm imms.Xori imm value n means = tt
-  by_imm imms.Ori imm value n means = tt
-  by_imm imms.Andi imm value n means = tt
-  by_imm imms.Srai imm value n means = tt
+  by_imm bound imms.Addi imm value n means = added_imm imm value n means
+  by_imm bound imms.Slli imm value n means = left imm value n means
+  by_imm bound imms.Srli imm value n means = right imm value n means
+  by_imm bound imms.Slti imm value n means = tt
+  by_imm bound imms.Sltiu imm value n means = tt
+  by_imm bound imms.Xori imm value n means = tt
+  by_imm bound imms.Ori imm value n means = tt
+  by_imm bound imms.Andi imm value n means = tt
+  by_imm bound imms.Srai imm value n means = tt
 
   -- ---- ADD
 

@@ -1,7 +1,7 @@
 -- The instruction just before a comparison that sets its limit is the one of which the bound was taken.
 use Rattle.std.proofs.Common.{◌≡◌, ℕ, ◌+◌, ◌-◌, ◌/◌, ◌%◌, ◌^◌, ◌<◌, ◌≤◌, ◌⊎◌, Bool, true, false, cond, List, drop, get_or, Option, Some, None, refl, sym, ap, ◌∙◌, subst, inl, inr, arith}
 use Rattle.std.specs.Prelude.{All, ℤ, slice_index, nat_le, ◌==◌}
-use Rattle.std.specs.Option.{option_map, option_map_or}
+use Rattle.std.specs.Option.{option_map, option_map_or, option_and_then}
 use Rattle.std.proofs.lemmas.Bool.{and_from, le-leb, eqb-true, eq-eqb}
 use Rattle.std.proofs.lemmas.Option.{same_Some, none-some}
 use Rattle.std.proofs.lemmas.List.{get_or-drop}
@@ -14,7 +14,8 @@ use Rattle.elf_image.proofs.LaidOut.{holds-true}
 use Rattle.elf_image.proofs.OneSection.{code_section-is, code_section-same}
 use Rattle.rv_decode.specs.declared.instructions.Insn.{Insn}
 use Rattle.rv_flow.specs.declared.placed.Placed.{Placed}
-use Rattle.rv_flow.specs.Placed.{placed_at, placed_by, whole, whole_insn, word_insn, compressed_insn, bad}
+use Rattle.rv_flow.specs.Placed.{whole, expanded, bad, rv64gc_insn}
+use Rattle.rv_flow.specs.Rv64gc.{rv64gc_placed_at, rv64gc_placed_by}
 use Rattle.edge_cover.proofs.Pairs.{and_then_some}
 use Rattle.edge_cover.proofs.Tested.{if_there, sets, IsSetAt}
 use Rattle.edge_cover.proofs.DataWords.{dropped_small}
@@ -25,12 +26,12 @@ use Rattle.edge_cover.proofs.Constants.{word_of_constant, no_constant}
 record IsShort (bytes : List ℕ) (a : ℕ) (insn : Insn) : Type 0 where
   half : ℕ
   there : half_at bytes a ≡ Some half
-  is : compressed_insn half ≡ Some insn
+  is : option_and_then rv64gc_insn (expanded half) ≡ Some insn
 
 record IsLong (bytes : List ℕ) (a : ℕ) (insn : Insn) : Type 0 where
   word : ℕ
   there : word_at bytes a ≡ Some word
-  is : word_insn word ≡ Some insn
+  is : rv64gc_insn word ≡ Some insn
 
 abbrev IsEither : List ℕ → ℕ → Insn → ℕ → Type 0
 IsEither bytes a insn length = ((length ≡ 2) × IsShort bytes a insn) ⊎ ((length ≡ 4) × IsLong bytes a insn)
@@ -39,24 +40,24 @@ module _ (bytes : List ℕ) (a : ℕ) (insn : Insn) where
   abbrev Stands : Placed → Type 0
   Stands placed = placed.insn ≡ Some insn → IsEither bytes a insn placed.length
 
-  of_word : (o : Option Insn) → whole_insn (word_at bytes a) ≡ o → Stands (whole o)
+  of_word : (o : Option Insn) → option_and_then rv64gc_insn (word_at bytes a) ≡ o → Stands (whole o)
   of_word None is e = absurd (none-some insn e)
   of_word (Some decoded) is e =
-      let word = and_then_some word_insn (word_at bytes a) insn (is ∙ e) in
+      let word = and_then_some rv64gc_insn (word_at bytes a) insn (is ∙ e) in
       inr (refl, record { word = word.0; there = word.1; is = word.2 })
 
-  of_half : (half : ℕ) → half_at bytes a ≡ Some half → Stands (placed_by bytes a half)
+  of_half : (half : ℕ) → half_at bytes a ≡ Some half → Stands (rv64gc_placed_by bytes a half)
   of_half half there = by (half % 4 == 3) (half / 4 % 8 == 7)
     where
-      by : (b long : Bool) → Stands (cond b (cond long bad (whole (whole_insn (word_at bytes a)))) (record { length = 2; insn = compressed_insn half }))
+      by : (b long : Bool) → Stands (cond b (cond long bad (whole (option_and_then rv64gc_insn (word_at bytes a)))) (record { length = 2; insn = option_and_then rv64gc_insn (expanded half) }))
       by true true e = absurd (none-some insn e)
-      by true false e = of_word (whole_insn (word_at bytes a)) refl e
+      by true false e = of_word (option_and_then rv64gc_insn (word_at bytes a)) refl e
       by false long e = inl (refl, record { half = half; there = there; is = e })
 
-  stands : Stands (placed_at bytes a)
+  stands : Stands (rv64gc_placed_at bytes a)
   stands = by (half_at bytes a) refl
     where
-      by : (o : Option ℕ) → half_at bytes a ≡ o → Stands (option_map_or (placed_by bytes a) o bad)
+      by : (o : Option ℕ) → half_at bytes a ≡ o → Stands (option_map_or (rv64gc_placed_by bytes a) o bad)
       by None there e = absurd (none-some insn e)
       by (Some half) there e = of_half half there e
 
@@ -137,10 +138,10 @@ module _ (bytes : List ℕ) (accepted : IsImage bytes) (small : All (λ byte. by
         absurd (no_overlap a r constant limit long.1 (subst (λ x. IsShort bytes x (sets r limit)) g brief.1))
 
     -- whatever constant stands just before, it is the one that the bound was taken of
-    pub set_there : (a other : ℕ) → (placed_at bytes a).insn ≡ Some (sets r constant) → a + (placed_at bytes a).length ≡ b → IsSetAt bytes r limit b other → IsSetAt bytes r limit b a
+    pub set_there : (a other : ℕ) → (rv64gc_placed_at bytes a).insn ≡ Some (sets r constant) → a + (rv64gc_placed_at bytes a).length ≡ b → IsSetAt bytes r limit b other → IsSetAt bytes r limit b a
     set_there a other is ends set =
         let first = stands bytes a (sets r constant) is in
         let second = stands bytes other (sets r limit) (ap (λ (p : Placed). p.insn) set.placed) in
-        let more : (placed_at bytes other).length ≡ set.length = ap (λ (p : Placed). p.length) set.placed in
-        let same = same_place a other (placed_at bytes a).length (placed_at bytes other).length ends (ap (λ n. other + n) more ∙ set.ends) first second in
+        let more : (rv64gc_placed_at bytes other).length ≡ set.length = ap (λ (p : Placed). p.length) set.placed in
+        let same = same_place a other (rv64gc_placed_at bytes a).length (rv64gc_placed_at bytes other).length ends (ap (λ n. other + n) more ∙ set.ends) first second in
         subst (IsSetAt bytes r limit b) (sym same) set

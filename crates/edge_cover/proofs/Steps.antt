@@ -9,7 +9,7 @@ use Rattle.rv_decode.specs.declared.instructions.LoadKind.{LoadKind}
 use Rattle.rv_operations.specs.Operations.{is_taken}
 use Rattle.rv_flow.specs.declared.raw.RawFlow.{RawFlow}
 use Rattle.rv_flow.specs.declared.raw.RawFlow.TheVariants as raw
-use Rattle.rv_flow.specs.Raw.{address_plus, pair_target, jalr_flow, insn_flow}
+use Rattle.rv_flow.specs.Raw.{address_plus, pair_target, is_stub, jalr_flow, insn_flow}
 use Rattle.rv_machine.specs.State.{State}
 use Rattle.rv_machine.specs.Registers.{held}
 use Rattle.rv_operations.specs.Loads.{load_size, store_size}
@@ -111,9 +111,14 @@ module _ (file : List ℕ) (length : ℕ) (cpu : State) (memory : Bytes) where
       link true = tt
       link false = tt
 
-      either : (b : Bool) → LeadsBy (if b then (if (rs1 == 1) || (rs1 == 5) then raw.Return else raw.RegisterJump rs1 imm) else raw.IndirectCall) (advanced length cpu) to
+      stub : (b : Bool) → LeadsBy (if b then raw.RegisterJump rs1 imm else raw.IndirectCall) (advanced length cpu) to
+      stub true = tt
+      stub false = tt
+
+      either : (b : Bool)
+          → LeadsBy (if b then (if (rs1 == 1) || (rs1 == 5) then raw.Return else raw.RegisterJump rs1 imm) else (if is_stub rd rs1 then raw.RegisterJump rs1 imm else raw.IndirectCall)) (advanced length cpu) to
       either true = link ((rs1 == 1) || (rs1 == 5))
-      either false = tt
+      either false = stub (is_stub rd rs1)
 
   branch_leads : (target : ℕ) (b : Bool) → ((if b then target else advanced length cpu) ≡ target) ⊎ ((if b then target else advanced length cpu) ≡ advanced length cpu)
   branch_leads target true = inl refl
@@ -142,6 +147,9 @@ module _ (file : List ℕ) (length : ℕ) (cpu : State) (memory : Bytes) where
   step_leads insns.Ebreak pair = tt
   step_leads (insns.Csr kind rd source csr) pair = tt
   step_leads (insns.Float writes reads) pair = tt
+  step_leads (insns.ShiftAdd shift zero_extended rd rs1 rs2) pair = tt
+  step_leads (insns.Extend kind rd rs1) pair = tt
+  step_leads (insns.Extension reads writes) pair = tt
 
   leads_on : (flow : RawFlow) (o : Outcome) (after : State) (left : Bytes) → o ≡ Goes after left → Leads flow o → LeadsBy flow (advanced length cpu) after.pc
   leads_on flow (Traps trap) after left e h = cc

@@ -9,16 +9,17 @@ use Rattle.elf_image.specs.Code.{is_code}
 use Rattle.rv_decode.specs.declared.instructions.Insn.{Insn}
 use Rattle.rv_decode.specs.declared.instructions.Insn.TheVariants as insns
 use Rattle.rv_flow.specs.Placed.{placed_at}
-use Rattle.rv_flow.specs.Raw.{insn_flow, jalr_flow, pair_target, raw_flow_by, raw_flow_at}
+use Rattle.rv_flow.specs.Raw.{insn_flow, is_stub, jalr_flow, pair_target, raw_flow_by, raw_flow_at}
 use Rattle.rv_flow.specs.declared.raw.RawFlow.{RawFlow}
 use Rattle.rv_flow.specs.declared.raw.RawFlow.TheVariants as raw
+use Rattle.jump_table.specs.declared.values.Form.TheVariants.{Bounded}
 use Rattle.jump_table.specs.Section.{is_straight, is_in_section, goes_on, straight_run}
 use Rattle.jump_table.specs.Values.{Registers, after, after_placed, after_run}
 use Rattle.code_view.proofs.Lawful.{placed-end}
 use Rattle.rv_machine.specs.State.{State}
 use Rattle.rv_machine.specs.Memory.{Bytes}
 use Rattle.rv_machine.specs.declared.trap.Trap.TheVariants as traps
-use Rattle.rv_machine.specs.Step.{Traps, Goes, advanced, placed_step}
+use Rattle.rv_machine.specs.Step.{Outcome, Traps, Goes, advanced}
 use Rattle.edge_cover.specs.Runs.{StepsTo, ComesTo}
 use Rattle.edge_cover.proofs.Steps.{LeadsBy, PairHolds, goes_by}
 use Rattle.edge_cover.proofs.Cover.{made}
@@ -29,11 +30,11 @@ use Rattle.edge_cover.proofs.HoldAll.{HoldAll, KeepsAll, step_keeps}
 
 -- a step is made at an address of code only
 pub code_of_step : (bytes : List ℕ) (state after : State) (memory left : Bytes) → StepsTo bytes state memory after left → is_code bytes state.pc ≡ true
-code_of_step bytes state after memory left steps = by (is_code bytes state.pc) steps
+code_of_step bytes state after memory left steps = by (is_code bytes state.pc) _ steps
   where
-    by : (b : Bool) → cond b (placed_step bytes (placed_at bytes state.pc) state memory) (Traps traps.Fetch) ≡ Goes after left → b ≡ true
-    by true e = refl
-    by false e = cc
+    by : (b : Bool) (o : Outcome) → cond b o (Traps traps.Fetch) ≡ Goes after left → b ≡ true
+    by true o e = refl
+    by false o e = cc
 
 -- the address after an instruction of code is below 2 to the power 64
 pub advanced_is : (bytes : List ℕ) → IsImage bytes → (state : State) → is_code bytes state.pc ≡ true
@@ -51,9 +52,10 @@ pair_of_straight bytes state (insns.Jalr rd rs1 imm) straight = absurd (by (pair
     linked true e = cc
     linked false e = cc
 
-    alone : (b : Bool) → is_straight (cond b (cond ((rs1 == 1) || (rs1 == 5)) raw.Return (raw.RegisterJump rs1 imm)) raw.IndirectCall) ≡ true → ⊥
-    alone true e = linked ((rs1 == 1) || (rs1 == 5)) e
-    alone false e = cc
+    alone : (b stub : Bool) → is_straight (cond b (cond ((rs1 == 1) || (rs1 == 5)) raw.Return (raw.RegisterJump rs1 imm)) (cond stub (raw.RegisterJump rs1 imm) raw.IndirectCall)) ≡ true → ⊥
+    alone true stub e = linked ((rs1 == 1) || (rs1 == 5)) e
+    alone false true e = cc
+    alone false false e = cc
 
     paired : (target : ℕ) (b : Bool) → is_straight (cond b (raw.Jump target) (raw.Call target)) ≡ true → ⊥
     paired target true e = cc
@@ -61,7 +63,7 @@ pair_of_straight bytes state (insns.Jalr rd rs1 imm) straight = absurd (by (pair
 
     by : (o : Option ℕ) → is_straight (jalr_flow rd rs1 imm o) ≡ true → ⊥
     by (Some target) e = paired target (rd == 0) e
-    by None e = alone (rd == 0) e
+    by None e = alone (rd == 0) (is_stub rd rs1) e
 pair_of_straight bytes state insn straight = tt
 
 leads_straight : (flow : RawFlow) (next to : ℕ) → is_straight flow ≡ true → LeadsBy flow next to → to ≡ next
@@ -86,13 +88,13 @@ module _ (bytes : List ℕ) (accepted : IsImage bytes) where
       ∙ advanced_is bytes accepted state (code_of_step bytes state next memory left steps)
 
 -- what is known after a step, by the instruction at its address
-pub known_after : (bytes : List ℕ) → All (λ byte. byte < 256) bytes → (index : ℕ) → index < 2048 → (state next : State) (memory left : Bytes) → StepsTo bytes state memory next left
-    → (known : Registers) → HoldAll bytes index known state.registers → HoldAll bytes index (after_placed false state.pc (placed_at bytes state.pc).insn known) next.registers
-known_after bytes small index below state next memory left steps known hold =
+pub known_after : (bound : ℕ) (bytes : List ℕ) → All (λ byte. byte < 256) bytes → (index : ℕ) → index < 2048 → (state next : State) (memory left : Bytes) → StepsTo bytes state memory next left
+    → (known : Registers) → HoldAll bytes index known state.registers → HoldAll bytes index (after_placed (Bounded bound) state.pc (placed_at bytes state.pc).insn known) next.registers
+known_after bound bytes small index below state next memory left steps known hold =
     let step = made bytes state next memory left steps in
-    subst (λ o. HoldAll bytes index (after_placed false state.pc o known) next.registers) (sym step.stands)
-    (subst (KeepsAll bytes index (after false state.pc step.insn known)) step.makes
-    (step_keeps bytes small index below (placed_at bytes state.pc).length state memory known hold step.insn))
+    subst (λ o. HoldAll bytes index (after_placed (Bounded bound) state.pc o known) next.registers) (sym step.stands)
+    (subst (KeepsAll bytes index (after (Bounded bound) state.pc step.insn known)) step.makes
+    (step_keeps bytes small index below (placed_at bytes state.pc).length state memory known hold bound step.insn))
 
 -- ---- a run of them
 
@@ -136,16 +138,16 @@ module _ (bytes : List ℕ) (start j a : ℕ) (run : List ℕ) where
       by true here e = inl (eqb-true a j here, sym (same_Some [] run e))
       by false away e = inr (goes (not_equal a j away) (goes_on bytes start a) refl e)
 
-module _ (bytes : List ℕ) (accepted : IsImage bytes) (small : All (λ byte. byte < 256) bytes) (index : ℕ) (below : index < 2048) (start j : ℕ) where
+module _ (bound : ℕ) (bytes : List ℕ) (accepted : IsImage bytes) (small : All (λ byte. byte < 256) bytes) (index : ℕ) (below : index < 2048) (start j : ℕ) where
   -- what is known at its first address is known, by the rules of the values, at the jump
   abbrev Holds : ℕ → List ℕ → Type 0
   Holds a run =
       (state last : State) (memory end : Bytes) → ComesTo bytes j state memory last end → state.pc ≡ a
-      → (known : Registers) → HoldAll bytes index known state.registers → HoldAll bytes index (after_run false bytes run known) last.registers
+      → (known : Registers) → HoldAll bytes index known state.registers → HoldAll bytes index (after_run (Bounded bound) bytes run known) last.registers
 
   -- at the jump nothing is left of the run
   at_jump : (a : ℕ) (run : List ℕ) → a ≡ j → run ≡ [] → Holds a run
-  at_jump a run here is state last memory end (ComesTo.there e) at known hold = subst (λ run. HoldAll bytes index (after_run false bytes run known) state.registers) (sym is) hold
+  at_jump a run here is state last memory end (ComesTo.there e) at known hold = subst (λ run. HoldAll bytes index (after_run (Bounded bound) bytes run known) state.registers) (sym is) hold
   at_jump a run here is state last memory end (ComesTo.onward away steps rest) at known hold = absurd (away (at ∙ here))
 
   onward : (n a : ℕ) (run : List ℕ) → (more : IsOneOn bytes start j n a run) → Holds (a + (placed_at bytes a).length) more.rest → Holds a run
@@ -153,9 +155,9 @@ module _ (bytes : List ℕ) (accepted : IsImage bytes) (small : All (λ byte. by
   onward n a run more holds state last memory end (ComesTo.onward {next = next} {left = left} away steps rest) at known hold =
       let straight : is_straight (raw_flow_at bytes state.pc) ≡ true = subst (λ b. is_straight (raw_flow_at bytes b) ≡ true) (sym at) more.straight in
       let behind : next.pc ≡ a + (placed_at bytes a).length = next_straight bytes accepted state next memory left steps straight ∙ ap (λ b. b + (placed_at bytes b).length) at in
-      let now = subst (λ b. HoldAll bytes index (after_placed false b (placed_at bytes b).insn known) next.registers) at (known_after bytes small index below state next memory left steps known hold) in
-      subst (λ run. HoldAll bytes index (after_run false bytes run known) last.registers) (sym more.same)
-      (holds next last left end rest behind (after_placed false a (placed_at bytes a).insn known) now)
+      let now = subst (λ b. HoldAll bytes index (after_placed (Bounded bound) b (placed_at bytes b).insn known) next.registers) at (known_after bound bytes small index below state next memory left steps known hold) in
+      subst (λ run. HoldAll bytes index (after_run (Bounded bound) bytes run known) last.registers) (sym more.same)
+      (holds next last left end rest behind (after_placed (Bounded bound) a (placed_at bytes a).insn known) now)
 
   pub run_holds : (n a : ℕ) (run : List ℕ) → straight_run bytes start j n a ≡ Some run → Holds a run
   run_holds zero a run is = let e = ended bytes start j a run is in at_jump a run e.0 e.1

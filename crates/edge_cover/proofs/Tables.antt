@@ -8,7 +8,7 @@ use Rattle.elf_image.specs.Code.{is_code}
 use Rattle.rv_decode.specs.declared.instructions.Insn.{Insn}
 use Rattle.rv_decode.specs.declared.instructions.Insn.TheVariants as insns
 use Rattle.rv_flow.specs.Placed.{placed_at}
-use Rattle.rv_flow.specs.Raw.{address_plus, pair_target, jalr_flow, insn_flow, is_unimp, raw_flow_by}
+use Rattle.rv_flow.specs.Raw.{address_plus, pair_target, jalr_flow, insn_flow, is_unimp, raw_flow_by, is_stub}
 use Rattle.rv_flow.specs.declared.raw.RawFlow.{RawFlow}
 use Rattle.rv_flow.specs.declared.raw.RawFlow.TheVariants as raw
 use Rattle.jump_table.specs.declared.table.Table.{Table}
@@ -120,10 +120,11 @@ module _ (bytes : List ℕ) (length : ℕ) (state after : State) (memory left : 
       linked true e = cc
       linked false e = same e
 
-      alone : (b : Bool) → cond b (cond ((rs1 == 1) || (rs1 == 5)) raw.Return (raw.RegisterJump rs1 imm)) raw.IndirectCall ≡ raw.RegisterJump r offset
+      alone : (b stub : Bool) → cond b (cond ((rs1 == 1) || (rs1 == 5)) raw.Return (raw.RegisterJump rs1 imm)) (cond stub (raw.RegisterJump rs1 imm) raw.IndirectCall) ≡ raw.RegisterJump r offset
           → after.pc ≡ address_plus (held state.registers r) offset / 2 * 2
-      alone true e = linked ((rs1 == 1) || (rs1 == 5)) e
-      alone false e = cc
+      alone true stub e = linked ((rs1 == 1) || (rs1 == 5)) e
+      alone false true e = same e
+      alone false false e = cc
 
       paired : (target : ℕ) (b : Bool) → cond b (raw.Jump target) (raw.Call target) ≡ raw.RegisterJump r offset → after.pc ≡ address_plus (held state.registers r) offset / 2 * 2
       paired target true e = cc
@@ -131,7 +132,7 @@ module _ (bytes : List ℕ) (length : ℕ) (state after : State) (memory left : 
 
       by : (o : Option ℕ) → jalr_flow rd rs1 imm o ≡ raw.RegisterJump r offset → after.pc ≡ address_plus (held state.registers r) offset / 2 * 2
       by (Some target) e = paired target (rd == 0) e
-      by None e = alone (rd == 0) e
+      by None e = alone (rd == 0) (is_stub rd rs1) e
   jump_goes (insns.Jal rd jump) flow step = absurd (by (rd == 0) flow)
     where
       by : (b : Bool) → cond b (raw.Jump (address_plus state.pc jump)) (raw.Call (address_plus state.pc jump)) ≡ raw.RegisterJump r offset → ⊥
@@ -157,6 +158,9 @@ module _ (bytes : List ℕ) (length : ℕ) (state after : State) (memory left : 
   jump_goes insns.FenceI flow step = cc
   jump_goes insns.Ecall flow step = cc
   jump_goes (insns.Float writes reads) flow step = cc
+  jump_goes (insns.ShiftAdd shift zero_extended rd rs1 rs2) flow step = cc
+  jump_goes (insns.Extend kind rd rs1) flow step = cc
+  jump_goes (insns.Extension reads writes) flow step = cc
 
 -- ---- the register holds the entry
 
@@ -216,7 +220,7 @@ module _ (bytes : List ℕ) (cuts : ℕ → Option ℕ) (seeds : List ℕ) (outl
   means : Means bytes known.index place.stands.value (held state.registers place.register)
   means =
       subst (λ value. Means bytes known.index value (held state.registers place.register)) place.stands.held
-      (known.holds place.place.bound place.stands.bound (subst (λ n. n ≤ 2048) place.is.bound fits.is_table.small) place.stands.run place.stands.straight place.register)
+      (known.holds place.place.bound place.stands.bound (subst (λ n. n ≤ 2048) place.is.bound (fits.is_table.tested of_full.bounded)) place.stands.run place.stands.straight place.register)
 
   holds_entry : held state.registers place.register % 2 ^ 64 ≡ (target.is.entry + place.place.add) % 2 ^ 64
   holds_entry =

@@ -14,9 +14,11 @@ use Rattle.rv_decode.specs.declared.instructions.BranchKind.{BranchKind}
 use Rattle.rv_operations.specs.Operations.{imm_result, is_taken}
 use Rattle.rv_flow.specs.declared.placed.Placed.{Placed}
 use Rattle.rv_flow.specs.Placed.{placed_at}
+use Rattle.rv_flow.specs.Rv64gc.{rv64gc_placed_at}
 use Rattle.rv_flow.specs.Raw.{address_plus}
 use Rattle.jump_table.specs.declared.bound.Comparison.{Comparison}
 use Rattle.jump_table.specs.declared.bound.BoundTest.{BoundTest}
+use Rattle.jump_table.specs.declared.values.Form.TheVariants.{Bounded}
 use Rattle.jump_table.specs.declared.values.Value.TheVariants.{Unknown, Const, Index}
 use Rattle.jump_table.specs.Section.{is_in_section, whole_insn_at, straight_run}
 use Rattle.jump_table.specs.Bound.{comparison_of}
@@ -27,7 +29,7 @@ use Rattle.rv_machine.specs.Memory.{Bytes}
 use Rattle.rv_machine.specs.Step.{Outcome, Traps, Goes, advanced}
 use Rattle.edge_cover.specs.Runs.{StepsTo}
 use Rattle.edge_cover.specs.TableRun.{SetsBefore, IsTableRun}
-use Rattle.edge_cover.proofs.Placing.{placed_of, word_placed}
+use Rattle.edge_cover.proofs.Placing.{placed_of, placed_as, word_placed}
 use Rattle.edge_cover.proofs.Cover.{made}
 use Rattle.edge_cover.proofs.Pairs.{and_then_some, registers_of, same_step}
 use Rattle.edge_cover.proofs.Means.{Means}
@@ -62,8 +64,9 @@ module _ (bytes : List ℕ) (accepted : IsImage bytes) where
   set_by : (first second : State) (memory left : Bytes) → StepsTo bytes first memory second left → (b r : ℕ) (limit : ℤ) → r ≢ 0 → IsSetAt bytes r limit b first.pc → IsSet second b r limit
   unfolding imm_result
   set_by first second memory left steps b r limit other set =
-      let step = same_step bytes first second memory left set.length (sets r limit) set.placed (made bytes first second memory left steps) in
-      let next = next_of bytes accepted first second memory left steps set.length (ap (λ (p : Placed). p.length) set.placed) in
+      let placed = placed_as bytes first.pc set.length (sets r limit) set.placed in
+      let step = same_step bytes first second memory left set.length (sets r limit) placed (made bytes first second memory left steps) in
+      let next = next_of bytes accepted first second memory left steps set.length (ap (λ (p : Placed). p.length) placed) in
       record {
         at = sym (ap (pc_after 0) step) ∙ next ∙ set.ends;
         holds = ap (λ f. held f r) (sym (ap (registers_of first.registers) step)) ∙ read_written first.registers r _ other;
@@ -114,7 +117,7 @@ pub record IsKnownAt (bytes : List ℕ) (start : ℕ) (test : BoundTest) (state 
   pub index : ℕ
   pub below : (bound : ℕ) → test.bound ≡ Some bound → index < bound
   pub holds : (bound : ℕ) → test.bound ≡ Some bound → bound ≤ 2048 → (run : List ℕ) → straight_run bytes start state.pc 16 (test.at + 4) ≡ Some run
-      → HoldAll bytes index (after_run false bytes run (at_test test.index)) state.registers
+      → HoldAll bytes index (after_run (Bounded bound) bytes run (at_test test.index)) state.registers
 
 module _ (bytes : List ℕ) (accepted : IsImage bytes) (small : All (λ byte. byte < 256) bytes) (state : State) (memory : Bytes) (table_run : IsTableRun bytes state.pc state memory) where
   pub known_at : IsKnownAt bytes table_run.has.start table_run.has.test state
@@ -122,7 +125,7 @@ module _ (bytes : List ℕ) (accepted : IsImage bytes) (small : All (λ byte. by
     index = held table_run.second.registers table_run.has.test.index;
     below = λ bound is. less bound is;
     holds = λ bound is most run straight.
-        run_holds bytes accepted small (held table_run.second.registers table_run.has.test.index) (within bound most (less bound is))
+        run_holds bound bytes accepted small (held table_run.second.registers table_run.has.test.index) (within bound most (less bound is))
         table_run.has.start state.pc 16 (table_run.has.test.at + 4) run straight
         table_run.third state table_run.third_memory memory table_run.comes
         (gone.at ∙ ap (λ b. b + 4) set.at) (at_test table_run.has.test.index)
@@ -145,12 +148,16 @@ module _ (bytes : List ℕ) (accepted : IsImage bytes) (small : All (λ byte. by
       begins : SetsBefore bytes parts.comparison.limit table_run.has.test.at table_run.first.pc
       begins = subst (λ (c : Comparison). SetsBefore bytes c.limit table_run.has.test.at table_run.first.pc) (sym same) table_run.begins
 
+      -- the machine made the step, so an instruction of RV64GC stands there
+      base : rv64gc_placed_at bytes table_run.first.pc ≡ placed_at bytes table_run.first.pc
+      base = (made bytes table_run.first table_run.second table_run.first_memory table_run.second_memory table_run.sets).base
+
       set : IsSet bytes accepted table_run.second table_run.has.test.at parts.comparison.limit parts.limit
       set =
           set_by bytes accepted table_run.first table_run.second table_run.first_memory table_run.second_memory table_run.sets
           table_run.has.test.at parts.comparison.limit parts.limit
           (limit_other placed.insn parts.comparison placed.compares)
-          (set_there bytes accepted small parts.comparison.limit table_run.has.test.at parts.limit begins.constant table_run.first.pc _ begins.sets begins.ends
+          (set_there bytes accepted small parts.comparison.limit table_run.has.test.at parts.limit begins.constant table_run.first.pc _ (ap (λ (p : Placed). p.insn) base ∙ begins.sets) (ap (λ (p : Placed). table_run.first.pc + p.length) base ∙ begins.ends)
           (limit_set bytes table_run.has.start table_run.has.test.at parts.comparison.limit parts.limit parts.constant))
 
       here : placed_at bytes table_run.second.pc ≡ placed_of 4 placed.insn

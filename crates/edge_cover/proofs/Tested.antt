@@ -15,13 +15,13 @@ use Rattle.rv_decode.specs.declared.instructions.BranchKind.TheVariants as branc
 use Rattle.rv_decode.specs.declared.instructions.ImmKind.{ImmKind}
 use Rattle.rv_decode.specs.declared.instructions.ImmKind.TheVariants as imms
 use Rattle.rv_operations.specs.Operations.{is_taken}
-use Rattle.rv_flow.specs.Placed.{placed_at}
+use Rattle.rv_flow.specs.Rv64gc.{rv64gc_placed_at}
 use Rattle.jump_table.specs.declared.bound.Comparison.{Comparison}
 use Rattle.jump_table.specs.declared.bound.BoundTest.{BoundTest}
 use Rattle.jump_table.specs.Nearest.{nearest, evens}
 use Rattle.jump_table.specs.Section.{is_in_section, whole_insn_at}
 use Rattle.jump_table.specs.Bound.{checked, comparison_by, comparison_of, addi_constant, constant_of, short_constant, whole_constant, first_of_two, constant_before, bound_by, run_behind, test_by, test_at, bound_test}
-use Rattle.edge_cover.proofs.Placing.{placed_of, word_placed, half_placed}
+use Rattle.edge_cover.proofs.Placing.{placed_of, word_stands, half_stands}
 use Rattle.edge_cover.proofs.Pairs.{and_then_some, map_some}
 
 pub if_there : {A : Type 0} (b : Bool) (o : Option A) (x : A) → cond b o None ≡ Some x → (b ≡ true) × (o ≡ Some x)
@@ -88,7 +88,7 @@ is_addi r insn n e = absurd (none-some n e)
 -- it stands at a, and ends where the comparison begins
 pub record IsSetAt (bytes : List ℕ) (r : ℕ) (limit : ℤ) (b a : ℕ) : Type 0 where
   pub length : ℕ
-  pub placed : placed_at bytes a ≡ placed_of length (sets r limit)
+  pub placed : rv64gc_placed_at bytes a ≡ placed_of length (sets r limit)
   pub ends : a + length ≡ b
 
 module _ (bytes : List ℕ) (start b r : ℕ) (limit : ℤ) where
@@ -100,7 +100,7 @@ module _ (bytes : List ℕ) (start b r : ℕ) (limit : ℤ) where
       let half = and_then_some expansion (half_at bytes (b - 2)) word.0 word.1 in
       record {
         length = 2;
-        placed = half_placed bytes (b - 2) half.0 word.0 insn.0 half.1 half.2 word.2 ∙ ap (placed_of 2) (is_addi r insn.0 n insn.2 ∙ ap (sets r) same);
+        placed = half_stands bytes (b - 2) half.0 word.0 insn.0 half.1 half.2 word.2 ∙ ap (placed_of 2) (is_addi r insn.0 n insn.2 ∙ ap (sets r) same);
         ends = omega arith;
       }
 
@@ -113,7 +113,7 @@ module _ (bytes : List ℕ) (start b r : ℕ) (limit : ℤ) where
       let word = and_then_some instruction (word_at bytes (b - 4)) insn.0 inside.1 in
       record {
         length = 4;
-        placed = word_placed bytes (b - 4) word.0 insn.0 word.1 word.2 ∙ ap (placed_of 4) (is_addi r insn.0 limit insn.2);
+        placed = word_stands bytes (b - 4) word.0 insn.0 word.1 word.2 ∙ ap (placed_of 4) (is_addi r insn.0 limit insn.2);
         ends = omega arith;
       }
 

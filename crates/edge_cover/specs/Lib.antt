@@ -3,3 +3,4 @@ pub mod Covered
 pub mod Runs
 pub mod TableRun
 pub mod Cover
+pub mod Fixed

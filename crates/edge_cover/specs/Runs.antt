@@ -16,3 +16,11 @@ pub data ComesTo (bytes : List ℕ) (j : ℕ) : State → Bytes → State → By
   onward : {state next last : State} {memory left end : Bytes} → state.pc ≢ j
       → StepsTo bytes state memory next left → ComesTo bytes j next left last end
       → ComesTo bytes j state memory last end
+
+-- The machine goes on by any number of steps, one after another without a trap, from one state and
+-- memory to others.
+pub data GoesOn (bytes : List ℕ) : State → Bytes → State → Bytes → Type 0 where
+  here : {state : State} {memory : Bytes} → GoesOn bytes state memory state memory
+  onward : {state next last : State} {memory left end : Bytes}
+      → StepsTo bytes state memory next left → GoesOn bytes next left last end
+      → GoesOn bytes state memory last end

@@ -1,6 +1,7 @@
 //! Steps of the written machine go along the edges of the graph of its program.
 
 ghost use Rattle.edge_cover.specs.Cover.{StepsAreCovered, PairsAreCovered, TableRunsAreCovered};
+ghost use Rattle.edge_cover.specs.Fixed.{FixedBytesStay};
 
 /// Every step of the machine stays within its block, goes along an edge, or leaves a block whose
 /// kind says that control may leave it. This holds for every accepted file, all cuts that fit, all
@@ -14,4 +15,11 @@ pub fn every_step_is_covered()
     ensures steps { StepsAreCovered }
     ensures pairs { PairsAreCovered }
     ensures tables { TableRunsAreCovered }
+{}
+
+/// No store of the machine changes a byte of a code section or of a read-only section. So the code
+/// whose graph is known is the code that runs. This holds for all bytes of a file, every state and
+/// any number of steps.
+pub fn fixed_bytes_stay()
+    ensures fixed_bytes { FixedBytesStay }
 {}

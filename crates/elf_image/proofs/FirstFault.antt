@@ -5,7 +5,7 @@ use Rattle.std.specs.Option.{option_or}
 use Rattle.std.proofs.lemmas.Bool.{ltb-false}
 use Rattle.std.proofs.lemmas.List.Folds.{find-append}
 use Rattle.elf_image.specs.declared.fault.Fault.{Fault}
-use Rattle.elf_image.specs.declared.fault.Fault.TheVariants.{Short, SectionTable}
+use Rattle.elf_image.specs.declared.fault.Fault.TheVariants.{Short, SectionTable, SectionRange}
 use Rattle.elf_image.specs.FaultTests.{is_short}
 use Rattle.elf_image.specs.Faults.{has_fault, first_among, image_faults, symbol_faults, first_image_fault, first_symbol_fault, first_fault}
 use Rattle.elf_image.specs.Inner.Passes.{ident_faults, header_faults, table_faults, section_faults, code_faults}
@@ -69,6 +69,10 @@ module _ (bytes : List ℕ) where
   pub table_fits : first_among file_faults bytes ≡ None → has_fault bytes SectionTable ≡ false
   unfolding first_among
   table_fits none = none-at (has_fault bytes) file_faults 12 Short none (lit< tt)
+
+  pub range_fits : first_among section_faults bytes ≡ None → has_fault bytes SectionRange ≡ false
+  unfolding first_among
+  range_fits none = none-at (has_fault bytes) section_faults 0 Short none (lit< tt)
 
   pub long_enough : first_among file_faults bytes ≡ None → 64 ≤ length bytes
   long_enough none = ltb-false (length bytes) 64 (unfold has_fault is_short in short none)

@@ -1,5 +1,5 @@
 -- Tests of a list that is made from a function of the index.
-use Rattle.std.proofs.Common.{◌≡◌, ℕ, ◌+◌, ◌<◌, Bool, true, false, List, [], ◌∷◌, ◌++◌, map, length, get_or, ap, sym, ◌∙◌, arith}
+use Rattle.std.proofs.Common.{◌≡◌, ℕ, ◌+◌, ◌<◌, Bool, true, false, List, [], ◌∷◌, ◌++◌, append_assoc, refl, map, length, get_or, ap, sym, ◌∙◌, arith}
 use Rattle.std.specs.List.{range_with_len, list_any, Contains}
 use Rattle.std.proofs.lemmas.List.Folds.{list_any_none, list_any_at}
 use Rattle.std.proofs.lemmas.List.FromFn.{get_or-map-range_with_len, length-map-range_with_len, map-range_with_len_more}
@@ -24,6 +24,12 @@ module _ {X : Type 0} (p : X → Bool) (f : ℕ → X) where
 -- a loop that pushes the value at each index: one more
 pub range-push : {X : Type 0} (f : ℕ → X) (n : ℕ) (xs ys : List X) (x : X) → xs ≡ map f (range_with_len 0 n) → x ≡ f n → ys ≡ xs ++ x ∷ [] → ys ≡ map f (range_with_len 0 (n + 1))
 range-push f n xs ys x before here after = after ∙ rw (before, here) (sym (map-range_with_len_more f 0 n n (omega arith)))
+
+-- the same after other elements
+pub range-push_after : {X : Type 0} (f : ℕ → X) (n : ℕ) (xs ys zs : List X) (x : X) → ys ≡ xs ++ map f (range_with_len 0 n) → x ≡ f n → zs ≡ ys ++ x ∷ [] → zs ≡ xs ++ map f (range_with_len 0 (n + 1))
+range-push_after f n xs ys zs x before here after =
+    after ∙ rw before (append_assoc xs (map f (range_with_len 0 n)) (x ∷ []))
+    ∙ ap (λ more. xs ++ more) (range-push f n (map f (range_with_len 0 n)) (map f (range_with_len 0 n) ++ x ∷ []) x refl here refl)
 
 -- the sections of a file by their index
 pub length-sections : (bytes : List ℕ) → length (sections bytes) ≡ section_count bytes

@@ -6,6 +6,9 @@ pub mod ReadOnly
 pub mod Fixed
 pub mod Symbols
 pub mod Seeds
+pub mod Attributes
+pub mod Architecture
+pub mod DeclaredTables
 pub mod FaultTests
 pub mod Faults
 pub mod FaultNames

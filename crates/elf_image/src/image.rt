@@ -9,12 +9,16 @@ ghost use Rattle.elf_image.specs.Code.{is_even, code_section_of, is_code, sectio
 ghost use Rattle.elf_image.specs.Code.{word_at, is_code_byte};
 ghost use Rattle.elf_image.specs.ReadOnly.{is_read_only, data_section_of, data_word, span_bytes};
 ghost use Rattle.elf_image.specs.Fixed.{is_fixed, is_fixed_byte};
+ghost use Rattle.elf_image.specs.Architecture.{extensions_of};
+ghost use Rattle.elf_image.specs.DeclaredTables.{declared_at};
 ghost use Rattle.elf_image.specs.FaultTests.{is_out_of_file};
 ghost use Rattle.elf_image.specs.Faults.{first_fault, first_image_fault, first_symbol_fault};
 ghost use Rattle.elf_image.specs.Faults.{IsImage};
 ghost use Rattle.elf_image.specs.Outcome.{IfMalformed};
 ghost use Rattle.elf_image.specs.Inner.Found.{IsFoundAt};
 
+use crate::declared::{DeclaredTable, first_of_jump};
+use crate::extensions::Extensions;
 use crate::fault::ElfError;
 use crate::layout::{Layout, code_section, judge};
 use crate::number::{u16_at, u32_at, u64_at};
@@ -177,6 +181,24 @@ impl Image {
     {
         let s = self.data_section(a)?;
         Some(u32_at(&self.bytes, file_offset(s, a)))
+    }
+
+    /// The extensions beyond RV64GC that the file names. A section that cannot be read names none.
+    /// Time: O(1). Memory: none.
+    #[inline]
+    pub fn extensions(&self) -> Extensions
+        ensures { result ≡ extensions_of self.now }
+    {
+        self.layout.extensions
+    }
+
+    /// What the file declares of the table of the jump at `j`: the first record that names `j`, and
+    /// `None` if none does. Whether there is such a table is not judged.
+    /// Time: O(log n) for n records. Memory: none.
+    pub fn declared(&self, j: u64) -> Option<DeclaredTable>
+        ensures { result ≡ declared_at self.now j }
+    {
+        first_of_jump(&self.layout.declared, j)
     }
 
     /// The number of sections (`e_shnum`).

@@ -1,33 +1,42 @@
 //! The sections of a file, judged and prepared to be searched.
 
 ghost use Rattle.std.specs.Prelude.{◌≡◌, ◌≤◌, ◌&&◌, nat_lt, not, length, IfOk, IfErr, Some, None};
-ghost use Rattle.std.specs.Prelude.{if◌then◌else◌};
+ghost use Rattle.std.specs.Prelude.{if◌then◌else◌, false};
 ghost use Rattle.std.specs.List.{find, filter};
 ghost use Rattle.std.specs.Option.{option_copied};
 ghost use Rattle.elf_image.specs.Sections.{sections, is_code_section, is_read_only_section};
 ghost use Rattle.elf_image.specs.Sections.{holds_bytes};
 ghost use Rattle.elf_image.specs.Code.{is_even};
 ghost use Rattle.elf_image.specs.FaultTests.{any_pair, shares_address};
-ghost use Rattle.elf_image.specs.Faults.{first_among, first_fault, first_image_fault, IsImage};
+ghost use Rattle.elf_image.specs.Faults.{has_fault, first_among, first_fault, first_image_fault};
+ghost use Rattle.elf_image.specs.Faults.{IsImage};
+ghost use Rattle.elf_image.specs.Architecture.{extensions_of};
 ghost use Rattle.elf_image.specs.Inner.Passes.{code_faults};
 ghost use Rattle.elf_image.specs.Outcome.{IfMalformed};
 ghost use Rattle.elf_image.specs.Inner.Layout.{FindsAmong, IsLayoutOf};
 
 use crate::address_index::AddressIndex;
+use crate::attributes::architecture;
+use crate::declared::{DeclaredTable, tables_by_jump};
+use crate::extensions::Extensions;
 use crate::fault::{ElfError, Fault};
 use crate::header::file_fault;
+use crate::names::named_in;
 use crate::number::u64_at;
 use crate::section::Section;
 use crate::table::{read_sections, section_fault};
 use std::alloc::{AllocError, Global};
 
-/// All sections of a file in table order, and those of code and of read-only data to be searched by
-/// address.
+/// All sections of a file in table order, those of code and of read-only data to be searched by
+/// address, and what sections of other types say.
 #[derive(Drop)]
 pub(crate) struct Layout {
     pub(crate) sections: Vec<Section>,
     pub(crate) code: AddressIndex,
     pub(crate) read_only: AddressIndex,
+    /// The declared tables in the order of their jumps.
+    pub(crate) declared: Vec<DeclaredTable>,
+    pub(crate) extensions: Extensions,
 }
 
 /// The code sections that are not empty.
@@ -71,6 +80,19 @@ fn filled_read_only(alloc: Global, sections: &[Section]) -> Result<Vec<Section>,
         .copied()
         .filter(|s| s.is_read_only() && s.size > 0)
         .collect(alloc)
+}
+
+/// The extensions that a file names. `headers` are all of the file.
+#[tactic(auto, unfolding(crate::specs::Architecture::extensions_of))]
+fn extensions_of(bytes: &[u8], headers: &[Section]) -> Extensions
+    requires headers { headers.now ≡ sections bytes.now }
+    requires in_file { has_fault bytes.now Fault.SectionRange ≡ false }
+    ensures { result ≡ extensions_of bytes.now }
+{
+    match architecture(bytes, headers) {
+        Some(text) => named_in(text),
+        None => Extensions::none(),
+    }
 }
 
 /// The section that has both bytes of the halfword at `a`, if `a` is even.
@@ -120,9 +142,13 @@ pub(crate) fn judge(alloc: Global, bytes: &[u8]) -> Result<Layout, ElfError>
         return Err(ElfError::Malformed(fault));
     }
     let read_only = read_only_index(alloc, &sections)?;
+    let declared = tables_by_jump(alloc, bytes, &sections)?;
+    let extensions = extensions_of(bytes, &sections);
     Ok(Layout {
         sections,
         code,
         read_only,
+        declared,
+        extensions,
     })
 }

@@ -7,6 +7,12 @@ const SHT_PROGBITS: u32 = 1;
 
 const SHT_NOBITS: u32 = 8;
 
+/// `SHT_RISCV_ATTRIBUTES` (RISC-V ELF psABI, "Attributes").
+const SHT_RISCV_ATTRIBUTES: u32 = 0x7000_0003;
+
+/// The type of a section of declared tables: this project's own.
+const SHT_DECLARED_TABLES: u32 = 0x8CF6_0001;
+
 /// `SHF_WRITE`, `SHF_ALLOC` and `SHF_EXECINSTR` of `sh_flags`.
 const SHF_WRITE: u64 = 1;
 
@@ -39,6 +45,8 @@ impl Section {
     ghost use Rattle.std.specs.Prelude.{◌≡◌, nat_lt, ◌==◌, not, ◌||◌};
     ghost use Rattle.elf_image.specs.Sections.{is_null, is_nobits, is_allocated, is_code_section};
     ghost use Rattle.elf_image.specs.Sections.{is_read_only_section, holds_bytes};
+    ghost use Rattle.elf_image.specs.Attributes.{is_attributes};
+    ghost use Rattle.elf_image.specs.DeclaredTables.{is_declaring};
 
     /// Whether its bytes are machine code: `SHT_PROGBITS` with `SHF_ALLOC` and `SHF_EXECINSTR`.
     pub fn is_code(&self) -> bool
@@ -67,6 +75,20 @@ impl Section {
         ensures { result ≡ (is_null self.now || is_nobits self.now) }
     {
         self.kind == SHT_NULL || self.kind == SHT_NOBITS
+    }
+
+    /// Whether it has the attributes of the file: `SHT_RISCV_ATTRIBUTES`.
+    pub(crate) fn is_attributes(&self) -> bool
+        ensures { result ≡ is_attributes self.now }
+    {
+        self.kind == SHT_RISCV_ATTRIBUTES
+    }
+
+    /// Whether it declares tables.
+    pub(crate) fn is_declaring(&self) -> bool
+        ensures { result ≡ is_declaring self.now }
+    {
+        self.kind == SHT_DECLARED_TABLES
     }
 
     /// Whether the `n` bytes from address `a` on all lie in it.

@@ -1,5 +1,5 @@
 -- The register of a jump through one is within its field.
-use Rattle.std.proofs.Common.{ℕ, ◌==◌, ◌||◌, List, Option, Some, None}
+use Rattle.std.proofs.Common.{ℕ, ◌==◌, ◌&&◌, ◌||◌, List, Option, Some, None}
 use Rattle.std.specs.Prelude.{IfSome, ℤ}
 use Rattle.std.proofs.lemmas.Bool.{cond_both}
 use Rattle.rv_decode.specs.declared.instructions.Insn.{Insn}
@@ -19,9 +19,9 @@ JumpFits _ = Unit {0}
 jalr-fits : (rd rs1 : ℕ) (imm : ℤ) (pair : Option ℕ) → IsRegister rs1 → JumpFits (jalr_flow rd rs1 imm pair)
 jalr-fits rd rs1 imm (Some target) h = cond_both (rd == 0) (raw.Jump target) (raw.Call target) JumpFits (λ _. tt) (λ _. tt)
 jalr-fits rd rs1 imm None h =
-    cond_both (rd == 0) _ raw.IndirectCall JumpFits
+    cond_both (rd == 0) _ _ JumpFits
     (λ _. cond_both ((rs1 == 1) || (rs1 == 5)) raw.Return (raw.RegisterJump rs1 imm) JumpFits (λ _. tt) (λ _. h))
-    (λ _. tt)
+    (λ _. cond_both ((rd == 6) && (rs1 == 28)) (raw.RegisterJump rs1 imm) raw.IndirectCall JumpFits (λ _. h) (λ _. tt))
 
 module _ (bytes : List ℕ) (a : ℕ) where
   insn-fits : (insn : Insn) → HasOperands insn → JumpFits (insn_flow bytes a insn)

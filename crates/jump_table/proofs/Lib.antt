@@ -1,4 +1,5 @@
 mod Operands
+pub mod Extensions
 pub mod Placed
 mod Writes
 mod Runs

@@ -8,7 +8,7 @@ use Rattle.rv_decode.specs.Fields as fields
 use Rattle.rv_decode.specs.Table.{Row, holds, first_meaning, instruction, rows, upper_rows, jump_rows, branch_rows, load_rows, store_rows, imm_rows, imm_w_rows, reg_rows, reg_w_rows, atomic_rows_of, atomic_rows, fence_rows, system_rows}
 use Rattle.rv_decode.specs.declared.instructions.Insn.{Insn}
 use Rattle.rv_float.specs.Table as float
-use Rattle.rv_flow.specs.Placed.{word_insn}
+use Rattle.rv_flow.specs.Placed.{rv64gc_insn}
 use Rattle.jump_table.specs.Inner.Operands.{IsImmediate, HasOperands}
 
 -- What each row of a list means has a property.
@@ -25,10 +25,10 @@ first-all P [] h w = tt
 first-all P (r ∷ rs) h w =
     cond_both (holds r w) (Some (r.meaning w)) (first_meaning rs w) (λ o. IfSome o P) (λ _. h.0 w) (λ _. first-all P rs h.1 w)
 
-rd_fits : (w : ℕ) → fields.rd w < 32
+pub rd_fits : (w : ℕ) → fields.rd w < 32
 rd_fits w = omega arith
 
-rs1_fits : (w : ℕ) → fields.rs1 w < 32
+pub rs1_fits : (w : ℕ) → fields.rs1 w < 32
 rs1_fits w = omega arith
 
 rs2_fits : (w : ℕ) → fields.rs2 w < 32
@@ -62,7 +62,7 @@ branches : AllMean HasOperands branch_rows
 unfolding branch_rows
 branches = (two, (two, (two, (two, (two, (two, tt))))))
 
-read : (w : ℕ) → (fields.rd w < 32) × (fields.rs1 w < 32)
+pub read : (w : ℕ) → (fields.rd w < 32) × (fields.rs1 w < 32)
 read w = (rd_fits w, rs1_fits w)
 
 loads : AllMean HasOperands load_rows
@@ -90,7 +90,7 @@ imms_w : AllMean HasOperands imm_w_rows
 unfolding imm_w_rows
 imms_w = (rd_fits, (rd_fits, (rd_fits, (rd_fits, tt))))
 
-three : (w : ℕ) → (fields.rd w < 32) × (fields.rs1 w < 32) × (fields.rs2 w < 32)
+pub three : (w : ℕ) → (fields.rd w < 32) × (fields.rs1 w < 32) × (fields.rs2 w < 32)
 three w = (rd_fits w, rs1_fits w, rs2_fits w)
 
 regs : AllMean HasOperands reg_rows
@@ -133,7 +133,7 @@ operands_fit_there None = tt
 operands_fit_there (Some w) = operands_fit w
 
 -- The same of the float table, whose instructions write rd or no integer register.
-zero_fits : (w : ℕ) → 0 < 32
+pub zero_fits : (w : ℕ) → 0 < 32
 zero_fits w = omega arith
 
 abbrev AllMeanFloat : List float.Row → Type 0
@@ -168,11 +168,10 @@ float_operands_fit w =
     first-float (float.memory_rows ++ float.fused_rows ++ float.operation_rows)
     (float-append _ _ (float-append _ _ float_memory float_fused) float_operations) w
 
-either_fits : (first second : Option Insn) → IfSome first HasOperands → IfSome second HasOperands → IfSome (option_or first second) HasOperands
+pub either_fits : (first second : Option Insn) → IfSome first HasOperands → IfSome second HasOperands → IfSome (option_or first second) HasOperands
 either_fits None second h k = k
 either_fits (Some insn) second h k = h
 
--- The instruction that a word is by either table, where there is a word.
-pub word_operands_fit : (word : Option ℕ) → IfSome (option_and_then word_insn word) HasOperands
-word_operands_fit None = tt
-word_operands_fit (Some w) = either_fits _ _ (operands_fit w) (float_operands_fit w)
+-- The instruction of RV64GC that a word is, by either table.
+pub rv64gc_operands_fit : (w : ℕ) → IfSome (rv64gc_insn w) HasOperands
+rv64gc_operands_fit w = either_fits _ _ (operands_fit w) (float_operands_fit w)

@@ -6,6 +6,7 @@ use Rattle.std.proofs.lemmas.Bool.{cond-true, cond-false}
 use Rattle.rv_decode.specs.declared.instructions.Insn.{Insn}
 use Rattle.rv_flow.specs.Placed.{placed_at}
 use Rattle.jump_table.specs.declared.step.Step.{Step}
+use Rattle.jump_table.specs.declared.values.Form.{Form}
 use Rattle.jump_table.specs.declared.values.Value.{Value}
 use Rattle.jump_table.specs.Section.{goes_on, straight_run}
 use Rattle.jump_table.specs.Inner.Straight.{IsLength}
@@ -14,8 +15,8 @@ use Rattle.jump_table.specs.Values.{Registers, after_placed, after_run}
 use Rattle.jump_table.proofs.Placed.{placed-length}
 
 -- A straight run leads from a to j in n instructions, if at all, and behind it register r holds this.
-abbrev pub value_from : Bool → List ℕ → ℕ → ℕ → ℕ → ℕ → Registers → ℕ → Option Value
-value_from is_open bytes start j n a before r = option_map (λ run. after_run is_open bytes run before r) (straight_run bytes start j n a)
+abbrev pub value_from : Form → List ℕ → ℕ → ℕ → ℕ → ℕ → Registers → ℕ → Option Value
+value_from form bytes start j n a before r = option_map (λ run. after_run form bytes run before r) (straight_run bytes start j n a)
 
 -- An address so many parcels before the jump is that of the jump where there are none.
 pub at_jump : (j k : ℕ) → 2 * k ≤ j → (j - 2 * k == j) ≡ (k == 0)
@@ -126,22 +127,22 @@ module _ (bytes : List ℕ) (start j : ℕ) where
     map-map f g None = refl
     map-map f g (Some x) = refl
 
-    pub value-on : (is_open : Bool) (m n : ℕ) (before : Registers) (r : ℕ) → m ≡ suc n
-        → value_from is_open bytes start j m (j - 2 * k) before r
-        ≡ value_from is_open bytes start j n (j - 2 * step.next) (after_placed is_open (j - 2 * k) step.insn before) r
-    value-on is_open m n before r e =
-        ap (λ o. option_map (λ run. after_run is_open bytes run before r) o) (goes_to m n e)
-        ∙ map-map (λ run. (j - 2 * k) ∷ run) (λ run. after_run is_open bytes run before r) (run_from n (j - 2 * step.next))
-        ∙ ap (λ (insn : Option Insn). value_from is_open bytes start j n (j - 2 * step.next) (after_placed is_open (j - 2 * k) insn before) r) (sym is.insn)
+    pub value-on : (form : Form) (m n : ℕ) (before : Registers) (r : ℕ) → m ≡ suc n
+        → value_from form bytes start j m (j - 2 * k) before r
+        ≡ value_from form bytes start j n (j - 2 * step.next) (after_placed form (j - 2 * k) step.insn before) r
+    value-on form m n before r e =
+        ap (λ o. option_map (λ run. after_run form bytes run before r) o) (goes_to m n e)
+        ∙ map-map (λ run. (j - 2 * k) ∷ run) (λ run. after_run form bytes run before r) (run_from n (j - 2 * step.next))
+        ∙ ap (λ (insn : Option Insn). value_from form bytes start j n (j - 2 * step.next) (after_placed form (j - 2 * k) insn before) r) (sym is.insn)
 
   -- ---- what a register holds at the jump
 
-  module _ (is_open : Bool) (n a : ℕ) (before : Registers) (r : ℕ) where
-    pub value-here : a ≡ j → value_from is_open bytes start j n a before r ≡ Some (before r)
-    value-here is = ap (λ o. option_map (λ run. after_run is_open bytes run before r) o) (there_now n a is)
+  module _ (form : Form) (n a : ℕ) (before : Registers) (r : ℕ) where
+    pub value-here : a ≡ j → value_from form bytes start j n a before r ≡ Some (before r)
+    value-here is = ap (λ o. option_map (λ run. after_run form bytes run before r) o) (there_now n a is)
 
-    pub value-none : run_from n a ≡ None → value_from is_open bytes start j n a before r ≡ None
-    value-none none = ap (λ o. option_map (λ run. after_run is_open bytes run before r) o) none
+    pub value-none : run_from n a ≡ None → value_from form bytes start j n a before r ≡ None
+    value-none none = ap (λ o. option_map (λ run. after_run form bytes run before r) o) none
 
-    pub value-end : n ≡ 0 → a ≢ j → value_from is_open bytes start j n a before r ≡ None
+    pub value-end : n ≡ 0 → a ≢ j → value_from form bytes start j n a before r ≡ None
     value-end is other = value-none (ap (λ k. run_from k a) is ∙ too_long a other)

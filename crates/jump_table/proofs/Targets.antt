@@ -1,5 +1,5 @@
--- What a jump table always has: at least one entry, at most as many as its bound, 2,048 at most, and a
--- target in the code for each of them.
+-- What a jump table always has: at least one entry, at most as many as its bound, 2,048 at most if it
+-- has a bound test, and a target in the code for each of them.
 use Rattle.std.proofs.Common.{◌≡◌, ℕ, zero, suc, ◌+◌, ◌*◌, ◌-◌, ◌%◌, ◌<◌, ◌≤◌, ◌^◌, ◌⊎◌, ◌==◌, ◌&&◌, Bool, true, false, cond, List, [], ◌∷◌, length, Option, Some, None, is_some, refl, sym, ap, ◌∙◌, subst, inl, inr, arith}
 use Rattle.std.specs.Prelude.{IfSome, All, nat_lt, nat_le, ℤ, pos, negsuc}
 use Rattle.std.specs.Option.{option_map, option_and_then, option_or}
@@ -8,6 +8,8 @@ use Rattle.std.proofs.lemmas.Bool.{cond_both}
 use Rattle.std.proofs.lemmas.Bool.Decides.{nat_tests}
 use Rattle.std.proofs.lemmas.List.Elements.{All-nil, All-cons}
 use Rattle.elf_image.specs.Code.{section_start, is_code, half_at, word_at}
+use Rattle.elf_image.specs.declared.declared.DeclaredTable.{DeclaredTable}
+use Rattle.elf_image.specs.DeclaredTables.{declared_at}
 use Rattle.rv_decode.specs.declared.instructions.Insn.{Insn}
 use Rattle.rv_decode.specs.declared.instructions.Insn.TheVariants as insns
 use Rattle.rv_decode.specs.declared.instructions.ImmKind.{ImmKind}
@@ -24,12 +26,13 @@ use Rattle.jump_table.specs.declared.bound.BoundTest.{BoundTest}
 use Rattle.jump_table.specs.declared.place.Place.{Place}
 use Rattle.jump_table.specs.declared.width.Width.{Width}
 use Rattle.jump_table.specs.declared.width.Width.TheVariants.{Word, Double}
+use Rattle.jump_table.specs.declared.values.Form.TheVariants.{Bounded, Open}
 use Rattle.jump_table.specs.declared.values.Value.{Value}
 use Rattle.jump_table.specs.declared.values.Value.TheVariants.{Entry, EntryPlus}
 use Rattle.jump_table.specs.Bound.{bound_test, run_behind}
 use Rattle.jump_table.specs.Nearest.{evens, nearest}
 use Rattle.jump_table.specs.Values.{bytes_of, at_test, forgotten}
-use Rattle.jump_table.specs.Table.{place_of, value_behind, place_by_test, bounded_place, place_from, open_place, kept_target, target_by_entry, entry_at, entry_target, targets_from, count_of, table_of_count, table_at_place, jump_register, table_through, table_at, table_targets}
+use Rattle.jump_table.specs.Table.{place_of, value_behind, place_by_test, bounded_place, width_of, place_by_record, declared_place, place_from, open_place, kept_target, target_by_entry, entry_at, entry_target, targets_from, count_of, table_of_count, table_at_place, jump_register, table_without_test, table_through, table_at, table_targets}
 use Rattle.jump_table.proofs.Operands.{operands_fit_there}
 
 -- ---- options
@@ -210,26 +213,29 @@ module _ (bytes : List ℕ) (start : ℕ) where
 
 -- ---- places
 
--- A place whose bound is at most 2,048, and 1,024 where it is open.
+-- A place with a bound test has a bound of at most 2,048.
 pub record IsBoundedPlace (place : Place) : Type 0 where
-  pub bounded : place.bound ≤ 2048
-  pub open_bounded : place.is_open ≡ true → place.bound ≤ 1024
+  pub tested : place.is_open ≡ false → place.bound ≤ 2048
 
 place-bounded : (bound : ℕ) (value : Value) → bound ≤ 2048 → IfSome (place_of false bound value) IsBoundedPlace
-place-bounded bound (Entry v w) small = record { bounded = small; open_bounded = λ is. absurd (cc) }
-place-bounded bound (EntryPlus v w k) small = record { bounded = small; open_bounded = λ is. absurd (cc) }
+place-bounded bound (Entry v w) small = record { tested = λ _. small }
+place-bounded bound (EntryPlus v w k) small = record { tested = λ _. small }
 place-bounded bound _ small = tt
 
 place-open : (value : Value) → IfSome (place_of true 1024 value) IsBoundedPlace
-place-open (Entry v w) = record { bounded = omega arith; open_bounded = λ is. omega arith }
-place-open (EntryPlus v w k) = record { bounded = omega arith; open_bounded = λ is. omega arith }
+place-open (Entry v w) = record { tested = λ is. absurd (cc) }
+place-open (EntryPlus v w k) = record { tested = λ is. absurd (cc) }
 place-open _ = tt
+
+place-declared : (declared : DeclaredTable) (width : Option Width) → IfSome (option_map (place_by_record declared) width) IsBoundedPlace
+place-declared declared None = tt
+place-declared declared (Some width) = record { tested = λ is. absurd (cc) }
 
 module _ (bytes : List ℕ) (start j r : ℕ) where
   tested-place : (test : BoundTest) → IsBoundedTest test → IfSome (place_by_test bytes start j r test) IsBoundedPlace
   tested-place test small =
-      after_step (λ bound. option_and_then (place_of false bound) (value_behind false bytes start j r (at_test test.index) (test.at + 4))) test.bound IsBoundedPlace
-      (λ bound is. after_step (place_of false bound) (value_behind false bytes start j r (at_test test.index) (test.at + 4)) IsBoundedPlace
+      after_step (λ bound. option_and_then (place_of false bound) (value_behind (Bounded bound) bytes start j r (at_test test.index) (test.at + 4))) test.bound IsBoundedPlace
+      (λ bound is. after_step (place_of false bound) (value_behind (Bounded bound) bytes start j r (at_test test.index) (test.at + 4)) IsBoundedPlace
       (λ value _. place-bounded bound value (there test.bound bound (λ n. n ≤ 2048) is small)))
 
   places-bounded : IfSome (bounded_place bytes start j r) IsBoundedPlace
@@ -237,8 +243,13 @@ module _ (bytes : List ℕ) (start j r : ℕ) where
       after_step (place_by_test bytes start j r) (bound_test bytes start j) IsBoundedPlace
       (λ test is. tested-place test (there (bound_test bytes start j) test IsBoundedTest is (test-bounded bytes start j)))
 
+  places-declared : IfSome (declared_place bytes j) IsBoundedPlace
+  places-declared =
+      after_step (λ declared. option_map (place_by_record declared) (width_of declared.size)) (declared_at bytes j) IsBoundedPlace
+      (λ declared _. place-declared declared (width_of declared.size))
+
   place-from : (a : ℕ) → IfSome (place_from bytes start j r a) IsBoundedPlace
-  place-from a = after_step (place_of true 1024) (value_behind true bytes start j r forgotten a) IsBoundedPlace (λ value _. place-open value)
+  place-from a = after_step (place_of true 1024) (value_behind Open bytes start j r forgotten a) IsBoundedPlace (λ value _. place-open value)
 
   places-open : IfSome (open_place bytes start j r) IsBoundedPlace
   unfolding open_place
@@ -252,8 +263,7 @@ pub record IsTable (bytes : List ℕ) (table : Table) : Type 0 where
   pub counted : length (table_targets bytes table) ≡ table.count
   pub some : 0 < table.count
   pub bounded : table.count ≤ table.bound
-  pub small : table.bound ≤ 2048
-  pub open_small : table.is_open ≡ true → table.bound ≤ 1024
+  pub tested : table.is_open ≡ false → table.bound ≤ 2048
   pub targets : All (IsTarget bytes) (table_targets bytes table)
   pub aligned : table.base % table.width ≡ 0
   pub in_memory : table.base + table.width * table.count ≤ 2 ^ 64
@@ -285,8 +295,7 @@ module _ (bytes : List ℕ) where
           counted = ap length same ∙ sym (count-length (targets place.bound)) ∙ is;
           some = omega arith;
           bounded = omega (arith, at_most bytes place.base (bytes_of place.width) place.add 0 place.bound, is);
-          small = good.bounded;
-          open_small = good.open_bounded;
+          tested = good.tested;
           targets = targets-good bytes place.base (bytes_of place.width) place.add 0 (suc n);
           aligned = aligned;
           in_memory = in_memory (count_of (targets place.bound)) is (within bytes place.base (bytes_of place.width) place.add 0 place.bound);
@@ -318,9 +327,11 @@ module _ (bytes : List ℕ) where
   all_tables j =
       after_step (λ start. option_and_then (table_through bytes start j) (jump_register (raw_flow_at bytes j))) (section_start bytes j) (IsTable bytes)
       (λ start _. after_step (table_through bytes start j) (jump_register (raw_flow_at bytes j)) (IsTable bytes)
-      (λ r _. either-table _ _
+      (λ r _. either-table (option_and_then (table_at_place bytes) (bounded_place bytes start j r)) (table_without_test bytes start j r)
       (tables-at (bounded_place bytes start j r) (places-bounded bytes start j r))
-      (tables-at (open_place bytes start j r) (places-open bytes start j r))))
+      (either-table (option_and_then (table_at_place bytes) (declared_place bytes j)) (option_and_then (table_at_place bytes) (open_place bytes start j r))
+      (tables-at (declared_place bytes j) (places-declared bytes start j r))
+      (tables-at (open_place bytes start j r) (places-open bytes start j r)))))
 
 pub is_table : (bytes : List ℕ) (j : ℕ) (table : Table) → table_at bytes j ≡ Some table → IsTable bytes table
 is_table bytes j table is = there (table_at bytes j) table (IsTable bytes) is (all_tables bytes j)

@@ -1,16 +1,22 @@
 -- The jump table of a jump through a register (this project's profile).
 use Rattle.std.specs.Prelude.{◌≡◌, ℕ, ◌+◌, ◌*◌, ◌/◌, ◌%◌, ◌^◌, ◌-◌, ◌<◌, ◌==◌}
-use Rattle.std.specs.Prelude.{nat_lt, Bool, true, false, List, [], ◌∷◌, zero}
+use Rattle.std.specs.Prelude.{nat_lt, min, Bool, true, false, List, [], ◌∷◌, zero}
 use Rattle.std.specs.Prelude.{suc, pos, Option, Some, None, if◌then◌else◌}
 use Rattle.std.specs.Option.{option_map, option_and_then, option_or}
 use Rattle.elf_image.specs.Code.{section_start, is_code}
 use Rattle.elf_image.specs.ReadOnly.{data_word}
+use Rattle.elf_image.specs.declared.declared.DeclaredTable.{DeclaredTable}
+use Rattle.elf_image.specs.DeclaredTables.{declared_at}
 use Rattle.rv_flow.specs.declared.raw.RawFlow.{RawFlow}
 use Rattle.rv_flow.specs.declared.raw.RawFlow.TheVariants as raw
 use Rattle.rv_flow.specs.Raw.{raw_flow_at}
 use Rattle.jump_table.specs.declared.table.Table.{Table}
 use Rattle.jump_table.specs.declared.bound.BoundTest.{BoundTest}
 use Rattle.jump_table.specs.declared.place.Place.{Place}
+use Rattle.jump_table.specs.declared.width.Width.{Width}
+use Rattle.jump_table.specs.declared.width.Width.TheVariants.{Word, Double}
+use Rattle.jump_table.specs.declared.values.Form.{Form}
+use Rattle.jump_table.specs.declared.values.Form.TheVariants.{Bounded, Open}
 use Rattle.jump_table.specs.declared.values.Value.{Value}
 use Rattle.jump_table.specs.declared.values.Value.TheVariants.{Entry, EntryPlus}
 use Rattle.jump_table.specs.Bound.{bound_test}
@@ -75,26 +81,46 @@ place_of is_open bound _ = None
 
 -- What register r holds at the jump after the straight run from a, if there is one of at most 16
 -- instructions.
-abbrev pub value_behind : Bool → List ℕ → ℕ → ℕ → ℕ → Registers → ℕ → Option Value
-value_behind is_open bytes start j r before a =
-    option_map (λ run. after_run is_open bytes run before r) (straight_run bytes start j 16 a)
+abbrev pub value_behind : Form → List ℕ → ℕ → ℕ → ℕ → Registers → ℕ → Option Value
+value_behind form bytes start j r before a =
+    option_map (λ run. after_run form bytes run before r) (straight_run bytes start j 16 a)
 
 -- The bounded form: what the jump's register holds after the bound test, whose bound is good.
 abbrev pub place_by_test : List ℕ → ℕ → ℕ → ℕ → BoundTest → Option Place
 place_by_test bytes start j r test =
     option_and_then
     (λ bound. option_and_then (place_of false bound)
-    (value_behind false bytes start j r (at_test test.index) (test.at + 4)))
+    (value_behind (Bounded bound) bytes start j r (at_test test.index) (test.at + 4)))
     test.bound
 
 abbrev pub bounded_place : List ℕ → ℕ → ℕ → ℕ → Option Place
 bounded_place bytes start j r =
     option_and_then (place_by_test bytes start j r) (bound_test bytes start j)
 
+-- The declared form: what the file declares of the jump (`elf_image`, `Declared`). The size of an
+-- entry is 4 or 8, and at most 65,536 entries count.
+abbrev pub width_of : ℕ → Option Width
+width_of size = if size == 4 then Some Word else (if size == 8 then Some Double else None)
+
+abbrev pub place_by_record : DeclaredTable → Width → Place
+place_by_record declared width = record {
+  base = declared.base;
+  width = width;
+  add = declared.add;
+  bound = min declared.count 65536;
+  is_open = true;
+}
+
+abbrev pub declared_place : List ℕ → ℕ → Option Place
+declared_place bytes j =
+    option_and_then
+    (λ declared. option_map (place_by_record declared) (width_of declared.size))
+    (declared_at bytes j)
+
 -- The open form: what the jump's register holds after a run, if nothing is known before it.
 abbrev pub place_from : List ℕ → ℕ → ℕ → ℕ → ℕ → Option Place
 place_from bytes start j r a =
-    option_and_then (place_of true 1024) (value_behind true bytes start j r forgotten a)
+    option_and_then (place_of true 1024) (value_behind Open bytes start j r forgotten a)
 
 -- The run begins 4 to 64 bytes before the jump, as near to it as there is a place. No other is
 -- tried.
@@ -134,14 +160,21 @@ abbrev pub jump_register : RawFlow → Option ℕ
 jump_register (raw.RegisterJump r (pos zero)) = if r == 0 then None else Some r
 jump_register _ = None
 
--- The table of the jump at j through register r: of the bounded form, or else of the open form.
+-- The table of the jump at j through register r: of the bounded form, or else of the declared form,
+-- or else of the open form.
+abbrev pub table_without_test : List ℕ → ℕ → ℕ → ℕ → Option Table
+table_without_test bytes start j r =
+    option_or
+    (option_and_then (table_at_place bytes) (declared_place bytes j))
+    (option_and_then (table_at_place bytes) (open_place bytes start j r))
+
 abbrev pub table_through : List ℕ → ℕ → ℕ → ℕ → Option Table
 table_through bytes start j r =
     option_or
     (option_and_then (table_at_place bytes) (bounded_place bytes start j r))
-    (option_and_then (table_at_place bytes) (open_place bytes start j r))
+    (table_without_test bytes start j r)
 
--- The jump table of the instruction at the code address j, if it is a jump of the pattern.
+-- The jump table of the instruction at the code address j, if it is a jump of one of these forms.
 unfoldable pub table_at : List ℕ → ℕ → Option Table
 table_at bytes j =
     option_and_then (λ start. option_and_then (table_through bytes start j)

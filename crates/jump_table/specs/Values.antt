@@ -1,6 +1,6 @@
 -- The values that registers hold on the way to the jump (this project's profile).
-use Rattle.std.specs.Prelude.{ℕ, ◌==◌, Bool, true, List, [], ◌∷◌, zero}
-use Rattle.std.specs.Prelude.{ℤ, pos, if◌then◌else◌, Option, Some, None}
+use Rattle.std.specs.Prelude.{ℕ, ◌+◌, ◌-◌, ◌/◌, ◌%◌, ◌^◌, ◌==◌, nat_lt, nat_le, Bool, true, List}
+use Rattle.std.specs.Prelude.{[], ◌∷◌, zero, ℤ, pos, if◌then◌else◌, Option, Some, None}
 use Rattle.std.specs.Int.{cast_unsigned, w64}
 use Rattle.rv_decode.specs.declared.instructions.Insn.{Insn}
 use Rattle.rv_decode.specs.declared.instructions.Insn.TheVariants as insns
@@ -10,10 +10,14 @@ use Rattle.rv_decode.specs.declared.instructions.RegKind.{RegKind}
 use Rattle.rv_decode.specs.declared.instructions.RegKind.TheVariants as regs
 use Rattle.rv_decode.specs.declared.instructions.LoadKind.{LoadKind}
 use Rattle.rv_decode.specs.declared.instructions.LoadKind.TheVariants as loads
+use Rattle.rv_decode.specs.declared.instructions.ExtendKind.{ExtendKind}
+use Rattle.rv_decode.specs.declared.instructions.ExtendKind.TheVariants as extends
 use Rattle.rv_flow.specs.Placed.{placed_at}
 use Rattle.rv_flow.specs.Raw.{address_plus}
 use Rattle.jump_table.specs.declared.width.Width.{Width}
 use Rattle.jump_table.specs.declared.width.Width.TheVariants.{Word, Double}
+use Rattle.jump_table.specs.declared.values.Form.{Form}
+use Rattle.jump_table.specs.declared.values.Form.TheVariants.{Bounded, Open}
 use Rattle.jump_table.specs.declared.values.Value.{Value}
 use Rattle.jump_table.specs.declared.values.Value.TheVariants.{Unknown, Const, Index, High}
 use Rattle.jump_table.specs.declared.values.Value.TheVariants.{Scaled, Addr, Entry, EntryPlus}
@@ -40,9 +44,9 @@ abbrev pub forgotten : Registers
 forgotten r = if r == 0 then Const 0 else Unknown
 
 -- What a shift to the left finds: in the open form it takes the unknown for the index.
-abbrev pub shifted : Bool → Value → Value
-shifted true Unknown = Index
-shifted is_open value = value
+abbrev pub shifted : Form → Value → Value
+shifted Open Unknown = Index
+shifted form value = value
 
 -- A constant, moved by an immediate.
 abbrev pub moved_by : ℤ → Value → Value
@@ -90,11 +94,11 @@ abbrev pub ld_value : ℤ → Value → Value
 ld_value offset (Addr v Double) = Entry (address_plus v offset) Double
 ld_value offset _ = Unknown
 
-abbrev pub imm_value : Bool → ImmKind → ℤ → Value → Value
-imm_value is_open imms.Addi imm value = addi_value imm value
-imm_value is_open imms.Slli imm value = slli_value imm (shifted is_open value)
-imm_value is_open imms.Srli imm value = srli_value imm value
-imm_value is_open _ imm value = Unknown
+abbrev pub imm_value : Form → ImmKind → ℤ → Value → Value
+imm_value form imms.Addi imm value = addi_value imm value
+imm_value form imms.Slli imm value = slli_value imm (shifted form value)
+imm_value form imms.Srli imm value = srli_value imm value
+imm_value form _ imm value = Unknown
 
 abbrev pub reg_value : RegKind → Registers → ℕ → ℕ → Value
 reg_value regs.Add before rs1 rs2 = add_value before rs1 rs2
@@ -105,33 +109,84 @@ load_value loads.Lw offset value = lw_value offset value
 load_value loads.Ld offset value = ld_value offset value
 load_value _ offset value = Unknown
 
--- What the registers hold after an instruction at address a.
-abbrev pub after : Bool → ℕ → Insn → Registers → Registers
-after is_open a (insns.Lui rd imm) before = written before rd (Const (cast_unsigned w64 imm))
-after is_open a (insns.Auipc rd imm) before = written before rd (Const (address_plus a imm))
-after is_open a (insns.Load kind rd rs1 imm) before =
-    written before rd (load_value kind imm (before rs1))
-after is_open a (insns.Imm kind rd rs1 imm) before =
-    written before rd (imm_value is_open kind imm (before rs1))
-after is_open a (insns.Reg kind rd rs1 rs2) before =
-    written before rd (reg_value kind before rs1 rs2)
-after is_open a (insns.Jal rd offset) before = written before rd Unknown
-after is_open a (insns.Jalr rd rs1 imm) before = written before rd Unknown
-after is_open a (insns.ImmW kind rd rs1 imm) before = written before rd Unknown
-after is_open a (insns.RegW kind rd rs1 rs2) before = written before rd Unknown
-after is_open a (insns.Atomic kind wide acquire release rd rs1 rs2) before =
-    written before rd Unknown
-after is_open a (insns.Csr kind rd source csr) before = written before rd Unknown
-after is_open a (insns.Float writes reads) before = written before writes Unknown
-after is_open a insns.Ecall before = forgotten
-after is_open a _ before = before
+-- `zext.w`: the index stays the index.
+abbrev pub zext_w_value : Value → Value
+zext_w_value (Const v) = Const (v % 2 ^ 32)
+zext_w_value Index = Index
+zext_w_value _ = Unknown
 
-abbrev pub after_placed : Bool → ℕ → Option Insn → Registers → Registers
-after_placed is_open a None before = before
-after_placed is_open a (Some insn) before = after is_open a insn before
+-- An instruction of Zba stands for `zext.w t, rs1`, if it is one of the .uw forms, `slli t, t, n`,
+-- if n is not 0, and `add rd, t, rs2`, with t a register that nothing else uses.
+abbrev pub first_part : Bool → Value → Value
+first_part zero_extended value = if zero_extended then zext_w_value value else value
+
+abbrev pub second_part : Form → ℕ → Value → Value
+second_part form n value = if n == 0 then value else slli_value (pos n) (shifted form value)
+
+abbrev pub third_part : Registers → ℕ → Value → Value
+third_part before rs2 value = if rs2 == 0 then value else sum_of value (before rs2)
+
+abbrev pub shift_add_value : Form → ℕ → Bool → Registers → ℕ → ℕ → Value
+shift_add_value form n zero_extended before rs1 rs2 =
+    third_part before rs2 (second_part form n (first_part zero_extended (before rs1)))
+
+-- A constant's low byte or halfword, extended to 64 bits.
+abbrev pub extended : ExtendKind → ℕ → ℕ
+extended extends.SextB v =
+    if nat_lt (v % 2 ^ 8) (2 ^ 7) then v % 2 ^ 8 else v % 2 ^ 8 + (2 ^ 64 - 2 ^ 8)
+extended extends.SextH v =
+    if nat_lt (v % 2 ^ 16) (2 ^ 15) then v % 2 ^ 16 else v % 2 ^ 16 + (2 ^ 64 - 2 ^ 16)
+extended extends.ZextH v = v % 2 ^ 16
+
+-- An index that is less than 128 is its own low byte, sign extended, and any index of the bounded
+-- form its own low halfword. The open form takes each for the index again.
+abbrev pub keeps_index : Form → ExtendKind → Bool
+keeps_index (Bounded bound) extends.SextB = nat_le bound 128
+keeps_index form kind = true
+
+abbrev pub extend_value : Form → ExtendKind → Value → Value
+extend_value form kind (Const v) = Const (extended kind v)
+extend_value form kind Index = if keeps_index form kind then Index else Unknown
+extend_value form kind _ = Unknown
+
+-- After an instruction of which no more is known than the registers that it writes: those whose
+-- bits are set in a mask.
+abbrev pub overwritten : Registers → ℕ → Registers
+overwritten before mask r =
+    if r == 0 then Const 0 else (if mask / 2 ^ r % 2 == 1 then Unknown else before r)
+
+-- What the registers hold after an instruction at address a.
+abbrev pub after : Form → ℕ → Insn → Registers → Registers
+after form a (insns.Lui rd imm) before = written before rd (Const (cast_unsigned w64 imm))
+after form a (insns.Auipc rd imm) before = written before rd (Const (address_plus a imm))
+after form a (insns.Load kind rd rs1 imm) before =
+    written before rd (load_value kind imm (before rs1))
+after form a (insns.Imm kind rd rs1 imm) before =
+    written before rd (imm_value form kind imm (before rs1))
+after form a (insns.Reg kind rd rs1 rs2) before =
+    written before rd (reg_value kind before rs1 rs2)
+after form a (insns.Jal rd offset) before = written before rd Unknown
+after form a (insns.Jalr rd rs1 imm) before = written before rd Unknown
+after form a (insns.ImmW kind rd rs1 imm) before = written before rd Unknown
+after form a (insns.RegW kind rd rs1 rs2) before = written before rd Unknown
+after form a (insns.Atomic kind wide acquire release rd rs1 rs2) before =
+    written before rd Unknown
+after form a (insns.Csr kind rd source csr) before = written before rd Unknown
+after form a (insns.Float writes reads) before = written before writes Unknown
+after form a (insns.ShiftAdd shift zero_extended rd rs1 rs2) before =
+    written before rd (shift_add_value form shift zero_extended before rs1 rs2)
+after form a (insns.Extend kind rd rs1) before =
+    written before rd (extend_value form kind (before rs1))
+after form a (insns.Extension reads writes) before = overwritten before writes
+after form a insns.Ecall before = forgotten
+after form a _ before = before
+
+abbrev pub after_placed : Form → ℕ → Option Insn → Registers → Registers
+after_placed form a None before = before
+after_placed form a (Some insn) before = after form a insn before
 
 -- What the registers hold after a run of instructions at these addresses.
-abbrev pub after_run : Bool → List ℕ → List ℕ → Registers → Registers
-after_run is_open bytes [] before = before
-after_run is_open bytes (a ∷ run) before =
-    after_run is_open bytes run (after_placed is_open a (placed_at bytes a).insn before)
+abbrev pub after_run : Form → List ℕ → List ℕ → Registers → Registers
+after_run form bytes [] before = before
+after_run form bytes (a ∷ run) before =
+    after_run form bytes run (after_placed form a (placed_at bytes a).insn before)

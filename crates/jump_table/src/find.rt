@@ -5,18 +5,18 @@ ghost use Rattle.std.specs.Option.{option_and_then};
 ghost use Rattle.elf_image.specs.Code.{is_code};
 ghost use Rattle.rv_flow.specs.Raw.{raw_flow_at};
 ghost use Rattle.jump_table.specs.Inner.Operands.{IsRegister};
-ghost use Rattle.jump_table.specs.Table.{table_at_place, jump_register, table_through};
-ghost use Rattle.jump_table.specs.Table.{table_at, table_targets, HasEntry};
+ghost use Rattle.jump_table.specs.Table.{table_at_place, jump_register, table_without_test};
+ghost use Rattle.jump_table.specs.Table.{table_through, table_at, table_targets, HasEntry};
 
 use crate::approach::Approach;
 use crate::entries::{count_entries, target_at};
-use crate::place::{Place, bounded_place, open_place};
+use crate::place::{Place, bounded_place, declared_place, open_place};
 use crate::table::Table;
 use elf_image::Image;
 use rv_flow::{RawFlow, raw_flow};
 
 /// The jump table of the instruction at the code address `j`; `None` exactly if it is no jump of
-/// the pattern.
+/// the patterns, and the file declares none.
 pub fn find_table(image: &Image, j: u64) -> Option<Table>
     requires { IsTrue (is_code image.now j) }
     ensures { result ≡ table_at image.now j }
@@ -77,7 +77,20 @@ fn place_through(image: &Image, start: u64, j: u64, register: u8) -> Option<Plac
     let approach = Approach::new(image, start, j);
     match bounded_place(&approach, register) {
         Some(place) if has_table(image, place) => Some(place),
-        _ => open_place(&approach, register),
+        _ => place_without_test(&approach, register),
+    }
+}
+
+// Where the table of the jump through `register` would stand without its bound test: where the file
+// declares it if that gives a table, and else by the open form.
+fn place_without_test(way: &Approach, register: u8) -> Option<Place>
+    requires { IsRegister register }
+    ensures { table_without_test way.now.image.now way.now.start way.now.jump register
+        ≡ option_and_then (table_at_place way.now.image.now) result }
+{
+    match declared_place(way.image, way.jump) {
+        Some(place) if has_table(way.image, place) => Some(place),
+        _ => open_place(way, register),
     }
 }
 

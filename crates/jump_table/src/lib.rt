@@ -1,4 +1,5 @@
-//! The jump table of a jump through a register: by the pattern of a bounds check, or without one.
+//! The jump table of a jump through a register: by the pattern of a bounds check, by what the file
+//! declares, or by the pattern without a check.
 //!
 //! `specs/` says what the pattern is: the bound test, the values that registers hold on the way to
 //! the jump, and the table that they tell.
@@ -20,5 +21,5 @@ pub use entries::entry_target;
 pub use find::{find_table, target_of};
 pub use place::Place;
 pub use table::Table;
-pub use values::Value;
+pub use values::{Form, Value};
 pub use width::Width;

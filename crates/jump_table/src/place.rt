@@ -4,15 +4,19 @@ ghost use Rattle.std.specs.Prelude.{◌≡◌, ◌+◌, ◌-◌, ◌*◌, ◌<�
 ghost use Rattle.jump_table.specs.Inner.Operands.{IsRegister};
 ghost use Rattle.jump_table.specs.Inner.Near.{IsNear};
 ghost use Rattle.jump_table.specs.Table.{place_of, place_by_test};
-ghost use Rattle.jump_table.specs.Table.{bounded_place, place_from, open_place};
+ghost use Rattle.jump_table.specs.Table.{bounded_place, declared_place, place_from, open_place};
 
 use crate::approach::{Approach, MOST_PARCELS};
 use crate::bound::{BoundTest, bound_test};
 use crate::run::value_behind;
-use crate::values::{Registers, Value};
+use crate::values::{Form, Registers, Value};
 use crate::width::Width;
+use elf_image::{DeclaredTable, Image};
 
-/// How many entries of a table may count that has no bound test.
+/// How many entries of a table may count that the file declares.
+const MOST_DECLARED_ENTRIES: u32 = 65_536;
+
+/// How many entries of a table may count that has no bound test and is not declared.
 const MOST_OPEN_ENTRIES: u32 = 1024;
 
 /// Where a jump table stands, whose entries are not counted yet.
@@ -45,15 +49,31 @@ fn place_by_test(way: &Approach, test: BoundTest, register: u8) -> Option<Place>
     requires register { IsRegister register }
     ensures { result ≡ place_by_test way.now.image.now way.now.start way.now.jump register test }
 {
+    let bound = test.bound?;
     let parcels = (way.jump - (test.at + 4)) as usize / 2;
-    let value = value_behind(
-        way,
-        parcels,
-        Registers::at_test(test.index),
-        false,
-        register,
-    )?;
-    place_of(false, test.bound?, value)
+    let before = Registers::at_test(test.index);
+    let value = value_behind(way, parcels, before, Form::Bounded(bound), register)?;
+    place_of(false, bound, value)
+}
+
+/// Where the table of the jump at `j` would stand by what the file declares.
+pub(crate) fn declared_place(image: &Image, j: u64) -> Option<Place>
+    ensures { result ≡ declared_place image.now j }
+{
+    let DeclaredTable {
+        base,
+        add,
+        count,
+        size,
+        ..
+    } = image.declared(j)?;
+    Some(Place {
+        base,
+        width: Width::of_bytes(size)?,
+        add,
+        bound: count.min(MOST_DECLARED_ENTRIES),
+        is_open: true,
+    })
 }
 
 /// Where the table of the jump through `register` would stand without a bound test: by the run
@@ -84,7 +104,7 @@ fn place_from(way: &Approach, parcels: usize, register: u8) -> Option<Place>
 {
     // From most of the parcels no run leads to the jump.
     way.steps[parcels]?;
-    let value = value_behind(way, parcels, Registers::unknown(), true, register)?;
+    let value = value_behind(way, parcels, Registers::unknown(), Form::Open, register)?;
     place_of(true, MOST_OPEN_ENTRIES, value)
 }
 

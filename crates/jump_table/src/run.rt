@@ -7,7 +7,7 @@ ghost use Rattle.jump_table.specs.Section.{straight_run};
 ghost use Rattle.jump_table.specs.Table.{value_behind};
 
 use crate::approach::Approach;
-use crate::values::{Registers, Value};
+use crate::values::{Form, Registers, Value};
 
 /// How many instructions may stand in a run.
 const MOST_INSTRUCTIONS: u32 = 16;
@@ -39,14 +39,14 @@ pub(crate) fn value_behind(
     way: &Approach,
     parcels: usize,
     before: Registers,
-    is_open: bool,
+    form: Form,
     register: u8,
 ) -> Option<Value>
     requires few { parcels < 33 }
     requires inside { way.now.start + 2 * parcels ≤ way.now.jump }
     requires register { IsRegister register }
     ensures { result
-        ≡ value_behind is_open way.now.image.now way.now.start way.now.jump register
+        ≡ value_behind form way.now.image.now way.now.start way.now.jump register
         (held_by before.values) (way.now.jump - 2 * parcels) }
 {
     let mut registers = before;
@@ -56,7 +56,7 @@ pub(crate) fn value_behind(
             return Some(registers.get(register));
         }
         let step = way.steps[left]?;
-        registers.pass(is_open, way.jump - 2 * left as u64, step.insn);
+        registers.pass(form, way.jump - 2 * left as u64, step.insn);
         left = step.next;
     }
     if left == 0 {

@@ -10,7 +10,8 @@ pub struct Table {
     pub width: u8,
     /// How many entries have a target in the code, one after another from the first: at least 1.
     pub count: u32,
-    /// How many entries the bound test allows, at most 2,048; or 1,024 if the table is open.
+    /// How many entries may count: as many as the bound test allows, at most 2,048; as many as are
+    /// declared, at most 65,536; or 1,024.
     pub bound: u32,
     /// What is added to an entry.
     pub add: u64,

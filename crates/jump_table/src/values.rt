@@ -4,11 +4,23 @@ ghost use Rattle.std.specs.Prelude.{◌≡◌, IfSome, length};
 ghost use Rattle.jump_table.specs.Inner.Operands.{IsRegister, HasOperands};
 ghost use Rattle.jump_table.specs.Values.{at_test, written, forgotten, shifted, addi_value};
 ghost use Rattle.jump_table.specs.Values.{slli_value, srli_value, sum_of, add_value, imm_value};
-ghost use Rattle.jump_table.specs.Values.{reg_value, load_value, after, after_placed};
+ghost use Rattle.jump_table.specs.Values.{reg_value, load_value, zext_w_value, first_part};
+ghost use Rattle.jump_table.specs.Values.{second_part, third_part, shift_add_value, extended};
+ghost use Rattle.jump_table.specs.Values.{keeps_index, extend_value, overwritten, after};
+ghost use Rattle.jump_table.specs.Values.{after_placed};
 ghost use Rattle.jump_table.specs.Inner.Held.{held_by};
 
 use crate::width::Width;
-use rv_decode::{ImmKind, Insn, LoadKind, RegKind};
+use rv_decode::{ExtendKind, ImmKind, Insn, LoadKind, RegKind};
+
+/// Which form of the pattern a run of instructions is looked at for.
+#[derive(Clone, Copy)]
+pub enum Form {
+    /// After a bound test, which this many values of the index pass.
+    Bounded(u32),
+    /// Without one.
+    Open,
+}
 
 /// What is known of a register's value. Sums are modulo 2 to the power 64.
 #[derive(Clone, Copy)]
@@ -86,20 +98,31 @@ impl Registers {
         self.values[rd as usize] = value;
     }
 
+    /// Forgets the registers whose bits are set in `mask`.
+    fn forget(&mut self, mask: u32)
+        ensures { held_by self.new.values ≡ overwritten (held_by self.old.values) mask }
+    {
+        for r in 0..32 {
+            if (mask >> r) % 2 == 1 {
+                self.set(r, Value::Unknown);
+            }
+        }
+    }
+
     /// Goes past what stands at address `a`.
-    pub(crate) fn pass(&mut self, is_open: bool, a: u64, insn: Option<Insn>)
+    pub(crate) fn pass(&mut self, form: Form, a: u64, insn: Option<Insn>)
         requires { IfSome insn HasOperands }
-        ensures { held_by self.new.values ≡ after_placed is_open a insn (held_by self.old.values) }
+        ensures { held_by self.new.values ≡ after_placed form a insn (held_by self.old.values) }
     {
         if let Some(insn) = insn {
-            self.pass_insn(is_open, a, insn);
+            self.pass_insn(form, a, insn);
         }
     }
 
     /// Goes past the instruction `insn` at address `a`.
-    fn pass_insn(&mut self, is_open: bool, a: u64, insn: Insn)
+    fn pass_insn(&mut self, form: Form, a: u64, insn: Insn)
         requires { HasOperands insn }
-        ensures { held_by self.new.values ≡ after is_open a insn (held_by self.old.values) }
+        ensures { held_by self.new.values ≡ after form a insn (held_by self.old.values) }
     {
         match insn {
             Insn::Lui { rd, imm } => self.set(rd, Value::Const(imm.cast_unsigned())),
@@ -108,7 +131,7 @@ impl Registers {
                 self.set(rd, load_value(kind, imm, self.get(rs1)));
             }
             Insn::Imm { kind, rd, rs1, imm } => {
-                self.set(rd, imm_value(is_open, kind, imm, self.get(rs1)));
+                self.set(rd, imm_value(form, kind, imm, self.get(rs1)));
             }
             Insn::Reg { kind, rd, rs1, rs2 } => self.set(rd, reg_value(kind, self, rs1, rs2)),
             Insn::Jal { rd, .. }
@@ -118,6 +141,20 @@ impl Registers {
             | Insn::Atomic { rd, .. }
             | Insn::Csr { rd, .. }
             | Insn::Float { writes: rd, .. } => self.set(rd, Value::Unknown),
+            Insn::ShiftAdd {
+                shift,
+                zero_extended,
+                rd,
+                rs1,
+                rs2,
+            } => self.set(
+                rd,
+                shift_add_value(form, shift, zero_extended, self, rs1, rs2),
+            ),
+            Insn::Extend { kind, rd, rs1 } => {
+                self.set(rd, extend_value(form, kind, self.get(rs1)));
+            }
+            Insn::Extension { writes, .. } => self.forget(writes),
             Insn::Ecall => *self = Registers::unknown(),
             Insn::Branch { .. } | Insn::Store { .. } | Insn::Fence | Insn::FenceI | Insn::Ebreak =>
                 {}
@@ -125,12 +162,12 @@ impl Registers {
     }
 }
 
-fn imm_value(is_open: bool, kind: ImmKind, imm: i64, value: Value) -> Value
-    ensures { result ≡ imm_value is_open kind imm value }
+fn imm_value(form: Form, kind: ImmKind, imm: i64, value: Value) -> Value
+    ensures { result ≡ imm_value form kind imm value }
 {
     match kind {
         ImmKind::Addi => addi_value(imm, value),
-        ImmKind::Slli => slli_value(imm, shifted(is_open, value)),
+        ImmKind::Slli => slli_value(imm, shifted(form, value)),
         ImmKind::Srli => srli_value(imm, value),
         _ => Value::Unknown,
     }
@@ -148,11 +185,11 @@ fn addi_value(imm: i64, value: Value) -> Value
 }
 
 // What a shift to the left finds: in the open form it takes the unknown for the index.
-fn shifted(is_open: bool, value: Value) -> Value
-    ensures { result ≡ shifted is_open value }
+fn shifted(form: Form, value: Value) -> Value
+    ensures { result ≡ shifted form value }
 {
     match value {
-        Value::Unknown if is_open => Value::Index,
+        Value::Unknown if matches!(form, Form::Open) => Value::Index,
         value => value,
     }
 }
@@ -232,6 +269,75 @@ fn load_value(kind: LoadKind, offset: i64, value: Value) -> Value
         (LoadKind::Ld, Value::Addr(v, Width::Double)) => {
             Value::Entry(v.wrapping_add_signed(offset), Width::Double)
         }
+        _ => Value::Unknown,
+    }
+}
+
+// `zext.w`.
+fn zext_w_value(value: Value) -> Value
+    ensures { result ≡ zext_w_value value }
+{
+    match value {
+        Value::Const(v) => Value::Const(v % (1 << 32)),
+        Value::Index => Value::Index,
+        _ => Value::Unknown,
+    }
+}
+
+// `zext.w`, `slli` and `add`, one after the other.
+fn shift_add_value(
+    form: Form,
+    shift: u8,
+    zero_extended: bool,
+    before: &Registers,
+    rs1: u8,
+    rs2: u8,
+) -> Value
+    requires first { IsRegister rs1 }
+    requires second { IsRegister rs2 }
+    ensures { result
+        ≡ shift_add_value form shift zero_extended (held_by before.now.values) rs1 rs2 }
+{
+    let mut value = before.get(rs1);
+    if zero_extended {
+        value = zext_w_value(value);
+    }
+    if shift != 0 {
+        value = slli_value(i64::from(shift), shifted(form, value));
+    }
+    if rs2 != 0 {
+        value = sum_of(value, before.get(rs2));
+    }
+    value
+}
+
+// A constant's low byte or halfword, extended to 64 bits.
+fn extended(kind: ExtendKind, v: u64) -> u64
+    ensures { result ≡ extended kind v }
+{
+    match kind {
+        ExtendKind::SextB => i64::from(((v % (1 << 8)) as u8).cast_signed()).cast_unsigned(),
+        ExtendKind::SextH => i64::from(((v % (1 << 16)) as u16).cast_signed()).cast_unsigned(),
+        ExtendKind::ZextH => v % (1 << 16),
+    }
+}
+
+// Whether an extension of the index is the index.
+fn keeps_index(form: Form, kind: ExtendKind) -> bool
+    ensures { result ≡ keeps_index form kind }
+{
+    match (form, kind) {
+        (Form::Bounded(bound), ExtendKind::SextB) => bound <= 128,
+        _ => true,
+    }
+}
+
+fn extend_value(form: Form, kind: ExtendKind, value: Value) -> Value
+    ensures { result ≡ extend_value form kind value }
+{
+    match value {
+        Value::Const(v) => Value::Const(extended(kind, v)),
+        Value::Index if keeps_index(form, kind) => Value::Index,
         _ => Value::Unknown,
     }
 }

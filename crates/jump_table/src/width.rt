@@ -2,6 +2,7 @@
 
 ghost use Rattle.std.specs.Prelude.{◌≡◌, ◌<◌};
 ghost use Rattle.jump_table.specs.Values.{bytes_of};
+ghost use Rattle.jump_table.specs.Table.{width_of};
 
 /// The size of an entry of a table, by which the index was scaled.
 #[derive(Clone, Copy)]
@@ -13,6 +14,17 @@ pub enum Width {
 }
 
 impl Width {
+    /// The width of this many bytes, if it is one.
+    pub(crate) fn of_bytes(size: u32) -> Option<Width>
+        ensures { result ≡ width_of size }
+    {
+        match size {
+            4 => Some(Width::Word),
+            8 => Some(Width::Double),
+            _ => None,
+        }
+    }
+
     /// The size in bytes.
     pub fn bytes(self) -> u8
         ensures value { result ≡ bytes_of self }

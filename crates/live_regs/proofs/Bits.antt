@@ -74,3 +74,11 @@ leaving_bit r a false false d e h = h ∙ (e ∙ with_all (not (r == 0)))
 
 pub zero_bit : (r : ℕ) → has_bit 0 r ≡ false
 zero_bit r = ap (λ x. x == 1) (bit_at-zero r)
+
+-- the bit of x0
+pub lowest_bit : (r : ℕ) → has_bit 1 r ≡ (r == 0)
+lowest_bit zero = refl
+lowest_bit (suc r) = ap (λ x. x == 1) (bit_at-suc 1 r ∙ bit_at-zero r) ∙ higher r
+  where
+    higher : (r : ℕ) → (0 == 1) ≡ (suc r == 0)
+    higher r = grind (arith, nat_tests)

@@ -1,9 +1,9 @@
 pub mod Masks
 mod Keyed
--- Edges is cited by proofs of live_crew.
+-- Edges is cited by proofs of live_crew, and Runs by those of free_laws.
 pub mod Edges
 mod Bits
-mod Runs
+pub mod Runs
 mod Noted
 mod Added
 mod Gathered

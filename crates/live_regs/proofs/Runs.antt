@@ -3,6 +3,7 @@ use Rattle.std.proofs.Common.{◌≡◌, ℕ, zero, suc, ◌+◌, ◌-◌, ◌<�
 use Rattle.std.specs.Prelude.{if◌then◌else◌}
 use Rattle.std.specs.Option.{option_map_or}
 use Rattle.std.proofs.lemmas.Bool.{cond_both, cond-true, cond-false, lt-ltb, le-ltb}
+use Rattle.elf_image.specs.Architecture.{extensions_of}
 use Rattle.elf_image.specs.Code.{half_at, word_at}
 use Rattle.rv_decode.specs.declared.instructions.Insn.{Insn}
 use Rattle.rv_flow.specs.declared.placed.Placed.{Placed}
@@ -20,18 +21,18 @@ module _ (bytes : List ℕ) where
   whole_some None = omega arith
   whole_some (Some insn) = omega arith
 
-  by_half : (a : ℕ) (half : Option ℕ) → 0 < (option_map_or (placed_by bytes a) half bad).length
+  by_half : (a : ℕ) (half : Option ℕ) → 0 < (option_map_or (placed_by (extensions_of bytes) bytes a) half bad).length
   by_half a None = omega arith
   by_half a (Some half) =
       cond_both (half % 4 == 3) _ _ (λ (p : Placed). 0 < p.length)
-      (λ _. cond_both (half / 4 % 8 == 7) bad (whole (whole_insn (word_at bytes a))) (λ (p : Placed). 0 < p.length) (λ _. omega arith) (λ _. whole_some (whole_insn (word_at bytes a))))
+      (λ _. cond_both (half / 4 % 8 == 7) bad (whole (whole_insn (extensions_of bytes) (word_at bytes a))) (λ (p : Placed). 0 < p.length) (λ _. omega arith) (λ _. whole_some (whole_insn (extensions_of bytes) (word_at bytes a))))
       (λ _. omega arith)
 
   pub some_bytes : (a : ℕ) → 0 < (placed_at bytes a).length
   some_bytes a = by_half a (half_at bytes a)
 
   module _ (end : ℕ) where
-    none_from : (most a : ℕ) → end ≤ a → placed_from bytes end most a ≡ []
+    pub none_from : (most a : ℕ) → end ≤ a → placed_from bytes end most a ≡ []
     unfolding placed_from
     none_from zero a h = refl
     none_from (suc most) a h = cond-false (nat_lt a end) _ [] (le-ltb a end h)

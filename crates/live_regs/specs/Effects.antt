@@ -1,6 +1,7 @@
 -- The integer registers that an instruction reads and writes, by the operands of its format (RISC-V
 -- Unprivileged ISA 20240411, sections 2.2 and 2.8, and chapters 7 and 14).
 use Rattle.std.specs.Prelude.{ℕ, ◌==◌, ◌&&◌, ◌||◌, Bool, true, false, not, Option, Some, None}
+use Rattle.mask_flow.specs.Reaches.{has_bit}
 use Rattle.rv_decode.specs.declared.instructions.Insn.{Insn}
 use Rattle.rv_decode.specs.declared.instructions.Insn.TheVariants as insns
 use Rattle.rv_decode.specs.declared.instructions.CsrKind.{CsrKind}
@@ -17,7 +18,7 @@ takes_register csrs.Csrrsi = false
 takes_register csrs.Csrrci = false
 
 -- xr is a source register of the instruction. ECALL may hand on every register (this project's
--- profile).
+-- profile). Most instructions of further extensions are known by sets of registers, as masks.
 abbrev pub has_source : Insn → ℕ → Bool
 has_source (insns.Lui rd imm) r = false
 has_source (insns.Auipc rd imm) r = false
@@ -37,6 +38,9 @@ has_source insns.Ecall r = true
 has_source insns.Ebreak r = false
 has_source (insns.Csr kind rd source csr) r = takes_register kind && r == source
 has_source (insns.Float writes reads) r = r == reads
+has_source (insns.ShiftAdd shift zero_extended rd rs1 rs2) r = r == rs1 || r == rs2
+has_source (insns.Extend kind rd rs1) r = r == rs1
+has_source (insns.Extension reads writes) r = has_bit reads r
 
 -- xr is the destination register of the instruction.
 abbrev pub has_destination : Insn → ℕ → Bool
@@ -58,6 +62,9 @@ has_destination insns.Ecall r = false
 has_destination insns.Ebreak r = false
 has_destination (insns.Csr kind rd source csr) r = r == rd
 has_destination (insns.Float writes reads) r = r == writes
+has_destination (insns.ShiftAdd shift zero_extended rd rs1 rs2) r = r == rd
+has_destination (insns.Extend kind rd rs1) r = r == rd
+has_destination (insns.Extension reads writes) r = has_bit writes r
 
 -- The instruction reads xr: x0 is a constant (section 2.1), and what is no instruction reads none.
 abbrev pub reads : Option Insn → ℕ → Bool

@@ -2,6 +2,7 @@
 
 ghost use Rattle.std.specs.Prelude.{◌≡◌, ℕ, ◌-◌, ◌<◌, ◌==◌, ◌&&◌, ◌||◌, not, Some};
 ghost use Rattle.mask_flow.specs.Reaches.{has_bit};
+ghost use Rattle.elf_image.specs.Architecture.{extensions_of};
 ghost use Rattle.rv_flow.specs.Placed as placed;
 ghost use Rattle.live_regs.specs.Effects.{reads, takes_register, writes};
 ghost use Rattle.live_regs.specs.Run.{instructions_of, placed_from};
@@ -106,23 +107,23 @@ fn effects_at(image: &Image, a: u64) -> PlacedEffects
     if half & 0b11 != 0b11 {
         PlacedEffects {
             length: 2,
-            effects: effects_of_half(half),
+            effects: effects_of_half(image, half),
         }
     } else if half >> 2 & 0b111 == 0b111 {
         NO_INSN
     } else {
-        effects_of_whole(image.word_at(a))
+        effects_of_whole(image, image.word_at(a))
     }
 }
 
 /// What the 32-bit instruction that a whole word is reads and writes, if the word is there.
-fn effects_of_whole(word: Option<u32>) -> PlacedEffects
-    ensures { ArePlacedEffects (placed.whole (placed.whole_insn word)) result }
+fn effects_of_whole(image: &Image, word: Option<u32>) -> PlacedEffects
+    ensures { ArePlacedEffects (placed.whole (placed.whole_insn (extensions_of image.now) word)) result }
 {
     let Some(word) = word else {
         return NO_INSN;
     };
-    match effects_of_word(word) {
+    match effects_of_word(image, word) {
         None => NO_INSN,
         Some(effects) => PlacedEffects { length: 4, effects },
     }
@@ -142,12 +143,14 @@ fn reads_of(insn: Insn) -> u32
         Insn::Jalr { rs1, .. }
         | Insn::Load { rs1, .. }
         | Insn::Imm { rs1, .. }
-        | Insn::ImmW { rs1, .. } => register(rs1),
+        | Insn::ImmW { rs1, .. }
+        | Insn::Extend { rs1, .. } => register(rs1),
         Insn::Branch { rs1, rs2, .. }
         | Insn::Store { rs1, rs2, .. }
         | Insn::Reg { rs1, rs2, .. }
         | Insn::RegW { rs1, rs2, .. }
-        | Insn::Atomic { rs1, rs2, .. } => register(rs1) | register(rs2),
+        | Insn::Atomic { rs1, rs2, .. }
+        | Insn::ShiftAdd { rs1, rs2, .. } => register(rs1) | register(rs2),
         Insn::Ecall => ALL,
         Insn::Csr { kind, source, .. } => {
             if takes_register(kind) {
@@ -157,10 +160,11 @@ fn reads_of(insn: Insn) -> u32
             }
         }
         Insn::Float { reads, .. } => register(reads),
+        Insn::Extension { reads, .. } => registers(reads),
     }
 }
 
-/// The register that an instruction writes.
+/// The registers that an instruction writes.
 fn writes_of(insn: Insn) -> u32
     ensures { (r : ℕ) → r < 32 → has_bit result r ≡ writes (Some insn) r }
 {
@@ -181,8 +185,11 @@ fn writes_of(insn: Insn) -> u32
         | Insn::Reg { rd, .. }
         | Insn::RegW { rd, .. }
         | Insn::Atomic { rd, .. }
-        | Insn::Csr { rd, .. } => register(rd),
+        | Insn::Csr { rd, .. }
+        | Insn::ShiftAdd { rd, .. }
+        | Insn::Extend { rd, .. } => register(rd),
         Insn::Float { writes, .. } => register(writes),
+        Insn::Extension { writes, .. } => registers(writes),
     }
 }
 
@@ -209,4 +216,11 @@ pub(crate) fn register(number: u8) -> u32
     } else {
         0
     }
+}
+
+/// A mask without the bit of x0.
+fn registers(mask: u32) -> u32
+    ensures { (r : ℕ) → r < 32 → has_bit result r ≡ (not (r == 0) && has_bit mask r) }
+{
+    without(mask, 1)
 }

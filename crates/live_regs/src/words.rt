@@ -1,18 +1,20 @@
-//! Which integer registers an instruction reads and writes, by its bits. Most words tell it by
-//! their opcode and the fields below it, and are not decoded.
+//! Which integer registers an instruction reads and writes, by its bits. What is no instruction of
+//! RV64GC is looked up among the extensions that the file names.
 
 ghost use Rattle.std.specs.Prelude.{◌≡◌, ℕ, ◌<◌, ◌==◌, ◌&&◌, ◌||◌, not, nat_lt};
 ghost use Rattle.mask_flow.specs.Reaches.{has_bit};
 ghost use Rattle.rv_decode.specs.Fields.{funct3, funct6, funct7};
-ghost use Rattle.rv_flow.specs.Placed.{compressed_insn, expanded, word_insn};
+ghost use Rattle.elf_image.specs.Architecture.{extensions_of};
+ghost use Rattle.rv_flow.specs.Placed.{compressed_insn, rv64gc_insn, word_insn};
 ghost use Rattle.live_regs.specs.Effects.{reads, writes};
 ghost use Rattle.live_regs.specs.Inner.{AreEffectsIf};
 
 use crate::effects::{Effects, effects_of, register};
+use elf_image::Image;
+use rv_decode::Insn;
 use rv_decode::fields::{funct3, funct6, funct7, opcode, rd, rs1, rs2};
-use rv_decode::{Insn, decode};
-use rv_float::{decode_float, expand_float};
-use rvc_expand::expand;
+use rv_extensions::{decode_extension, expand_extension};
+use rv_flow::{rv64gc_insn, rv64gc_word};
 
 // The major opcodes, by the ISA manual's names (RISC-V Unprivileged ISA 20240411, "RV32/64G
 // Instruction Set Listings").
@@ -39,19 +41,32 @@ const JALR: u8 = 0x67;
 const JAL: u8 = 0x6F;
 
 /// Of the 16-bit instruction that a halfword is; what is none neither reads nor writes.
-pub(crate) fn effects_of_half(half: u16) -> Effects
-    ensures reads { (r : ℕ) → r < 32 → has_bit result.reads r ≡ reads (compressed_insn half) r }
-    ensures writes { (r : ℕ) → r < 32 → has_bit result.writes r ≡ writes (compressed_insn half) r }
+pub(crate) fn effects_of_half(image: &Image, half: u16) -> Effects
+    ensures reads { (r : ℕ) → r < 32 → has_bit result.reads r
+        ≡ reads (compressed_insn (extensions_of image.now) half) r }
+    ensures writes { (r : ℕ) → r < 32 → has_bit result.writes r
+        ≡ writes (compressed_insn (extensions_of image.now) half) r }
 {
-    match expanded(half) {
-        None => Effects::NONE,
-        Some(word) => effects_of_word(word).unwrap_or(Effects::NONE),
+    match rv64gc_word(half) {
+        None => effects_of(expand_extension(image.extensions(), half)),
+        Some(word) => effects_of_rv64gc(word).unwrap_or(Effects::NONE),
     }
 }
 
 /// Of the instruction that a word is; `None` if it is no instruction.
-pub(crate) fn effects_of_word(word: u32) -> Option<Effects>
-    ensures { AreEffectsIf (word_insn word) result }
+pub(crate) fn effects_of_word(image: &Image, word: u32) -> Option<Effects>
+    ensures { AreEffectsIf (word_insn (extensions_of image.now) word) result }
+{
+    match effects_of_rv64gc(word) {
+        None => effects_if(decode_extension(image.extensions(), word)),
+        Some(effects) => Some(effects),
+    }
+}
+
+/// Of the instruction of RV64GC that a word is; `None` if it is none. Most words tell it by their
+/// opcode and the fields below it, and are not decoded.
+fn effects_of_rv64gc(word: u32) -> Option<Effects>
+    ensures { AreEffectsIf (rv64gc_insn word) result }
 {
     match opcode(word) {
         LUI | AUIPC | JAL => Some(effects_by(rd(word), 0, 0)),
@@ -65,7 +80,7 @@ pub(crate) fn effects_of_word(word: u32) -> Option<Effects>
         }
         STORE if funct3(word) < 4 => Some(effects_by(0, rs1(word), rs2(word))),
         BRANCH if is_branch(word) => Some(effects_by(0, rs1(word), rs2(word))),
-        _ => decoded_effects(word),
+        _ => effects_if(rv64gc_insn(word)),
     }
 }
 
@@ -90,11 +105,11 @@ fn is_branch(word: u32) -> bool
     !matches!(funct3(word), 2 | 3)
 }
 
-/// Of the instruction that a word is, which is decoded.
-fn decoded_effects(word: u32) -> Option<Effects>
-    ensures { AreEffectsIf (word_insn word) result }
+/// Of an instruction that was decoded, if it is one.
+fn effects_if(insn: Option<Insn>) -> Option<Effects>
+    ensures { AreEffectsIf insn result }
 {
-    match word_insn(word) {
+    match insn {
         None => None,
         insn => Some(effects_of(insn)),
     }
@@ -109,25 +124,5 @@ fn effects_by(rd: u8, rs1: u8, rs2: u8) -> Effects
     Effects {
         reads: register(rs1) | register(rs2),
         writes: register(rd),
-    }
-}
-
-/// The instruction that a word is, by the base table or the float table.
-fn word_insn(word: u32) -> Option<Insn>
-    ensures { result ≡ word_insn word }
-{
-    match decode(word) {
-        None => decode_float(word),
-        insn => insn,
-    }
-}
-
-/// The word that a halfword stands for, by either table of compressed forms.
-fn expanded(half: u16) -> Option<u32>
-    ensures { result ≡ expanded half }
-{
-    match expand(half) {
-        None => expand_float(half),
-        word => word,
     }
 }

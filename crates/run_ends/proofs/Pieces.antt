@@ -1,6 +1,6 @@
 -- One piece written after another.
-use Rattle.std.proofs.Common.{◌≡◌, ℕ, suc, ◌+◌, ◌<◌, List, ◌∷◌, ◌++◌, length, take, drop, drop-cons, get_or, Option, Some, None, sym, ap, ◌∙◌, arith, length-append, append_assoc}
-use Rattle.std.specs.Prelude.{Result, Ok, Err, OnErr, Vec}
+use Rattle.std.proofs.Common.{◌≡◌, ℕ, [], append-nil, suc, ◌+◌, ◌<◌, List, ◌∷◌, ◌++◌, length, take, drop, drop-cons, get_or, Option, Some, None, sym, ap, ◌∙◌, arith, length-append, append_assoc}
+use Rattle.std.specs.Prelude.{Result, Ok, Err, OnErr, OnOk, Vec}
 use Rattle.std.specs.List.{flat_map}
 use Rattle.std.specs.declared.alloc.Global.{Global}
 use Rattle.std.specs.Option.{option_map}
@@ -43,3 +43,18 @@ text_and_rest texts i text bytes is within same =
     rw (same, next)
     (sym (ap (λ (ts : List (Vec ℕ Global)). flat_map (λ t. t.items) ts)
     (drop-cons texts i text within ∙ ap (λ (t : Vec ℕ Global). t ∷ drop (suc i) texts) (sym is))))
+
+-- what is written, joined and to come, if a piece goes from the one to the other
+pub joined_rest : (done more now before piece left pieces : List ℕ) → more ++ now ≡ before ++ piece → piece ++ left ≡ pieces
+    → (done ++ more) ++ (now ++ left) ≡ done ++ (before ++ pieces)
+joined_rest done more now before piece left pieces moved all =
+    append_assoc done more (now ++ left)
+    ∙ ap (λ xs. done ++ xs) (sym (append_assoc more now left) ∙ ap (λ xs. xs ++ left) moved ∙ append_assoc before piece left ∙ ap (λ xs. before ++ xs) all)
+
+pub on_ok_map : {A B : Type 0} {P Q : Type 0} (r : Result A B) → (P → Q) → OnOk r P → OnOk r Q
+on_ok_map (Ok x) f p = f p
+on_ok_map (Err e) f p = p
+
+-- nothing is to come
+pub nothing_to_come : (done joined pieces text : List ℕ) → done ++ (joined ++ pieces) ≡ text → pieces ≡ [] → done ++ joined ≡ text
+nothing_to_come done joined pieces text whole none = ap (λ xs. done ++ xs) (sym (append-nil joined) ∙ ap (λ xs. joined ++ xs) (sym none)) ∙ whole

@@ -3,13 +3,16 @@
 //!
 //! - `reading`: all bytes of the file at a path, up to a limit.
 //! - `writing`: a text, whole, in parts or piece by piece.
+//! - `joined`: pieces that are joined before they are written.
 //! - `line`: the line on standard error.
 #![tactic(auto)]
 
+mod joined;
 mod line;
 mod reading;
 mod writing;
 
+pub use joined::JOINED;
 pub use line::tell;
 pub use reading::{FILE_LIMIT, Unread, read_file, read_within};
 pub use writing::{Unwritten, write_pieces, write_texts};

@@ -40,6 +40,8 @@ pub fn read_file<I: Input>(alloc: Global, path: &str, input: &mut I) -> Result<V
 
     ensures opened { (I.opened input.new ≡ Nothing)
         ⊎ (I.opened input.new ≡ Something (told_path (I.tells_path input.old) path.now)) }
+    ensures open { ¬ IsErrOf result Unread.ReadFault
+        → I.opened input.new ≡ Something (told_path (I.tells_path input.old) path.now) }
 {
     read_within(alloc, path, input, FILE_LIMIT)
 }
@@ -69,6 +71,8 @@ pub fn read_within<I: Input>(
 
     ensures opened { (I.opened input.new ≡ Nothing)
         ⊎ (I.opened input.new ≡ Something (told_path (I.tells_path input.old) path.now)) }
+    ensures open { ¬ IsErrOf result Unread.ReadFault
+        → I.opened input.new ≡ Something (told_path (I.tells_path input.old) path.now) }
 {
     match input.open(path) {
         Ok(()) => (),

@@ -1,4 +1,5 @@
-//! The instructions of RV64IMA with Zicsr and Zifencei, with their operands.
+//! The instructions of RV64IMA with Zicsr and Zifencei, with their operands, and what those of
+//! other extensions are by the crates that decode them.
 //!
 //! Registers are numbers below 32. Immediates and offsets are sign extended as the RISC-V
 //! Unprivileged ISA (20240411), section 2.3, says for their format.
@@ -112,6 +113,37 @@ pub enum Insn {
         writes: u8,
         reads: u8,
     },
+    /// `rs2` plus `rs1` shifted left by `shift`, 0 to 63; of `rs1` only its low 32 bits if
+    /// `zero_extended`: SH1ADD to SH3ADD, their .UW forms, ADD.UW, and SLLI.UW with x0 for `rs2`
+    /// (chapter "B" Extension for Bit Manipulation, "Zba"). No word is this without the extension.
+    ShiftAdd {
+        shift: u8,
+        zero_extended: bool,
+        rd: u8,
+        rs1: u8,
+        rs2: u8,
+    },
+    /// The low 8 or 16 bits of `rs1`, extended (chapter "B" Extension for Bit Manipulation, "Zbb").
+    Extend {
+        kind: ExtendKind,
+        rd: u8,
+        rs1: u8,
+    },
+    /// Any other instruction of an extension beyond RV64GC, by the integer registers that it uses
+    /// alone: bit i of a mask stands for xi, and bit 0 is not set. Control goes straight on after
+    /// it.
+    Extension {
+        reads: u32,
+        writes: u32,
+    },
+}
+
+/// The sign and zero extensions of a byte and of a halfword (chapter "B" Extension for Bit Manipulation, "Zbb").
+#[derive(Clone, Copy, Debug, PartialEq, Eq)]
+pub enum ExtendKind {
+    SextB,
+    SextH,
+    ZextH,
 }
 
 /// The conditional branches (section 2.5.2).

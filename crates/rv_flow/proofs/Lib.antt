@@ -2,4 +2,7 @@ pub mod Expanded
 pub mod Written
 mod Uppers
 pub mod Told
+pub mod Extended
 pub mod EndsTold
+pub mod Stands
+mod Lengths

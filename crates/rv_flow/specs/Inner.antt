@@ -1,6 +1,7 @@
 -- Words that no public clause cites.
 use Rattle.std.specs.Prelude.{◌≡◌, ℕ, ◌==◌, ◌||◌, not, Bool, true, false, List, get_or}
 use Rattle.std.specs.Prelude.{Option, Some, None, ℤ, if◌then◌else◌}
+use Rattle.elf_image.specs.declared.extensions.Extensions.{Extensions}
 use Rattle.rv_decode.specs.Fields.{opcode}
 use Rattle.rv_decode.specs.declared.instructions.Insn.{Insn}
 use Rattle.rv_decode.specs.declared.instructions.Insn.TheVariants as insns
@@ -27,14 +28,14 @@ goes_on_behind None = false
 goes_on_behind (Some insn) = goes_on insn
 
 -- Control goes straight on after a halfword as a 16-bit instruction.
-abbrev pub short_goes_on : ℕ → Bool
-short_goes_on half = goes_on_behind (compressed_insn half)
+abbrev pub short_goes_on : Extensions → ℕ → Bool
+short_goes_on e half = goes_on_behind (compressed_insn e half)
 
 -- What is kept of a halfword, at its place, is true of it. Of one that was not asked for nothing is
 -- said.
-pub record AreTold (shorts : List ShortForm) : Type 0 where
-  pub on : (half : ℕ) → get_or shorts half Unasked ≡ GoesOn → short_goes_on half ≡ true
-  pub stops : (half : ℕ) → get_or shorts half Unasked ≡ Stops → short_goes_on half ≡ false
+pub record AreTold (e : Extensions) (shorts : List ShortForm) : Type 0 where
+  pub on : (half : ℕ) → get_or shorts half Unasked ≡ GoesOn → short_goes_on e half ≡ true
+  pub stops : (half : ℕ) → get_or shorts half Unasked ≡ Stops → short_goes_on e half ≡ false
 
 -- The opcode of a word is that of LUI or AUIPC.
 abbrev pub is_upper : ℕ → Bool

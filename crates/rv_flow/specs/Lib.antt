@@ -1,4 +1,5 @@
 pub mod Placed
+pub mod Rv64gc
 pub mod Raw
 pub mod Straight
 pub mod InsnBytes

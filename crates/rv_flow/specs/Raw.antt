@@ -47,14 +47,20 @@ pair_target bytes a rs1 imm =
 
 -- ---- the flow of an instruction alone
 
+-- A JALR through x28 that leaves its address in x6: the entry of a procedure linkage table, or the
+-- stub of an indirect function (RISC-V psABI, "Procedure Linkage Table"). x6 is no link register,
+-- and control does not come back to the address after it.
+abbrev pub is_stub : ℕ → ℕ → Bool
+is_stub rd rs1 = (rd == 6) && (rs1 == 28)
+
 -- A JALR that links to x0 jumps, and another calls. Without a pair its target is not known, but a
--- jump through a link register is a return.
+-- jump through a link register is a return, and a stub jumps.
 abbrev pub jalr_flow : ℕ → ℕ → ℤ → Option ℕ → RawFlow
 jalr_flow rd rs1 imm (Some target) = if rd == 0 then raw.Jump target else raw.Call target
 jalr_flow rd rs1 imm None =
     if rd == 0
     then (if (rs1 == 1) || (rs1 == 5) then raw.Return else raw.RegisterJump rs1 imm)
-    else raw.IndirectCall
+    else (if is_stub rd rs1 then raw.RegisterJump rs1 imm else raw.IndirectCall)
 
 abbrev pub is_csrrw : CsrKind → Bool
 is_csrrw csrs.Csrrw = true

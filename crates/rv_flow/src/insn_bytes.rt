@@ -2,6 +2,7 @@
 //! instructions is told by its opcode: jumps, calls, returns and branches are not decoded.
 
 ghost use Rattle.std.specs.Prelude.{◌≡◌, ◌*◌, nat_lt, if◌then◌else◌, pos, ◌-ℤ◌};
+ghost use Rattle.elf_image.specs.Architecture.{extensions_of};
 ghost use Rattle.rv_decode.specs.Fields.{opcode};
 ghost use Rattle.rv_flow.specs.Placed.{word_insn, compressed_insn};
 ghost use Rattle.rv_flow.specs.Raw.{raw_flow_by};
@@ -73,7 +74,7 @@ pub fn flow_of_bytes(image: &Image, a: u64, read: InsnBytes) -> PlacedFlow
 /// the quadrant and funct3 (chapter 26, "C").
 #[tactic(auto, using(crate::proofs::EndsTold::short_jump, crate::proofs::EndsTold::short_beqz, crate::proofs::EndsTold::short_bnez, crate::proofs::EndsTold::short_register))]
 fn short_flow(image: &Image, a: u64, half: u16) -> RawFlow
-    ensures { result ≡ raw_flow_by image.now a (compressed_insn half) }
+    ensures { result ≡ raw_flow_by image.now a (compressed_insn (extensions_of image.now) half) }
 {
     let bits = u32::from(half);
     match (field(bits, 1, 0), field(bits, 15, 13)) {
@@ -87,7 +88,7 @@ fn short_flow(image: &Image, a: u64, half: u16) -> RawFlow
             let register = first_register(bits) as u8;
             register_flow(image, a, field(bits, 12, 12) as u8, register, 0)
         }
-        _ => flow_of(image, a, compressed_insn(half)),
+        _ => flow_of(image, a, compressed_insn(image.extensions(), half)),
     }
 }
 
@@ -95,7 +96,7 @@ fn short_flow(image: &Image, a: u64, half: u16) -> RawFlow
 /// opcode and funct3.
 #[tactic(auto, using(crate::proofs::EndsTold::jal_told, crate::proofs::EndsTold::branch_told))]
 fn word_flow(image: &Image, a: u64, word: u32) -> PlacedFlow
-    ensures { result ≡ flow_of_whole image.now a (word_insn word) }
+    ensures { result ≡ flow_of_whole image.now a (word_insn (extensions_of image.now) word) }
 {
     match opcode(word) {
         JAL => long(jal_flow(a, rd(word), j_offset(word))),
@@ -105,7 +106,7 @@ fn word_flow(image: &Image, a: u64, word: u32) -> PlacedFlow
             })
         }
         JALR => jalr_word_flow(image, a, word),
-        _ => flow_of_whole(image, a, word_insn(word)),
+        _ => flow_of_whole(image, a, word_insn(image.extensions(), word)),
     }
 }
 
@@ -113,7 +114,7 @@ fn word_flow(image: &Image, a: u64, word: u32) -> PlacedFlow
 #[tactic(auto, using(crate::proofs::EndsTold::jalr_told, crate::proofs::EndsTold::jalr_none))]
 fn jalr_word_flow(image: &Image, a: u64, word: u32) -> PlacedFlow
     requires { opcode word ≡ JALR }
-    ensures { result ≡ flow_of_whole image.now a (word_insn word) }
+    ensures { result ≡ flow_of_whole image.now a (word_insn (extensions_of image.now) word) }
 {
     if funct3(word) != 0 {
         return NO_INSN;

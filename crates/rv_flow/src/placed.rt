@@ -4,10 +4,12 @@
 ghost use Rattle.std.specs.Prelude.{◌≡◌, IsTrue};
 ghost use Rattle.elf_image.specs.Code.{is_code};
 ghost use Rattle.elf_image.specs.Faults.{IsImage};
-ghost use Rattle.rv_flow.specs.Placed.{placed_at, word_insn, expanded, compressed_insn, whole_insn};
+ghost use Rattle.rv_flow.specs.Placed.{placed_at, word_insn, rv64gc_insn, expanded};
+ghost use Rattle.rv_flow.specs.Placed.{compressed_insn, whole_insn};
 
-use elf_image::Image;
+use elf_image::{Extensions, Image};
 use rv_decode::{Insn, decode};
+use rv_extensions::{decode_extension, expand_extension};
 use rv_float::{decode_float, expand_float};
 use rvc_expand::expand;
 
@@ -16,13 +18,15 @@ use rvc_expand::expand;
 pub struct Placed {
     /// Its length in bytes: 2 or 4.
     pub length: u8,
-    /// Its meaning; `None` if the bytes are no instruction of RV64GC, and then the length is 2.
+    /// Its meaning; `None` if the bytes are no instruction of RV64GC, nor of an extension that the
+    /// file names. Then the length is 2.
     pub insn: Option<Insn>,
 }
 
 /// The instruction at the code address `a`.
 ///
-/// A 16-bit instruction is expanded and then decoded. A 32-bit one needs its four bytes in one code
+/// It is one of RV64GC, or of the extensions that the file names. A 16-bit instruction is expanded
+/// and then decoded. A 32-bit one needs its four bytes in one code
 /// section. Longer forms are none.
 pub fn insn_at(image: &Image, a: u64) -> Placed
     requires { IsTrue (is_code image.now a) }
@@ -39,12 +43,12 @@ pub fn insn_at(image: &Image, a: u64) -> Placed
     if half & 0b11 != 0b11 {
         Placed {
             length: 2,
-            insn: compressed_insn(half),
+            insn: compressed_insn(image.extensions(), half),
         }
     } else if half >> 2 & 0b111 == 0b111 {
         bad
     } else {
-        match whole_insn(image.word_at(a)) {
+        match whole_insn(image.extensions(), image.word_at(a)) {
             None => bad,
             insn => Placed { length: 4, insn },
         }
@@ -52,22 +56,35 @@ pub fn insn_at(image: &Image, a: u64) -> Placed
 }
 
 // The instruction that a 16-bit form stands for.
-pub(crate) fn compressed_insn(half: u16) -> Option<Insn>
-    ensures { result ≡ compressed_insn half }
+pub(crate) fn compressed_insn(extensions: Extensions, half: u16) -> Option<Insn>
+    ensures { result ≡ compressed_insn extensions half }
 {
-    word_insn(expanded(half)?)
+    match expanded(half) {
+        None => expand_extension(extensions, half),
+        Some(word) => rv64gc_insn(word),
+    }
 }
 
 // The instruction that a whole word is, if the word is there.
-pub(crate) fn whole_insn(word: Option<u32>) -> Option<Insn>
-    ensures { result ≡ whole_insn word }
+fn whole_insn(extensions: Extensions, word: Option<u32>) -> Option<Insn>
+    ensures { result ≡ whole_insn extensions word }
 {
-    word_insn(word?)
+    word_insn(extensions, word?)
 }
 
-// The instruction that a word is, by the base table or the float table.
-pub(crate) fn word_insn(word: u32) -> Option<Insn>
-    ensures { result ≡ word_insn word }
+// The instruction that a word is by RV64GC, or else by the extensions.
+pub(crate) fn word_insn(extensions: Extensions, word: u32) -> Option<Insn>
+    ensures { result ≡ word_insn extensions word }
+{
+    match rv64gc_insn(word) {
+        None => decode_extension(extensions, word),
+        insn => insn,
+    }
+}
+
+/// The instruction of RV64GC that a word is, by the base table or the float table.
+pub fn rv64gc_insn(word: u32) -> Option<Insn>
+    ensures { result ≡ rv64gc_insn word }
 {
     match decode(word) {
         None => decode_float(word),
@@ -75,8 +92,8 @@ pub(crate) fn word_insn(word: u32) -> Option<Insn>
     }
 }
 
-// The word that a halfword stands for, by either table of compressed forms.
-fn expanded(half: u16) -> Option<u32>
+// The word that a halfword stands for in RV64GC, by either table of compressed forms.
+pub(crate) fn expanded(half: u16) -> Option<u32>
     ensures { result ≡ expanded half }
 {
     match expand(half) {

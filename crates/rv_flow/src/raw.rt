@@ -6,6 +6,7 @@ ghost use Rattle.elf_image.specs.Code.{is_code};
 ghost use Rattle.elf_image.specs.Faults.{IsImage};
 ghost use Rattle.rv_flow.specs.Raw.{raw_flow_at, raw_flow_by, insn_flow, jalr_flow, pair_target};
 ghost use Rattle.rv_flow.specs.Raw.{upper_before, upper_of, word_before, address_plus, is_unimp};
+ghost use Rattle.rv_flow.specs.Raw.{is_stub};
 ghost use Rattle.rv_flow.specs.Inner.{is_upper, jal_flow, register_flow};
 
 use crate::placed::insn_at;
@@ -30,11 +31,12 @@ pub enum RawFlow {
     Jump { target: u64 },
     /// A call of `target`: JAL or a paired JALR that links to another register.
     Call { target: u64 },
-    /// An unpaired JALR that links to a register other than x0.
+    /// An unpaired JALR that links to a register other than x0, and is no stub.
     IndirectCall,
     /// An unpaired JALR through x1 or x5 that links to x0.
     Return,
-    /// Any other unpaired JALR that links to x0: a jump to `register` plus `offset`.
+    /// Any other unpaired JALR that links to x0, and one through x28 that links to x6, as the stub
+    /// of an indirect function: a jump to `register` plus `offset`.
     RegisterJump { register: u8, offset: i64 },
     /// Control does not go on: EBREAK, `unimp`, or no instruction.
     Stop,
@@ -118,13 +120,20 @@ fn jalr_flow(rd: u8, rs1: u8, imm: i64, paired: Option<u64>) -> RawFlow
     match paired {
         Some(target) if rd == 0 => RawFlow::Jump { target },
         Some(target) => RawFlow::Call { target },
-        None if rd != 0 => RawFlow::IndirectCall,
-        None if rs1 == 1 || rs1 == 5 => RawFlow::Return,
+        None if rd != 0 && !is_stub(rd, rs1) => RawFlow::IndirectCall,
+        None if rd == 0 && (rs1 == 1 || rs1 == 5) => RawFlow::Return,
         None => RawFlow::RegisterJump {
             register: rs1,
             offset: imm,
         },
     }
+}
+
+// The entry of a procedure linkage table: a JALR through x28 that links to x6.
+fn is_stub(rd: u8, rs1: u8) -> bool
+    ensures { result ≡ is_stub rd rs1 }
+{
+    rd == 6 && rs1 == 28
 }
 
 // The target of a JALR at `a` through `rs1`, if the word before it sets that register.

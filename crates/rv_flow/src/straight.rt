@@ -4,13 +4,15 @@
 ghost use Rattle.std.specs.Prelude.{◌≡◌, ◌⊎◌, IfSome, IsSome};
 ghost use Rattle.rv_flow.specs.Straight.{IsStraightLength};
 ghost use Rattle.rv_flow.specs.Placed.{compressed_insn};
-ghost use Rattle.rv_flow.specs.Inner.{AreTold, goes_on, goes_on_behind, short_goes_on};
+ghost use Rattle.rv_flow.specs.Inner.{goes_on, goes_on_behind, short_goes_on};
 
 use crate::placed::compressed_insn;
 use crate::raw::is_unimp;
 use crate::straight_words::word_goes_on;
+use elf_image::Extensions;
 use rv_decode::Insn;
 use std::alloc::Global;
+use std::marker::Model;
 
 /// How many halfwords there are.
 const HALFWORDS: usize = 1 << 16;
@@ -30,31 +32,47 @@ enum ShortForm {
 const _: () = prove!(size_of::<ShortForm>() == 1);
 
 /// Instructions after which control goes straight on. Each 16-bit one is decoded when it is first
-/// asked for and kept in mind, so that to ask for each halfword of a file takes little time.
+/// asked for and kept in mind, so that to ask for each halfword of a file takes little time. To a
+/// contract they are the extensions by which they are decoded.
 #[derive(Drop)]
 pub struct StraightForms {
+    /// The extensions that the file names.
+    extensions: Extensions,
     /// Of each halfword, what was found of it. Empty if memory for it was missing: then each is
     /// decoded anew.
     shorts: Vec<ShortForm>,
-    ghost told: { AreTold shorts.items },
+}
+
+impl Model for StraightForms {
+    ghost use Rattle.elf_image.specs.declared.extensions.Extensions.{Extensions};
+
+    ghost Value = { Extensions };
+
+    ghost view = { λ forms. forms.extensions };
+
+    ghost use Rattle.rv_flow.specs.Inner.{AreTold};
+
+    ghost invariant = { λ forms. AreTold forms.extensions forms.shorts.items };
 }
 
 impl StraightForms {
     /// Nothing is decoded yet. It takes 64 KiB of memory; if these are missing, nothing is kept in
     /// mind.
-    pub fn new(alloc: Global) -> StraightForms {
-        match vec![in alloc; ShortForm::Unasked; HALFWORDS] {
-            Ok(shorts) => StraightForms { shorts },
-            Err(_) => StraightForms {
-                shorts: Vec::new(alloc),
-            },
-        }
+    pub fn new(alloc: Global, extensions: Extensions) -> StraightForms
+        ensures { result ≡ extensions }
+    {
+        let shorts = match vec![in alloc; ShortForm::Unasked; HALFWORDS] {
+            Ok(shorts) => shorts,
+            Err(_) => Vec::new(alloc),
+        };
+        StraightForms { extensions, shorts }
     }
 
     /// The length of the instruction that begins with the halfword `half`, if control goes straight
     /// on after it. `word` are its four bytes, if all of them are there.
     pub fn length(&mut self, half: u16, word: Option<u32>) -> Option<u8>
-        ensures answer { IsStraightLength half word result }
+        ensures answer { IsStraightLength self.old half word result }
+        ensures kept { self.new ≡ self.old }
         ensures bytes { IfSome result (λ n. (n ≡ 2) ⊎ ((n ≡ 4) × IsSome word)) }
     {
         if half & 0b11 != 0b11 {
@@ -62,13 +80,14 @@ impl StraightForms {
         } else if half >> 2 & 0b111 == 0b111 {
             None
         } else {
-            word_goes_on(word?).then_some(4)
+            word_goes_on(&self.extensions, word?).then_some(4)
         }
     }
 
     // Whether control goes straight on after a halfword as a 16-bit instruction.
     fn short_goes_on(&mut self, half: u16) -> bool
-        ensures { result ≡ short_goes_on half }
+        ensures answer { result ≡ short_goes_on self.old half }
+        ensures kept { self.new ≡ self.old }
     {
         match self.shorts.get(usize::from(half)) {
             Some(ShortForm::GoesOn) => true,
@@ -80,9 +99,10 @@ impl StraightForms {
     // The same, decoded, and kept in mind if there is room for it.
     #[cold]
     fn decode(&mut self, half: u16) -> bool
-        ensures { result ≡ short_goes_on half }
+        ensures answer { result ≡ short_goes_on self.old half }
+        ensures kept { self.new ≡ self.old }
     {
-        let goes_on = goes_on_behind(compressed_insn(half));
+        let goes_on = goes_on_behind(compressed_insn(self.extensions, half));
         if let Some(place) = self.shorts.get_mut(usize::from(half)) {
             *place = if goes_on {
                 ShortForm::GoesOn

@@ -1,4 +1,4 @@
--- The instruction at a code address writes one of 32 registers.
+-- The instruction of RV64GC at a code address writes one of 32 registers.
 use Rattle.std.proofs.Common.{ℕ, ◌%◌, ◌/◌, ◌<◌, ◌==◌, Bool, true, false, List, [], ◌∷◌, ◌++◌, Option, Some, None, arith}
 use Rattle.std.specs.Prelude.{IfSome}
 use Rattle.std.specs.Option.{option_and_then, option_or, option_map_or}
@@ -9,7 +9,8 @@ use Rattle.rv_decode.specs.Table.{Row, holds, first_meaning, instruction, rows, 
 use Rattle.rv_decode.specs.declared.instructions.Insn.{Insn}
 use Rattle.rv_float.specs.Table as float
 use Rattle.rv_flow.specs.declared.placed.Placed.{Placed}
-use Rattle.rv_flow.specs.Placed.{word_insn, expanded, whole, whole_insn, placed_by, placed_at, bad}
+use Rattle.rv_flow.specs.Placed.{expanded, whole, bad, rv64gc_insn}
+use Rattle.rv_flow.specs.Rv64gc.{rv64gc_placed_by, rv64gc_placed_at}
 use Rattle.rv_machine.specs.Inner.Operands.{WritesRegister}
 
 -- each row of a list means an instruction that writes a register
@@ -130,7 +131,7 @@ either_writes : (first second : Option Insn) → IfSome first WritesRegister →
 either_writes None second h k = k
 either_writes (Some insn) second h k = h
 
-word_writes : (word : Option ℕ) → IfSome (option_and_then word_insn word) WritesRegister
+word_writes : (word : Option ℕ) → IfSome (option_and_then rv64gc_insn word) WritesRegister
 word_writes None = tt
 word_writes (Some w) = either_writes _ _ (base_writes w) (float_writes w)
 
@@ -139,16 +140,16 @@ whole_writes None h = tt
 whole_writes (Some insn) h = h
 
 module _ (bytes : List ℕ) (a : ℕ) where
-  whole-word : (word : Option ℕ) → IfSome (whole (whole_insn word)).insn WritesRegister
-  whole-word word = whole_writes (whole_insn word) (word_writes word)
+  whole-word : (word : Option ℕ) → IfSome (whole (option_and_then rv64gc_insn word)).insn WritesRegister
+  whole-word word = whole_writes (option_and_then rv64gc_insn word) (word_writes word)
 
-  by-half : (half : Option ℕ) → IfSome (option_map_or (placed_by bytes a) half bad).insn WritesRegister
+  by-half : (half : Option ℕ) → IfSome (option_map_or (rv64gc_placed_by bytes a) half bad).insn WritesRegister
   by-half None = tt
   by-half (Some half) =
       cond_both (half % 4 == 3) _ _ (λ (p : Placed). IfSome p.insn WritesRegister)
       (λ _. cond_both (half / 4 % 8 == 7) _ _ (λ (p : Placed). IfSome p.insn WritesRegister) (λ _. tt) (λ _. whole-word (word_at bytes a)))
       (λ _. word_writes (expanded half))
 
-  -- the instruction at an address writes one of 32 registers
-  pub placed-writes : IfSome (placed_at bytes a).insn WritesRegister
+  -- the instruction of RV64GC at an address writes one of 32 registers
+  pub placed-writes : IfSome (rv64gc_placed_at bytes a).insn WritesRegister
   placed-writes = by-half (half_at bytes a)

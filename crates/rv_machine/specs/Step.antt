@@ -17,6 +17,7 @@ use Rattle.rv_operations.specs.Atomics.{atomic_result}
 use Rattle.rv_operations.specs.Loads.{load_size, store_size, load_result}
 use Rattle.rv_flow.specs.declared.placed.Placed.{Placed}
 use Rattle.rv_flow.specs.Placed.{placed_at}
+use Rattle.rv_flow.specs.Rv64gc.{rv64gc_placed_at}
 use Rattle.rv_flow.specs.Raw.{address_plus}
 use Rattle.rv_machine.specs.declared.cpu.Reserved.{Reserved}
 use Rattle.rv_machine.specs.declared.trap.Stepped.{Stepped}
@@ -203,17 +204,27 @@ insn_step file length insns.Ecall state memory = Traps traps.Ecall  -- 2.8
 insn_step file length insns.Ebreak state memory = Traps traps.Breakpoint  -- 2.8
 insn_step file length (insns.Csr kind rd source csr) state memory = Traps traps.Csr  -- chapter 7
 insn_step file length (insns.Float writes reads) state memory = Traps traps.Float  -- chapters 21, 22
+insn_step file length (insns.ShiftAdd shift zero_extended rd rs1 rs2) state memory =
+    Traps traps.Unsupported
+insn_step file length (insns.Extend kind rd rs1) state memory = Traps traps.Unsupported
+insn_step file length (insns.Extension reads writes) state memory = Traps traps.Unsupported
 
--- what is no instruction traps
-abbrev pub placed_step : List ℕ → Placed → State → Bytes → Outcome
-placed_step file placed state memory = elim placed.insn [
-  | None ↦ Traps traps.Illegal
+-- the trap where no instruction of RV64GC stands: whether one of another extension does, by the
+-- names in the file
+abbrev pub other_trap : Option Insn → Trap
+other_trap None = traps.Illegal
+other_trap (Some insn) = traps.Unsupported
+
+abbrev pub placed_step : List ℕ → Placed → Trap → State → Bytes → Outcome
+placed_step file placed otherwise state memory = elim placed.insn [
+  | None ↦ Traps otherwise
   | Some insn ↦ insn_step file placed.length insn state memory
 ]
 
--- the step from a state: the instruction is the one at the program counter, a code address
+-- the step from a state: the instruction is the one of RV64GC at the program counter, a code address
 abbrev pub step_of : List ℕ → State → Bytes → Outcome
 step_of file state memory =
     if is_code file state.pc
-    then placed_step file (placed_at file state.pc) state memory
+    then placed_step file (rv64gc_placed_at file state.pc) (other_trap (placed_at file state.pc).insn)
+    state memory
     else Traps traps.Fetch

@@ -24,6 +24,8 @@ pub enum Trap {
     Csr,
     /// An instruction of the F or D extension.
     Float,
+    /// An instruction of another extension beyond RV64GC that the file names.
+    Unsupported,
     /// A byte to be read is not in memory.
     LoadFault,
     /// A byte to be written is not in memory, or lies in a code or a read-only section.

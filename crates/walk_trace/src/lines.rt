@@ -56,6 +56,7 @@ fn trap_word(trap: Trap) -> &'static [u8]
         Trap::Ecall => b"Ecall",
         Trap::Csr => b"Csr",
         Trap::Float => b"Float",
+        Trap::Unsupported => b"Unsupported",
         Trap::LoadFault => b"LoadFault",
         Trap::StoreFault => b"StoreFault",
         Trap::Misaligned => b"Misaligned",

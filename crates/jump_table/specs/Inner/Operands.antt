@@ -28,4 +28,7 @@ HasOperands (insns.RegW kind rd rs1 rs2) = IsRegister rd
 HasOperands (insns.Atomic kind wide acquire release rd rs1 rs2) = IsRegister rd
 HasOperands (insns.Csr kind rd source csr) = IsRegister rd
 HasOperands (insns.Float writes reads) = IsRegister writes
+HasOperands (insns.ShiftAdd shift zero_extended rd rs1 rs2) =
+    IsRegister rd × IsRegister rs1 × IsRegister rs2
+HasOperands (insns.Extend kind rd rs1) = IsRegister rd × IsRegister rs1
 HasOperands _ = Unit {0}

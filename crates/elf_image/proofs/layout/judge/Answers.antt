@@ -1,5 +1,5 @@
 use Rattle.std.proofs.Common.{◌∙◌, sym}
-use Rattle.elf_image.proofs.FirstFault.{first_of_file, first_of_section, first_of_code, first-from_image, table_fits, long_enough}
+use Rattle.elf_image.proofs.FirstFault.{first_of_file, first_of_section, first_of_code, first-from_image, table_fits, range_fits, long_enough}
 use Rattle.elf_image.proofs.layout.judge.Goals as goal
 
 pub returns-in-Some-clause-malformed : goal.returns-in-Some-clause-malformed
@@ -39,3 +39,11 @@ pub returns-clause-image : goal.returns-clause-image
 returns-clause-image c =
     first_of_code c.args.bytes.now (sym c.file_fault.ensures ∙ c.in_default.is) (sym c.section_fault.ensures ∙ c.in_default-section_fault.is)
     ∙ sym c.code_fault.ensures ∙ c.in_default-code_fault.is
+
+pub tables_by_jump-requires-clause-in_file : goal.tables_by_jump-requires-clause-in_file
+tables_by_jump-requires-clause-in_file c =
+    range_fits c.args.bytes.now (sym c.section_fault.ensures ∙ c.in_default-section_fault.is)
+
+pub extensions_of-extensions-requires-clause-in_file : goal.extensions_of-extensions-requires-clause-in_file
+extensions_of-extensions-requires-clause-in_file c =
+    range_fits c.args.bytes.now (sym c.section_fault.ensures ∙ c.in_default-section_fault.is)

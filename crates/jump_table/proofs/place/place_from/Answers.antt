@@ -2,6 +2,7 @@ use Rattle.std.proofs.Common.{◌≡◌, ◌∙◌, ℕ, ◌+◌, ◌-◌, ◌*�
 use Rattle.std.specs.Option.{option_and_then}
 use Rattle.std.proofs.lemmas.Bool.{cases_eq}
 use Rattle.jump_table.specs.declared.approach.Approach.{Approach}
+use Rattle.jump_table.specs.declared.values.Form.TheVariants.{Open}
 use Rattle.jump_table.specs.declared.values.Value.TheVariants.{Const, Unknown}
 use Rattle.jump_table.specs.Inner.Steps.{LeadsNowhere}
 use Rattle.jump_table.specs.Table.{place_of, place_from}
@@ -16,10 +17,10 @@ forgotten-place true = refl
 forgotten-place false = refl
 
 at-jump : (bytes : List ℕ) (start j r a : ℕ) → a ≡ j → place_from bytes start j r a ≡ None
-at-jump bytes start j r a is = ap (option_and_then (place_of true 1024)) (value-here bytes start j true 16 a forgotten r is) ∙ forgotten-place (r == 0)
+at-jump bytes start j r a is = ap (option_and_then (place_of true 1024)) (value-here bytes start j Open 16 a forgotten r is) ∙ forgotten-place (r == 0)
 
 from-nowhere : (bytes : List ℕ) (start j r k : ℕ) → LeadsNowhere bytes start j k → place_from bytes start j r (j - 2 * k) ≡ None
-from-nowhere bytes start j r k nowhere = ap (option_and_then (place_of true 1024)) (value-none bytes start j true 16 (j - 2 * k) forgotten r (nowhere 16))
+from-nowhere bytes start j r k nowhere = ap (option_and_then (place_of true 1024)) (value-none bytes start j Open 16 (j - 2 * k) forgotten r (nowhere 16))
 
 -- a place of no step tells none: it is the jump's, or no run leads from there to the jump
 no-step : (way : Approach) (r k : ℕ) → k < 33 → way.start + 2 * k ≤ way.jump → get_or way.steps k None ≡ None → place_from way.image.now way.start way.jump r (way.jump - 2 * k) ≡ None

@@ -12,7 +12,7 @@ returns-then-left-eq0 c =
     let here : way.jump - 2 * c.loop.left ≡ way.jump = omega arith in
     ap (λ value. Some value) c.get.ensures
     ∙ sym (c.loop.invariant.same
-    ∙ value-here way.image.now way.start way.jump c.args.is_open (16 - c.loop.counter) (way.jump - 2 * c.loop.left) (held_by c.loop.registers.values) c.args.register here)
+    ∙ value-here way.image.now way.start way.jump c.args.form (16 - c.loop.counter) (way.jump - 2 * c.loop.left) (held_by c.loop.registers.values) c.args.register here)
 
 pub returns-in_err-step : goal.returns-in_err-step
 returns-in_err-step c =
@@ -21,7 +21,7 @@ returns-in_err-step c =
     steps-none way.image.now way.start way.jump way.steps way.lead c.loop.left (omega arith) (omega (arith, c.loop.invariant.nearer)) (omega (arith, c.loop.invariant.nearer)) c.in_err-step.was in
     c.from_residual.ensures
     ∙ sym (c.loop.invariant.same
-    ∙ value-none way.image.now way.start way.jump c.args.is_open (16 - c.loop.counter) (way.jump - 2 * c.loop.left) (held_by c.loop.registers.values) c.args.register (nowhere (16 - c.loop.counter)))
+    ∙ value-none way.image.now way.start way.jump c.args.form (16 - c.loop.counter) (way.jump - 2 * c.loop.left) (held_by c.loop.registers.values) c.args.register (nowhere (16 - c.loop.counter)))
 
 pub pass-requires : goal.pass-requires
 pass-requires c =
@@ -40,9 +40,9 @@ loop-preserved c =
     record {
       nearer = omega (arith, is.nearer, c.loop.invariant.nearer);
       same = c.loop.invariant.same
-          ∙ value-on way.image.now way.start way.jump c.loop.left step (omega arith) (omega (arith, c.loop.invariant.nearer)) is c.args.is_open (16 - c.loop.counter) (16 - (c.loop.counter + 1))
+          ∙ value-on way.image.now way.start way.jump c.loop.left step (omega arith) (omega (arith, c.loop.invariant.nearer)) is c.args.form (16 - c.loop.counter) (16 - (c.loop.counter + 1))
           (held_by c.loop.registers.values) c.args.register more
-          ∙ ap (λ (before : Registers). value_from c.args.is_open way.image.now way.start way.jump (16 - (c.loop.counter + 1)) (way.jump - 2 * step.next) before c.args.register) (sym c.pass.ensures);
+          ∙ ap (λ (before : Registers). value_from c.args.form way.image.now way.start way.jump (16 - (c.loop.counter + 1)) (way.jump - 2 * step.next) before c.args.register) (sym c.pass.ensures);
     }
 
 pub returns-then-left-eq0-2 : goal.returns-then-left-eq0-2
@@ -51,7 +51,7 @@ returns-then-left-eq0-2 c =
     let here : way.jump - 2 * c.loop.left ≡ way.jump = omega arith in
     ap (λ value. Some value) c.get-then-left-eq0-2.ensures
     ∙ sym (c.loop.invariant.same
-    ∙ value-here way.image.now way.start way.jump c.args.is_open (16 - c.loop.counter) (way.jump - 2 * c.loop.left) (held_by c.loop.registers.values) c.args.register here)
+    ∙ value-here way.image.now way.start way.jump c.args.form (16 - c.loop.counter) (way.jump - 2 * c.loop.left) (held_by c.loop.registers.values) c.args.register here)
 
 pub returns-else-left-eq0-2 : goal.returns-else-left-eq0-2
 returns-else-left-eq0-2 c =
@@ -59,4 +59,4 @@ returns-else-left-eq0-2 c =
     let none : 16 - c.loop.counter ≡ 0 = omega arith in
     let away : way.jump - 2 * c.loop.left ≢ way.jump = λ is. omega (arith, c.loop.invariant.nearer) in
     sym (c.loop.invariant.same
-    ∙ value-end way.image.now way.start way.jump c.args.is_open (16 - c.loop.counter) (way.jump - 2 * c.loop.left) (held_by c.loop.registers.values) c.args.register none away)
+    ∙ value-end way.image.now way.start way.jump c.args.form (16 - c.loop.counter) (way.jump - 2 * c.loop.left) (held_by c.loop.registers.values) c.args.register none away)

@@ -12,6 +12,7 @@ returns-in-Branch c = λ r low.
     ⊎_elim (λ b. ap (λ i. has_source i r) b.2)
     (⊎_elim (λ s. ap (λ i. has_source i r) s.2)
     (⊎_elim (λ g. ap (λ i. has_source i r) g.2)
-    (⊎_elim (λ w. ap (λ i. has_source i r) w.2) (λ a. ap (λ i. has_source i r) a.5)))) c.in-Branch.is in
+    (⊎_elim (λ w. ap (λ i. has_source i r) w.2)
+    (⊎_elim (λ a. ap (λ i. has_source i r) a.5) (λ h. ap (λ i. has_source i r) h.3))))) c.in-Branch.is in
     two_bits _ _ r (not (r == 0)) (r == c.in-Branch.rs1) (r == c.in-Branch.rs2) (c.register-in-Branch.ensures r low) (c.register-in-Branch-2.ensures r low)
     ∙ ap (λ b. not (r == 0) && b) (sym source)

@@ -1,6 +1,7 @@
 use Rattle.std.proofs.Common.{◌≡◌, ℕ, ◌≤◌, length, get_or, replicate, sym, subst, ap, ◌∙◌, arith, inl, inr}
 use Rattle.std.proofs.lemmas.Bool.{cases_order}
 use Rattle.std.proofs.lemmas.List.{get_or-replicate, get_or_past, length-replicate}
+use Rattle.elf_image.specs.declared.extensions.Extensions.{Extensions}
 use Rattle.rv_flow.specs.declared.straight.ShortForm.TheVariants.{Unasked}
 use Rattle.rv_flow.specs.Inner.{AreTold}
 use Rattle.rv_flow.proofs.straight.StraightForms.new.Goals as goal
@@ -19,16 +20,16 @@ nothing_at n half =
       ]
     ]
 
-nothing_told : (n : ℕ) → AreTold (replicate n Unasked)
-nothing_told n = record {
+nothing_told : (e : Extensions) (n : ℕ) → AreTold e (replicate n Unasked)
+nothing_told e n = record {
   on = λ half is. let here = nothing_at n half in absurd cc;
   stops = λ half is. let here = nothing_at n half in absurd cc;
 }
 
 pub invariant_of-result : goal.invariant_of-result
-invariant_of-result c = record {
-  told = elim c.match-vec.branch [
-    | in-Ok w ↦ subst AreTold (sym (ap (λ made. made.0.items) w.result-is ∙ w.in-Ok.ensures.items_if_clones_equal (λ y same. same))) (nothing_told 65536)
-    | in-Err w ↦ subst AreTold (sym (ap (λ made. made.0.items) w.result-is ∙ w.new.ensures.items)) (nothing_told 0)
-  ];
-}
+invariant_of-result c =
+    let e = c.args.extensions in
+    elim c.match-vec.branch [
+      | in-Ok w ↦ subst (AreTold e) (sym (ap (λ made. made.items) w.shorts-is ∙ w.in-Ok.ensures.items_if_clones_equal (λ y same. same))) (nothing_told e 65536)
+      | in-Err w ↦ subst (AreTold e) (sym (ap (λ made. made.items) w.shorts-is ∙ w.new-shorts.ensures.items)) (nothing_told e 0)
+    ]

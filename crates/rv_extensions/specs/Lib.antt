@@ -1,0 +1,5 @@
+pub mod Rows
+pub mod Registers
+pub mod Table
+pub mod Forms
+pub mod Laws

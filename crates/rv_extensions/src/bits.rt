@@ -1,0 +1,255 @@
+//! Operations on integer registers: address generation, bit manipulation, conditional zero
+//! (RISC-V Unprivileged ISA 20240411, chapters "B" and "Zicond").
+
+ghost use Rattle.std.specs.Prelude.{◌≡◌, Some, None, [], ◌∷◌, if◌then◌else◌};
+ghost use Rattle.rv_decode.specs.Fields.{opcode};
+ghost use Rattle.rv_decode.specs.Fields;
+ghost use Rattle.rv_float.specs.Table.{is_among};
+ghost use Rattle.rv_extensions.specs.Registers as registers;
+ghost use Rattle.rv_extensions.specs.Table as table;
+ghost use Rattle.rv_extensions.specs.Table.{extension_instruction};
+
+use crate::meaning::{binary, extend, shift_add, shift_word, unary};
+use elf_image::Extensions;
+use rv_decode::fields::{funct3, funct6, funct7, rs2};
+use rv_decode::{ExtendKind, Insn};
+use rvc_expand::bits::field;
+
+/// Operations on two registers, by `funct7` and `funct3`.
+#[tactic(auto, using(crate::proofs::ByOpcode::reg_cases_04, crate::proofs::ByOpcode::reg_cases_07, crate::proofs::ByOpcode::reg_cases_20, crate::proofs::ByOpcode::reg_cases_24, crate::proofs::ByOpcode::reg_cases_30, crate::proofs::ByOpcode::reg_cases_34, crate::proofs::ByOpcode::reg_cases_none))]
+pub(crate) fn op(extensions: Extensions, word: u32) -> Option<Insn>
+    requires { opcode word ≡ 0x33 }
+    ensures { result ≡ extension_instruction extensions word }
+{
+    let function = funct3(word);
+    match funct7(word) {
+        0x04 => two(word, matches!(function, 4 | 7) && extensions.zbkb),
+        0x05 => least_or_product(extensions, word),
+        0x07 => two(word, matches!(function, 5 | 7) && extensions.zicond),
+        0x10 => shifted_sum(extensions, word),
+        0x14 => set_or_permute(extensions, word),
+        0x20 => two(word, is_negated(word) && rotates(extensions)),
+        0x24 => two(word, matches!(function, 1 | 5) && extensions.zbs),
+        0x30 => two(word, matches!(function, 1 | 5) && rotates(extensions)),
+        0x34 => two(word, function == 1 && extensions.zbs),
+        _ => None,
+    }
+}
+
+/// SH1ADD, SH2ADD and SH3ADD.
+#[tactic(auto, using(crate::proofs::ByOpcode::reg_cases_10))]
+fn shifted_sum(extensions: Extensions, word: u32) -> Option<Insn>
+    requires code { opcode word ≡ 0x33 }
+    requires function { Fields.funct7 word ≡ 0x10 }
+    ensures { result ≡ extension_instruction extensions word }
+{
+    if !extensions.zba {
+        return None;
+    }
+    match funct3(word) {
+        2 => Some(shift_add(word, 1, false)),
+        4 => Some(shift_add(word, 2, false)),
+        6 => Some(shift_add(word, 3, false)),
+        _ => None,
+    }
+}
+
+/// MIN, MINU, MAX and MAXU; CLMUL, CLMULR and CLMULH.
+#[tactic(auto, using(crate::proofs::ByOpcode::reg_cases_05))]
+fn least_or_product(extensions: Extensions, word: u32) -> Option<Insn>
+    requires code { opcode word ≡ 0x33 }
+    requires function { Fields.funct7 word ≡ 0x05 }
+    ensures { result ≡ extension_instruction extensions word }
+{
+    let least = is_least_or_greatest(word) && extensions.zbb;
+    two(word, least || is_product(word) && extensions.zbc)
+}
+
+/// Whether `funct3` tells MIN, MINU, MAX or MAXU.
+fn is_least_or_greatest(word: u32) -> bool
+    ensures { result ≡ is_among (4 ∷ 5 ∷ 6 ∷ 7 ∷ []) (Fields.funct3 word) }
+{
+    matches!(funct3(word), 4 | 5 | 6 | 7)
+}
+
+/// Whether it tells CLMUL, CLMULR or CLMULH.
+fn is_product(word: u32) -> bool
+    ensures { result ≡ is_among (1 ∷ 2 ∷ 3 ∷ []) (Fields.funct3 word) }
+{
+    matches!(funct3(word), 1 | 2 | 3)
+}
+
+/// Whether it tells XNOR, ORN or ANDN.
+fn is_negated(word: u32) -> bool
+    ensures { result ≡ is_among (4 ∷ 6 ∷ 7 ∷ []) (Fields.funct3 word) }
+{
+    matches!(funct3(word), 4 | 6 | 7)
+}
+
+/// BSET; XPERM4 and XPERM8.
+#[tactic(auto, using(crate::proofs::ByOpcode::reg_cases_14))]
+fn set_or_permute(extensions: Extensions, word: u32) -> Option<Insn>
+    requires code { opcode word ≡ 0x33 }
+    requires function { Fields.funct7 word ≡ 0x14 }
+    ensures { result ≡ extension_instruction extensions word }
+{
+    match funct3(word) {
+        1 => two(word, extensions.zbs),
+        2 | 4 => two(word, extensions.zbkx),
+        _ => None,
+    }
+}
+
+/// Operations on 32 bits of two registers.
+#[tactic(auto, using(crate::proofs::ByOpcode::reg_w_cases_30, crate::proofs::ByOpcode::reg_w_cases_none))]
+pub(crate) fn op_32(extensions: Extensions, word: u32) -> Option<Insn>
+    requires { opcode word ≡ 0x3B }
+    ensures { result ≡ extension_instruction extensions word }
+{
+    match funct7(word) {
+        0x04 => add_or_pack(extensions, word),
+        0x10 => shifted_word_sum(extensions, word),
+        0x30 => two(word, matches!(funct3(word), 1 | 5) && rotates(extensions)),
+        _ => None,
+    }
+}
+
+/// ADD.UW; ZEXT.H, which is PACKW with x0, and PACKW.
+#[tactic(auto, using(crate::proofs::ByOpcode::add_word, crate::proofs::ByOpcode::extend_half, crate::proofs::ByOpcode::pack_word, crate::proofs::ByOpcode::no_pack))]
+fn add_or_pack(extensions: Extensions, word: u32) -> Option<Insn>
+    requires code { opcode word ≡ 0x3B }
+    requires function { Fields.funct7 word ≡ 0x04 }
+    ensures { result ≡ extension_instruction extensions word }
+{
+    match funct3(word) {
+        0 => extensions.zba.then_some(shift_add(word, 0, true)),
+        4 if rs2(word) == 0 => rotates(extensions).then_some(extend(word, ExtendKind::ZextH)),
+        4 => two(word, extensions.zbkb),
+        _ => None,
+    }
+}
+
+/// SH1ADD.UW, SH2ADD.UW and SH3ADD.UW.
+#[tactic(auto, using(crate::proofs::ByOpcode::reg_w_cases_10))]
+fn shifted_word_sum(extensions: Extensions, word: u32) -> Option<Insn>
+    requires code { opcode word ≡ 0x3B }
+    requires function { Fields.funct7 word ≡ 0x10 }
+    ensures { result ≡ extension_instruction extensions word }
+{
+    if !extensions.zba {
+        return None;
+    }
+    match funct3(word) {
+        2 => Some(shift_add(word, 1, true)),
+        4 => Some(shift_add(word, 2, true)),
+        6 => Some(shift_add(word, 3, true)),
+        _ => None,
+    }
+}
+
+/// Operations on a register and an immediate, by `funct6`, `funct3` and the amount.
+#[tactic(auto, using(crate::proofs::ByOpcode::imm_cases_0a, crate::proofs::ByOpcode::imm_cases_12, crate::proofs::ByOpcode::imm_cases_18, crate::proofs::ByOpcode::imm_cases_1a, crate::proofs::ByOpcode::imm_cases_none))]
+pub(crate) fn op_imm(extensions: Extensions, word: u32) -> Option<Insn>
+    requires { opcode word ≡ 0x13 }
+    ensures { result ≡ extension_instruction extensions word }
+{
+    match (funct6(word), funct3(word)) {
+        (0b00_1010 | 0b01_0010 | 0b01_1010, 1) => one(word, extensions.zbs),
+        (0b00_1010, 5) => one(word, amount(word) == 7 && extensions.zbb),
+        (0b01_0010, 5) => one(word, extensions.zbs),
+        (0b01_1000, 1) => count_or_extend(extensions, word),
+        (0b01_1000, 5) => one(word, rotates(extensions)),
+        (0b01_1010, 5) => reverse(extensions, word),
+        _ => None,
+    }
+}
+
+/// CLZ, CTZ, CPOP, SEXT.B and SEXT.H.
+#[tactic(auto, using(crate::proofs::ByOpcode::imm_cases_18))]
+fn count_or_extend(extensions: Extensions, word: u32) -> Option<Insn>
+    requires code { opcode word ≡ 0x13 }
+    requires shift { Fields.funct6 word ≡ 0x18 }
+    requires function { Fields.funct3 word ≡ 1 }
+    ensures { result ≡ extension_instruction extensions word }
+{
+    if !extensions.zbb {
+        return None;
+    }
+    match amount(word) {
+        0 | 1 | 2 => Some(unary(word)),
+        4 => Some(extend(word, ExtendKind::SextB)),
+        5 => Some(extend(word, ExtendKind::SextH)),
+        _ => None,
+    }
+}
+
+/// REV8 and BREV8.
+#[tactic(auto, using(crate::proofs::ByOpcode::imm_cases_1a))]
+fn reverse(extensions: Extensions, word: u32) -> Option<Insn>
+    requires code { opcode word ≡ 0x13 }
+    requires shift { Fields.funct6 word ≡ 0x1A }
+    requires function { Fields.funct3 word ≡ 5 }
+    ensures { result ≡ extension_instruction extensions word }
+{
+    match amount(word) {
+        0b11_1000 => one(word, rotates(extensions)),
+        7 => one(word, extensions.zbkb),
+        _ => None,
+    }
+}
+
+/// Operations on 32 bits of a register and an immediate.
+#[tactic(auto, using(crate::proofs::ByOpcode::imm_w_cases_04, crate::proofs::ByOpcode::imm_w_cases_05, crate::proofs::ByOpcode::imm_w_cases_30, crate::proofs::ByOpcode::imm_w_cases_none))]
+pub(crate) fn op_imm_32(extensions: Extensions, word: u32) -> Option<Insn>
+    requires { opcode word ≡ 0x1B }
+    ensures { result ≡ extension_instruction extensions word }
+{
+    match (funct7(word), funct3(word)) {
+        (0x04 | 0x05, 1) => extensions.zba.then_some(shift_word(word)),
+        (0x30, 1) => count_word(extensions, word),
+        (0x30, 5) => one(word, rotates(extensions)),
+        _ => None,
+    }
+}
+
+/// CLZW, CTZW and CPOPW.
+#[tactic(auto, using(crate::proofs::ByOpcode::imm_w_cases_30))]
+fn count_word(extensions: Extensions, word: u32) -> Option<Insn>
+    requires code { opcode word ≡ 0x1B }
+    requires shift { Fields.funct7 word ≡ 0x30 }
+    requires function { Fields.funct3 word ≡ 1 }
+    ensures { result ≡ extension_instruction extensions word }
+{
+    match rs2(word) {
+        0 | 1 | 2 => one(word, extensions.zbb),
+        _ => None,
+    }
+}
+
+/// Whether what Zbb and Zbkb share is named.
+fn rotates(extensions: Extensions) -> bool
+    ensures { result ≡ table.rotates extensions }
+{
+    extensions.zbb || extensions.zbkb
+}
+
+/// Bits 25 to 20.
+fn amount(word: u32) -> u32
+    ensures { result ≡ Fields.field word 25 20 }
+{
+    field(word, 25, 20)
+}
+
+/// An operation on one register, if the word `fits` it.
+fn one(word: u32, fits: bool) -> Option<Insn>
+    ensures { result ≡ if fits then Some (registers.unary word) else None }
+{
+    fits.then_some(unary(word))
+}
+
+/// An operation on two registers, if the word `fits` it.
+fn two(word: u32, fits: bool) -> Option<Insn>
+    ensures { result ≡ if fits then Some (registers.binary word) else None }
+{
+    fits.then_some(binary(word))
+}

@@ -1,0 +1,179 @@
+//! What a word of an extension is by its registers.
+
+ghost use Rattle.std.specs.Prelude.{◌≡◌, ◌<◌, ◌^◌, ◌&&◌, if◌then◌else◌, Some, None, bit_or};
+ghost use Rattle.rv_extensions.specs.Registers.{only, both, pair};
+ghost use Rattle.rv_decode.specs.Fields;
+ghost use Rattle.rv_extensions.specs.Registers as registers;
+ghost use Rattle.rv_extensions.specs.Table as table;
+
+use rv_decode::fields::{funct6, rd, rs1, rs2};
+use rv_decode::{ExtendKind, Insn};
+use rvc_expand::bits::field;
+
+/// The mask of one register; x0 is in no mask.
+pub(crate) fn only(register: u8) -> u32
+    requires { register < 32 }
+    ensures { result ≡ only register }
+{
+    if register == 0 { 0 } else { 1 << register }
+}
+
+/// The mask of two registers.
+fn both(first: u8, second: u8) -> u32
+    requires first { first < 32 }
+    requires second { second < 32 }
+    ensures { result ≡ both first second }
+{
+    only(first) | only(second)
+}
+
+/// The mask of a register and the next one; a pair that begins at x0 is the constant 0.
+fn pair(register: u8) -> u32
+    requires { register < 31 }
+    ensures { result ≡ pair register }
+{
+    if register == 0 {
+        0
+    } else {
+        both(register, register + 1)
+    }
+}
+
+/// An instruction that uses no integer register.
+pub(crate) fn without() -> Insn
+    ensures { result ≡ Insn.Extension 0 0 }
+{
+    Insn::Extension {
+        reads: 0,
+        writes: 0,
+    }
+}
+
+/// One that writes `rd`.
+pub(crate) fn to_rd(word: u32) -> Insn
+    ensures { result ≡ registers.to_rd word }
+{
+    Insn::Extension {
+        reads: 0,
+        writes: only(rd(word)),
+    }
+}
+
+/// One that reads `rs1`.
+pub(crate) fn from_rs1(word: u32) -> Insn
+    ensures { result ≡ registers.from_rs1 word }
+{
+    Insn::Extension {
+        reads: only(rs1(word)),
+        writes: 0,
+    }
+}
+
+/// One that reads `rs1` and writes `rd`.
+pub(crate) fn unary(word: u32) -> Insn
+    ensures { result ≡ registers.unary word }
+{
+    Insn::Extension {
+        reads: only(rs1(word)),
+        writes: only(rd(word)),
+    }
+}
+
+/// One that reads `rs1` and `rs2` and writes `rd`.
+pub(crate) fn binary(word: u32) -> Insn
+    ensures { result ≡ registers.binary word }
+{
+    Insn::Extension {
+        reads: both(rs1(word), rs2(word)),
+        writes: only(rd(word)),
+    }
+}
+
+/// One that reads `rd`, `rs1` and `rs2` and writes `rd`.
+pub(crate) fn ternary(word: u32) -> Insn
+    ensures { result ≡ registers.ternary word }
+{
+    let writes = only(rd(word));
+    Insn::Extension {
+        reads: both(rs1(word), rs2(word)) | writes,
+        writes,
+    }
+}
+
+/// The same of the pairs at `rd` and at `rs2`, both even.
+pub(crate) fn ternary_pairs(word: u32) -> Insn
+    requires destination { Fields.rd word < 31 }
+    requires source { Fields.rs2 word < 31 }
+    ensures { result ≡ registers.ternary_pairs word }
+{
+    let writes = pair(rd(word));
+    Insn::Extension {
+        reads: only(rs1(word)) | pair(rs2(word)) | writes,
+        writes,
+    }
+}
+
+/// A vector load or store.
+#[tactic(auto, unfolding(crate::specs::Registers::vector_memory))]
+pub(crate) fn vector_memory(word: u32) -> Insn
+    ensures { result ≡ registers.vector_memory word }
+{
+    let strided = field(word, 27, 26) == 2;
+    Insn::Extension {
+        reads: if strided {
+            both(rs1(word), rs2(word))
+        } else {
+            only(rs1(word))
+        },
+        writes: 0,
+    }
+}
+
+/// A vector operation of two operands: three of them write `rd`.
+#[tactic(auto, unfolding(crate::specs::Registers::vector_result))]
+pub(crate) fn vector_result(word: u32) -> Insn
+    ensures { result ≡ registers.vector_result word }
+{
+    let has_result = funct6(word) == 0b01_0000 && matches!(rs1(word), 0 | 16 | 17);
+    Insn::Extension {
+        reads: 0,
+        writes: if has_result { only(rd(word)) } else { 0 },
+    }
+}
+
+/// `rs2` plus `rs1` shifted left.
+pub(crate) fn shift_add(word: u32, shift: u8, zero_extended: bool) -> Insn
+    ensures { result ≡ table.shift_add shift zero_extended word }
+{
+    Insn::ShiftAdd {
+        shift,
+        zero_extended,
+        rd: rd(word),
+        rs1: rs1(word),
+        rs2: rs2(word),
+    }
+}
+
+/// The low 32 bits of `rs1` shifted left by an amount of six bits.
+pub(crate) fn shift_word(word: u32) -> Insn
+    ensures { result ≡ table.shift_word word }
+{
+    Insn::ShiftAdd {
+        shift: field(word, 25, 20) as u8,
+        zero_extended: true,
+        rd: rd(word),
+        rs1: rs1(word),
+        rs2: 0,
+    }
+}
+
+/// The low bits of `rs1`, extended.
+pub(crate) fn extend(word: u32, kind: ExtendKind) -> Insn
+    ensures { result ≡ table.extend kind word }
+{
+    Insn::Extend {
+        kind,
+        rd: rd(word),
+        rs1: rs1(word),
+    }
+}
