@@ -3,6 +3,7 @@
 use cfg_words::{Request, request};
 use std::alloc::{AllocError, Global};
 use std::test::Fail;
+use test_asserts::same_at;
 
 /// The program's name and these words.
 fn command_line(alloc: Global, words: &[&str]) -> Result<Vec<String>, AllocError> {
@@ -67,7 +68,7 @@ static LINES: [(&[&str], &str); 26] = [
 fn command_lines(rt: HostRuntime) -> Result<(), Fail> {
     for &(words, want) in LINES.iter() {
         let got = shown(rt.alloc(), words)?;
-        assert_eq!(rt; got.as_str(), want, "{words:?}");
+        same_at(&rt, &words, &got.as_str(), &want);
     }
     Ok(())
 }

@@ -1,7 +1,7 @@
 //! Whole runs through gates: that a run uses the workers that it is asked for, that they work at
 //! the same time, and that they steal.
 
-use crate::one_run::{PLAIN, left_by};
+use crate::one_run::left_by;
 use crate::row_files::file_of;
 use cfg_io::MemSink;
 use cfg_run::Status;
@@ -11,6 +11,7 @@ use std::process::Abort;
 use std::sync::Wait;
 use std::test::Fail;
 use std::thread::Threads;
+use test_asserts::{holds, holds_at, same, same_at};
 use test_gates::{Counts, Meeting, Robbery};
 
 /// The row whose file has a symbol at each of its 301 instructions.
@@ -27,8 +28,8 @@ fn report_of<R: Threads + Wait + Abort + AllocGlobal + Sync, G: Gate>(
     gate: &G,
 ) -> Result<MemSink, Fail> {
     let words = ["--workers", workers, "F"];
-    let left = left_by(rt, &words, file_of(rt, row, 0)?, PLAIN, gate)?;
-    assert_eq!(rt; left.status, Status::Done);
+    let left = left_by(rt, &words, file_of(rt, row, 0)?, 0, gate)?;
+    same(rt, &left.status, &Status::Done);
     Ok(left.out)
 }
 
@@ -38,9 +39,9 @@ fn report_of<R: Threads + Wait + Abort + AllocGlobal + Sync, G: Gate>(
 fn two_workers_of_a_run_meet(rt: HostRuntime) -> Result<(), Fail> {
     let gate = Meeting::new();
     let report = report_of(&rt, 5, "2", &gate)?;
-    assert!(rt; gate.both_came());
+    holds(&rt, gate.both_came());
     let alone = report_of(&rt, 5, "1", &OpenGate)?;
-    assert_eq!(rt; report.bytes(), alone.bytes());
+    same(&rt, &report.bytes(), &alone.bytes());
     Ok(())
 }
 
@@ -49,9 +50,9 @@ fn two_workers_of_a_run_meet(rt: HostRuntime) -> Result<(), Fail> {
 fn a_worker_of_a_run_steals(rt: HostRuntime) -> Result<(), Fail> {
     let gate = Robbery::below(LOWER);
     let report = report_of(&rt, MANY, "2", &gate)?;
-    assert!(rt; gate.took_place());
+    holds(&rt, gate.took_place());
     let alone = report_of(&rt, MANY, "1", &OpenGate)?;
-    assert_eq!(rt; report.bytes(), alone.bytes());
+    same(&rt, &report.bytes(), &alone.bytes());
     Ok(())
 }
 
@@ -63,10 +64,10 @@ fn a_run_uses_its_workers(rt: HostRuntime) -> Result<(), Fail> {
     for (words, workers) in [("2", 2), ("3", 3), ("4", 4), ("64", 64)] {
         let gate = Counts::new();
         let report = report_of(&rt, MANY, words, &gate)?;
-        assert_eq!(rt; report.bytes(), alone.bytes(), "{words} workers");
-        assert_eq!(rt; gate.ended(), workers);
-        assert!(rt; gate.fit());
-        assert!(rt; gate.made() >= 301, "{words} workers made too little");
+        same_at(&rt, &words, &report.bytes(), &alone.bytes());
+        same(&rt, &gate.ended(), &workers);
+        holds(&rt, gate.fit());
+        holds_at(&rt, &words, gate.made() >= 301);
     }
     Ok(())
 }
@@ -78,8 +79,8 @@ fn more_workers_than_seeds(rt: HostRuntime) -> Result<(), Fail> {
     for (words, workers) in [("3", 3), ("64", 64)] {
         let gate = Counts::new();
         let report = report_of(&rt, 5, words, &gate)?;
-        assert!(rt; report.bytes() == alone.bytes());
-        assert!(rt; gate.ended() == workers);
+        same_at(&rt, &words, &report.bytes(), &alone.bytes());
+        same_at(&rt, &words, &gate.ended(), &workers);
     }
     Ok(())
 }
@@ -96,9 +97,9 @@ fn workers_make_hostile_rows(rt: HostRuntime) -> Result<(), Fail> {
         for (words, workers) in [("2", 2), ("64", 64)] {
             let gate = Counts::new();
             let report = report_of(&rt, row, words, &gate)?;
-            assert!(rt; report.bytes() == alone.bytes());
-            assert!(rt; gate.ended() == workers);
-            assert!(rt; gate.made() >= 2);
+            same_at(&rt, &(row, words), &report.bytes(), &alone.bytes());
+            same_at(&rt, &(row, words), &gate.ended(), &workers);
+            holds(&rt, gate.made() >= 2);
         }
     }
     Ok(())
@@ -109,6 +110,6 @@ fn workers_make_hostile_rows(rt: HostRuntime) -> Result<(), Fail> {
 fn one_worker_asks_no_gate(rt: HostRuntime) -> Result<(), Fail> {
     let gate = Counts::new();
     report_of(&rt, MANY, "1", &gate)?;
-    assert_eq!(rt; gate.ended(), 0);
+    same(&rt, &gate.ended(), &0);
     Ok(())
 }

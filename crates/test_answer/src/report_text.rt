@@ -9,6 +9,7 @@ use graph_report::{FileNames, ReportKind, ReportPieces, report, summary};
 use std::alloc::{AllocError, Global};
 use std::process::Abort;
 use std::test::Fail;
+use test_asserts::{holds, same};
 
 /// A file of six instructions, each of four bytes: a jump to the next one, a return, a jump by 12
 /// bytes, a return, `ebreak` and a return. The four instructions after the first are functions with
@@ -116,7 +117,7 @@ fn prints(
     assert!(rt; kind != ReportKind::Live);
     let names = FileNames::new(&image, &seeds);
     let text = report(alloc, &names, graph, kind)?;
-    assert_eq!(rt; text.as_slice(), want.as_bytes());
+    same(rt, &text.as_slice(), &want.as_bytes());
     Ok(())
 }
 
@@ -194,7 +195,7 @@ fn summary_of_counts(rt: HostRuntime) -> Result<(), Fail> {
         no-return 1\n";
     let graph = named_graph(rt.alloc())?;
     let text = summary(rt.alloc(), 4_000_000_000, &graph)?;
-    assert_eq!(rt; text.as_slice(), want.as_bytes());
+    same(&rt, &text.as_slice(), &want.as_bytes());
     Ok(())
 }
 
@@ -226,12 +227,12 @@ fn long_text(alloc: Global) -> Result<String, AllocError> {
 fn are_pieces(rt: &impl Abort, pieces: &mut ReportPieces, text: &[u8], counts: &[usize]) {
     let mut left = text;
     for &count in counts {
-        assert!(rt; pieces.next_piece() == left.get(..count));
+        holds(rt, pieces.next_piece() == left.get(..count));
         left = left.get(count..).unwrap_or(b"");
     }
-    assert!(rt; left.is_empty());
-    assert!(rt; pieces.next_piece().is_none());
-    assert!(rt; pieces.next_piece().is_none());
+    holds(rt, left.is_empty());
+    holds(rt, pieces.next_piece().is_none());
+    holds(rt, pieces.next_piece().is_none());
 }
 
 #[test]

@@ -6,6 +6,7 @@ ghost use Rattle.cfg_vectors.specs.Rows.{IsRow};
 use cfg_vectors::row_file;
 use std::process::Abort;
 use std::test::Fail;
+use test_asserts::same_at;
 
 /// A row, a part, the length of their file, and the hash of its bytes.
 pub(crate) static FILES: [(u32, u32, usize, u64); 27] = [
@@ -69,8 +70,8 @@ pub(crate) fn file_of(
 fn gives_every_row(rt: HostRuntime) -> Result<(), Fail> {
     for &(row, part, len, sum) in FILES.iter() {
         let file = file_of(&rt, row, part)?;
-        assert_eq!(rt; file.len(), len, "the length of row {row} part {part}");
-        assert_eq!(rt; hash(&file), sum, "the bytes of row {row} part {part}");
+        same_at(&rt, &(row, part), &file.len(), &len);
+        same_at(&rt, &(row, part), &hash(&file), &sum);
     }
     Ok(())
 }

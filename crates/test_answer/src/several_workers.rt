@@ -2,7 +2,7 @@
 
 ghost use Rattle.std.specs.Prelude.{◌≤◌};
 
-use crate::one_run::{PLAIN, left_by};
+use crate::one_run::left_by;
 use crate::row_files::file_of;
 use big_case::big_file;
 use cfg_io::MemSink;
@@ -19,6 +19,7 @@ use std::process::Abort;
 use std::sync::Wait;
 use std::test::Fail;
 use std::thread::Threads;
+use test_asserts::{holds, same, same_at};
 
 /// Workers leave nothing to do in the state of the program of a file without cuts.
 fn leave_nothing<R: Threads + Wait + Abort + AllocGlobal + Sync>(
@@ -35,10 +36,7 @@ fn leave_nothing<R: Threads + Wait + Abort + AllocGlobal + Sync>(
     let none = Cuts::none(alloc);
     let code = Code::new(&image, &index, &none);
     let state = work(rt, alloc, &code, seeds.addresses(), workers, &OpenGate)?;
-    assert!(rt;
-        state.left(&code, seeds.addresses()).is_none(),
-        "work is left"
-    );
+    holds(rt, state.left(&code, seeds.addresses()).is_none());
     Ok(())
 }
 
@@ -105,13 +103,9 @@ fn agree<R: Threads + Wait + Abort + AllocGlobal + Sync>(
     let alone = report_by(rt, "1", bytes, &OpenGate)?;
     for workers in ["2", "3", "4", "64"] {
         let fast = report_by(rt, workers, bytes, &OpenGate)?;
-        assert_eq!(rt; fast.bytes(), alone.bytes(), "row {row}, {workers} workers");
+        same_at(rt, &(row, workers), &fast.bytes(), &alone.bytes());
         let slow = report_by(rt, workers, bytes, &Slope)?;
-        assert_eq!(rt;
-            slow.bytes(),
-            alone.bytes(),
-            "row {row}, {workers} slow workers"
-        );
+        same_at(rt, &(row, workers), &slow.bytes(), &alone.bytes());
     }
     Ok(())
 }
@@ -124,7 +118,7 @@ fn report_by<R: Threads + Wait + Abort + AllocGlobal + Sync, G: Gate>(
     gate: &G,
 ) -> Result<MemSink, Fail> {
     let file = Vec::from_slice(rt.alloc(), bytes)?;
-    let left = left_by(rt, &["--workers", workers, "F"], file, PLAIN, gate)?;
-    assert_eq!(rt; left.status, Status::Done);
+    let left = left_by(rt, &["--workers", workers, "F"], file, 0, gate)?;
+    same(rt, &left.status, &Status::Done);
     Ok(left.out)
 }

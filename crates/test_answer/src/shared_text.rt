@@ -1,15 +1,11 @@
 //! The text of a report by several workers.
 
-ghost use Rattle.std.specs.Prelude.{◌≢◌, ◌≤◌};
+ghost use Rattle.std.specs.Prelude.{◌≢◌};
 
-use crate::one_run::{Left, PLAIN, Streams, left_by};
 use crate::report_text::{
     NAMED_BLOCKS, NAMED_EDGES, NAMED_FILE, file_with_parts, graph_of, named_graph,
 };
-use big_case::big_file;
 use cfg_model::{Addresses, Function, Functions, Graph};
-use cfg_run::Status;
-use crew::OpenGate;
 use elf_image::Image;
 use elf_symbols::seeds;
 use graph_report::{FileNames, ReportKind, ReportLines, report};
@@ -17,9 +13,9 @@ use report_crew::{LEAST_LINES, is_worth_sharing, text_by};
 use std::alloc::{AllocError, Global};
 use std::marker::Sync;
 use std::process::Abort;
-use std::sync::Wait;
 use std::test::Fail;
 use std::thread::Threads;
+use test_asserts::{holds, same};
 
 /// Workers give the text of the graph of the file with names that one thread gives.
 fn agree<R: Threads + Abort + AllocGlobal + Sync>(
@@ -40,7 +36,7 @@ fn agree<R: Threads + Abort + AllocGlobal + Sync>(
         for text in text_by(rt, alloc, lines, workers)? {
             all.extend_from_slice(&text)?;
         }
-        assert_eq!(rt; all.as_slice(), whole.as_slice());
+        same(rt, &all.as_slice(), &whole.as_slice());
     }
     Ok(())
 }
@@ -104,72 +100,9 @@ fn is_shared(alloc: Global, functions: usize, lines: usize, name: usize) -> Resu
 #[test]
 fn measures_of_reports(rt: HostRuntime) -> Result<(), Fail> {
     let alloc = rt.alloc();
-    assert!(rt; !is_shared(alloc, 100, LEAST_LINES / 200, 1)?);
-    assert!(rt; is_shared(alloc, 100, LEAST_LINES / 100, 1)?);
-    assert!(rt; is_shared(alloc, 100, LEAST_LINES / 100, 100_000)?);
-    assert!(rt; !is_shared(alloc, 100, LEAST_LINES / 100, 1_000_000)?);
-    Ok(())
-}
-
-/// What a run with this many workers leaves of the program made from a number, if the write of this
-/// number fails.
-fn left_of<R: Threads + Wait + AllocGlobal + Sync>(
-    rt: &R,
-    workers: &str,
-    kind: &str,
-    n: u32,
-    failing_write: u64,
-) -> Result<Left, Fail>
-    requires { (4 ≤ n) × (n ≤ 100000) }
-{
-    let words = ["--workers", workers, "--report", kind, "F"];
-    let streams = Streams {
-        failing_write,
-        ..PLAIN
-    };
-    left_by(rt, &words, big_file(rt.alloc(), n)?, streams, &OpenGate)
-}
-
-/// Workers write the report that one worker writes.
-fn runs_agree<R: Threads + Wait + Abort + AllocGlobal + Sync>(
-    rt: &R,
-    kind: &str,
-    n: u32,
-) -> Result<(), Fail>
-    requires { (4 ≤ n) × (n ≤ 100000) }
-{
-    let alone = left_of(rt, "1", kind, n, 0)?;
-    assert_eq!(rt; alone.status, Status::Done);
-    for workers in ["2", "4"] {
-        let left = left_of(rt, workers, kind, n, 0)?;
-        assert_eq!(rt; left.status, Status::Done);
-        assert_eq!(rt; left.out.bytes(), alone.out.bytes());
-    }
-    Ok(())
-}
-
-#[test]
-fn runs_of_many_lines(rt: HostRuntime) -> Result<(), Fail> {
-    runs_agree(&rt, "graph", 1100)?;
-    runs_agree(&rt, "live", 3400)
-}
-
-/// One worker writes a report of many lines in pieces, and comes to a write that fails. Several
-/// write it in parts, of which there are fewer; but not a report of few lines.
-#[test]
-fn workers_write_parts(rt: HostRuntime) -> Result<(), Fail> {
-    assert_eq!(rt;
-        left_of(&rt, "1", "graph", 1100, 50)?.status,
-        Status::WriteFault
-    );
-    assert_eq!(rt; left_of(&rt, "4", "graph", 1100, 50)?.status, Status::Done);
-    assert_eq!(rt;
-        left_of(&rt, "4", "graph", 1100, 2)?.status,
-        Status::WriteFault
-    );
-    assert_eq!(rt;
-        left_of(&rt, "4", "graph", 900, 50)?.status,
-        Status::WriteFault
-    );
+    holds(&rt, !is_shared(alloc, 100, LEAST_LINES / 200, 1)?);
+    holds(&rt, is_shared(alloc, 100, LEAST_LINES / 100, 1)?);
+    holds(&rt, is_shared(alloc, 100, LEAST_LINES / 100, 100_000)?);
+    holds(&rt, !is_shared(alloc, 100, LEAST_LINES / 100, 1_000_000)?);
     Ok(())
 }

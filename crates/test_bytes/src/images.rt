@@ -5,6 +5,7 @@ use elf_image::{ElfError, Image, Section, Span};
 use std::alloc::{AllocError, Global};
 use std::process::Abort;
 use std::test::Fail;
+use test_asserts::{holds, same, same_at};
 
 /// The name of the fault that the parse answers, or `-` if it accepts the file.
 fn verdict(alloc: Global, bytes: Vec<u8>) -> &'static str {
@@ -40,15 +41,24 @@ fn zeros(alloc: Global, blocks: usize, more: &[u8]) -> Result<Vec<u8>, AllocErro
 #[test]
 fn sizes(rt: HostRuntime) -> Result<(), Fail> {
     let alloc = rt.alloc();
-    assert_eq!(rt; verdict(alloc, Vec::new(alloc)), "Short");
-    assert_eq!(rt; verdict(alloc, zeros(alloc, 0, &[0; 63])?), "Short");
-    assert_eq!(rt; verdict(alloc, zeros(alloc, 0, &[0; 64])?), "Magic");
-    assert_eq!(rt; verdict(alloc, zeros(alloc, 16_384, &[])?), "Magic");
-    assert_eq!(rt; verdict(alloc, zeros(alloc, 16_384, &[0])?), "TooLarge");
-    assert_eq!(rt; verdict(alloc, Vec::from_slice(alloc, &RET_FILE)?), "-");
-    assert_eq!(rt;
-        verdict(alloc, Vec::from_slice(alloc, &RET_FILE[..263])?),
-        "SectionTable"
+    same(&rt, &verdict(alloc, Vec::new(alloc)), &"Short");
+    same(&rt, &verdict(alloc, zeros(alloc, 0, &[0; 63])?), &"Short");
+    same(&rt, &verdict(alloc, zeros(alloc, 0, &[0; 64])?), &"Magic");
+    same(&rt, &verdict(alloc, zeros(alloc, 16_384, &[])?), &"Magic");
+    same(
+        &rt,
+        &verdict(alloc, zeros(alloc, 16_384, &[0])?),
+        &"TooLarge",
+    );
+    same(
+        &rt,
+        &verdict(alloc, Vec::from_slice(alloc, &RET_FILE)?),
+        &"-",
+    );
+    same(
+        &rt,
+        &verdict(alloc, Vec::from_slice(alloc, &RET_FILE[..263])?),
+        &"SectionTable",
     );
     Ok(())
 }
@@ -139,9 +149,9 @@ fn expect_verdicts(
     alloc: Global,
     cases: &[(&[(usize, u8)], &str)],
 ) -> Result<(), Fail> {
-    for (edits, want) in cases {
+    for (number, (edits, want)) in cases.iter().enumerate() {
         let bytes = edited(alloc, &RET_FILE, edits)?;
-        assert_eq!(rt; verdict(alloc, bytes), *want, "at {want}");
+        same_at(rt, &number, &verdict(alloc, bytes), want);
     }
     Ok(())
 }
@@ -158,16 +168,18 @@ fn first_faults(rt: HostRuntime) -> Result<(), Fail> {
 fn last_addresses(rt: HostRuntime) -> Result<(), Fail> {
     let alloc = rt.alloc();
     // The table of sections there.
-    assert_eq!(rt;
-        verdict(alloc, with_last_address(alloc, 40)?),
-        "SectionTable"
+    same(
+        &rt,
+        &verdict(alloc, with_last_address(alloc, 40)?),
+        &"SectionTable",
     );
     // Code of four bytes at the last address, and an empty section there.
-    assert_eq!(rt;
-        verdict(alloc, with_last_address(alloc, 152)?),
-        "SectionWrap"
+    same(
+        &rt,
+        &verdict(alloc, with_last_address(alloc, 152)?),
+        &"SectionWrap",
     );
-    assert_eq!(rt; verdict(alloc, with_last_address(alloc, 216)?), "-");
+    same(&rt, &verdict(alloc, with_last_address(alloc, 216)?), &"-");
     Ok(())
 }
 
@@ -190,9 +202,9 @@ static RET_CODE: [Code; 8] = [
 
 fn expect_code(rt: &impl Abort, image: &Image, cases: &[Code]) {
     for &(a, start, half) in cases {
-        assert_eq!(rt; image.is_code(a), start.is_some(), "{a:x}");
-        assert_eq!(rt; image.section_start(a), start, "{a:x}");
-        assert_eq!(rt; image.half_at(a), half, "{a:x}");
+        same_at(rt, &a, &image.is_code(a), &start.is_some());
+        same_at(rt, &a, &image.section_start(a), &start);
+        same_at(rt, &a, &image.half_at(a), &half);
     }
 }
 
@@ -200,24 +212,24 @@ fn expect_code(rt: &impl Abort, image: &Image, cases: &[Code]) {
 fn reads(rt: HostRuntime) -> Result<(), Fail> {
     let image = Image::parse(rt.alloc(), Vec::from_slice(rt.alloc(), &RET_FILE)?)?;
     shared(&image);
-    assert_eq!(rt; image.entry(), 0x10000);
+    same(&rt, &image.entry(), &0x10000);
     expect_code(&rt, &image, RET_CODE.as_slice());
     for a in [0xFFFE, 0x10001, 0x10002, 0x10004, u64::MAX] {
-        assert_eq!(rt; image.word_at(a), None, "{a:x}");
+        same_at(&rt, &a, &image.word_at(a), &None);
     }
-    assert_eq!(rt; image.word_at(0x10000), Some(0x8067));
-    assert!(rt; image.is_read_only(0x10003));
-    assert!(rt; !image.is_read_only(0x10004));
-    assert!(rt; !image.is_read_only(0x20000));
-    assert_eq!(rt; image.data_word(0x10000), Some(0x8067));
-    assert_eq!(rt; image.data_word(0x10001), None);
+    same(&rt, &image.word_at(0x10000), &Some(0x8067));
+    holds(&rt, image.is_read_only(0x10003));
+    holds(&rt, !image.is_read_only(0x10004));
+    holds(&rt, !image.is_read_only(0x20000));
+    same(&rt, &image.data_word(0x10000), &Some(0x8067));
+    same(&rt, &image.data_word(0x10001), &None);
     Ok(())
 }
 
 #[test]
 fn tables(rt: HostRuntime) -> Result<(), Fail> {
     let image = Image::parse(rt.alloc(), Vec::from_slice(rt.alloc(), &RET_FILE)?)?;
-    assert_eq!(rt; image.section_count(), 3);
+    same(&rt, &image.section_count(), &3);
     let code = Section {
         kind: 1,
         flags: 6,
@@ -229,12 +241,13 @@ fn tables(rt: HostRuntime) -> Result<(), Fail> {
     };
     for i in 0..image.section_count() {
         let section = image.section(i);
-        assert_eq!(rt; section.is_code(), i == 1);
-        assert_eq!(rt; section == code, i == 1);
+        same(&rt, &section.is_code(), &(i == 1));
+        same(&rt, &(section == code), &(i == 1));
     }
-    assert_eq!(rt;
-        image.bytes(Span { at: 64, len: 4 }),
-        [0x67, 0x80, 0, 0].as_slice()
+    same(
+        &rt,
+        &image.bytes(Span { at: 64, len: 4 }),
+        &[0x67, 0x80, 0, 0].as_slice(),
     );
     Ok(())
 }
@@ -248,12 +261,12 @@ fn overlapping_data(rt: HostRuntime) -> Result<(), Fail> {
         alloc,
         edited(alloc, &RET_FILE, &[(218, 1), (224, 0), (232, 8)])?,
     )?;
-    assert_eq!(rt; image.data_word(0x10000), Some(0x0000_8067));
-    assert_eq!(rt; image.data_word(0x10002), Some(0x0102_464C));
-    assert_eq!(rt; image.data_word(0x10004), Some(0x0001_0102));
-    assert_eq!(rt; image.data_word(0x10005), None);
-    assert!(rt; image.is_read_only(0x10007));
-    assert!(rt; !image.is_read_only(0x10008));
+    same(&rt, &image.data_word(0x10000), &Some(0x0000_8067));
+    same(&rt, &image.data_word(0x10002), &Some(0x0102_464C));
+    same(&rt, &image.data_word(0x10004), &Some(0x0001_0102));
+    same(&rt, &image.data_word(0x10005), &None);
+    holds(&rt, image.is_read_only(0x10007));
+    holds(&rt, !image.is_read_only(0x10008));
     Ok(())
 }
 
@@ -290,13 +303,13 @@ static WIDTHS_CODE: [Code; 11] = [
 
 /// The words of the first two sections, and which addresses may be read.
 fn expect_words(rt: &impl Abort, image: &Image) {
-    assert_eq!(rt; image.word_at(0x10004), Some(0x0001_0102));
-    assert_eq!(rt; image.word_at(0x10006), None);
-    assert_eq!(rt; image.data_word(0x10001), Some(0x0246_4C45));
-    assert_eq!(rt; image.data_word(0x10005), None);
-    assert_eq!(rt; image.data_word(0x10010), Some(0x0001_0102));
+    same(rt, &image.word_at(0x10004), &Some(0x0001_0102));
+    same(rt, &image.word_at(0x10006), &None);
+    same(rt, &image.data_word(0x10001), &Some(0x0246_4C45));
+    same(rt, &image.data_word(0x10005), &None);
+    same(rt, &image.data_word(0x10010), &Some(0x0001_0102));
     for (a, start, _) in WIDTHS_CODE.as_slice() {
-        assert_eq!(rt; image.is_read_only(*a), start.is_some(), "{a:x}");
+        same_at(rt, &a, &image.is_read_only(*a), &start.is_some());
     }
 }
 

@@ -2,6 +2,7 @@
 
 use big_case::big_file;
 use std::test::Fail;
+use test_asserts::same_at;
 
 /// The words that the slots of the program of four functions begin with.
 static SLOTS_OF_FOUR: [&[u32]; 6] = [
@@ -94,15 +95,11 @@ fn makes_the_words_of_four_functions(rt: HostRuntime) -> Result<(), Fail> {
     for (i, words) in SLOTS_OF_FOUR.iter().enumerate() {
         for k in 0..32 {
             let want = words.get(k).copied().unwrap_or(0);
-            assert_eq!(rt;
-                word_at(&file, 64 + 128 * i + 4 * k),
-                want,
-                "word {k} of slot {i}"
-            );
+            same_at(&rt, &(i, k), &word_at(&file, 64 + 128 * i + 4 * k), &want);
         }
     }
     for (k, want) in TABLE_OF_FOUR.iter().enumerate() {
-        assert_eq!(rt; word_at(&file, 64 + 128 * 6 + 4 * k), *want, "entry {k}");
+        same_at(&rt, &k, &word_at(&file, 64 + 128 * 6 + 4 * k), want);
     }
     Ok(())
 }
@@ -112,8 +109,8 @@ fn makes_whole_files(rt: HostRuntime) -> Result<(), Fail> {
     for &(n, len, sum) in CASES.iter() {
         assert!(rt; 4 <= n && n <= 100_000);
         let file = big_file(rt.alloc(), n)?;
-        assert_eq!(rt; file.len(), len, "the length for {n}");
-        assert_eq!(rt; hash(&file), sum, "the bytes for {n}");
+        same_at(&rt, &n, &file.len(), &len);
+        same_at(&rt, &n, &hash(&file), &sum);
     }
     Ok(())
 }

@@ -5,6 +5,7 @@
 //!
 //! - `transfer`: whole readings and writings (`cfg_io`).
 //! - `images`: judging and reading an executable (`elf_image`).
+//! - `profiles`: what attributes and declared tables say (`elf_image`).
 //! - `symbols`: the functions that its symbols name (`elf_symbols`).
 //! - `making`: executables made from their parts (`elf_maker`).
 //! - `large`: large executables made from one number (`big_case`).
@@ -17,6 +18,8 @@ mod images;
 mod large;
 #[cfg(test)]
 mod making;
+#[cfg(test)]
+mod profiles;
 #[cfg(test)]
 mod small_files;
 #[cfg(test)]

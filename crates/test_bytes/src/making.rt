@@ -6,6 +6,7 @@ use crate::small_files::{NAMES_FILE, RET_FILE};
 use elf_maker::{Bytes, MadeSymbol, MadeSymbols, Parts, make_elf};
 use std::alloc::{AllocError, Global};
 use std::test::Fail;
+use test_asserts::same;
 
 fn symbol(alloc: Global, name: &[u8], address: u64) -> Result<MadeSymbol, AllocError>
     ensures { IfOk result (λ s. s ≡ record { name = name.now; address = address }) }
@@ -44,7 +45,7 @@ fn makes_one_instruction(rt: HostRuntime) -> Result<(), Fail> {
     let alloc = rt.alloc();
     let parts = code_alone(alloc, &[0x67, 0x80, 0, 0], Vec::new(alloc))?;
     let file = make_elf(alloc, &parts)?;
-    assert_eq!(rt; file.as_slice(), RET_FILE.as_slice());
+    same(&rt, &file.as_slice(), &RET_FILE.as_slice());
     Ok(())
 }
 
@@ -60,6 +61,6 @@ fn makes_symbols(rt: HostRuntime) -> Result<(), Fail> {
     ]?;
     let parts = code_alone(alloc, &[0x67, 0x80, 0, 0, 0x67, 0x80, 0, 0], symbols)?;
     let file = make_elf(alloc, &parts)?;
-    assert_eq!(rt; file.as_slice(), NAMES_FILE.as_slice());
+    same(&rt, &file.as_slice(), &NAMES_FILE.as_slice());
     Ok(())
 }

@@ -9,6 +9,7 @@ use elf_symbols::{Seeds, seeds};
 use std::alloc::Global;
 use std::process::Abort;
 use std::test::Fail;
+use test_asserts::{same, same_at};
 
 /// The image of a file with other bytes at some offsets.
 fn edited_image(alloc: Global, file: &[u8], edits: &[(usize, u8)]) -> Result<Image, ElfError> {
@@ -62,11 +63,11 @@ static NAMES: [Names; 9] = [
 fn expect_names(rt: &impl Abort, alloc: Global, image: &Image, case: Names) -> Result<(), Fail> {
     let (_, addresses, texts) = case;
     let seeds = seeds(alloc, image)?;
-    assert_eq!(rt; seeds.addresses(), addresses);
-    assert_eq!(rt; name_at(image, &seeds, 0x10000), texts[0]);
-    assert_eq!(rt; name_at(image, &seeds, 0x10002), texts[1]);
-    assert_eq!(rt; name_at(image, &seeds, 0x10004), texts[2]);
-    assert_eq!(rt; seeds.name_of(0x10001), None);
+    same(rt, &seeds.addresses(), &addresses);
+    same(rt, &name_at(image, &seeds, 0x10000), &texts[0]);
+    same(rt, &name_at(image, &seeds, 0x10002), &texts[1]);
+    same(rt, &name_at(image, &seeds, 0x10004), &texts[2]);
+    same(rt, &seeds.name_of(0x10001), &None);
     Ok(())
 }
 
@@ -84,9 +85,13 @@ fn names(rt: HostRuntime) -> Result<(), Fail> {
 fn overlapping(rt: HostRuntime) -> Result<(), Fail> {
     let image = edited_image(rt.alloc(), &TWO_FILE, &[])?;
     let seeds = seeds(rt.alloc(), &image)?;
-    assert_eq!(rt; seeds.addresses(), [0x10000, 0x10002].as_slice());
-    assert_eq!(rt; seeds.name_of(0x10000), None);
-    assert_eq!(rt; seeds.name_of(0x10002), Some(Span { at: 121, len: 3 }));
+    same(&rt, &seeds.addresses(), &[0x10000, 0x10002].as_slice());
+    same(&rt, &seeds.name_of(0x10000), &None);
+    same(
+        &rt,
+        &seeds.name_of(0x10002),
+        &Some(Span { at: 121, len: 3 }),
+    );
     Ok(())
 }
 
@@ -94,8 +99,8 @@ fn overlapping(rt: HostRuntime) -> Result<(), Fail> {
 fn no_symbols(rt: HostRuntime) -> Result<(), Fail> {
     let image = edited_image(rt.alloc(), &RET_FILE, &[])?;
     let seeds = seeds(rt.alloc(), &image)?;
-    assert_eq!(rt; seeds.addresses(), [0x10000].as_slice());
-    assert_eq!(rt; seeds.name_of(0x10000), None);
+    same(&rt, &seeds.addresses(), &[0x10000].as_slice());
+    same(&rt, &seeds.name_of(0x10000), &None);
     Ok(())
 }
 
@@ -123,10 +128,10 @@ static FAULTS: [(&[(usize, u8)], &str); 9] = [
 fn faults(rt: HostRuntime) -> Result<(), Fail> {
     // A symbol table whose entries have no size.
     let image = edited_image(rt.alloc(), &RET_FILE, &[(204, 2)])?;
-    assert_eq!(rt; verdict(rt.alloc(), &image), "SymbolTable");
-    for (edits, want) in FAULTS.as_slice() {
+    same(&rt, &verdict(rt.alloc(), &image), &"SymbolTable");
+    for (number, (edits, want)) in FAULTS.iter().enumerate() {
         let image = edited_image(rt.alloc(), &NAMES_FILE, edits)?;
-        assert_eq!(rt; verdict(rt.alloc(), &image), *want, "at {want}");
+        same_at(&rt, &number, &verdict(rt.alloc(), &image), want);
     }
     Ok(())
 }

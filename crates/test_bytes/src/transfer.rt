@@ -10,6 +10,7 @@ use std::alloc::Global;
 use std::process::Abort;
 use std::test::Fail;
 use std::{env, fs, process};
+use test_asserts::{holds, holds_at, same};
 
 // `count` bytes, no two neighbours alike.
 fn sample(rt: &HostRuntime, count: usize) -> Result<Vec<u8>, Fail> {
@@ -36,7 +37,7 @@ fn an_input_is_read_whole(rt: HostRuntime) -> Result<(), Fail> {
         let mut input = MemInput::new(name, bytes.clone()?, most, Vec::new(alloc));
         input.open("one.elf")?;
         let read = read_whole(alloc, &mut input, 1_000_000)?;
-        assert!(rt; read == bytes, "{count} bytes, {most} a read");
+        holds_at(&rt, &(count, most), read == bytes);
     }
     Ok(())
 }
@@ -50,8 +51,8 @@ fn the_limit_is_kept(rt: HostRuntime) -> Result<(), Fail> {
         let mut input = MemInput::new(name, sample(&rt, 100)?, 64, Vec::new(alloc));
         input.open("f")?;
         match read_whole(alloc, &mut input, limit) {
-            Ok(bytes) => assert!(rt; fits && bytes.len() == 100, "limit {limit}"),
-            Err(end) => assert!(rt; !fits && end == ReadEnd::OverLimit, "limit {limit}"),
+            Ok(bytes) => holds_at(&rt, &limit, fits && bytes.len() == 100),
+            Err(end) => holds_at(&rt, &limit, !fits && end == ReadEnd::OverLimit),
         }
     }
     Ok(())
@@ -64,15 +65,15 @@ fn an_input_fails_at_its_calls(rt: HostRuntime) -> Result<(), Fail> {
     let mut refused = MemInput::new(name, sample(&rt, 264)?, 64, [1].to_vec(alloc)?);
     assert!(rt; refused.open("f") == Err(Failed));
     // Its second call is not in the list, but has another path.
-    assert!(rt; refused.open("g") == Err(Failed));
+    holds(&rt, refused.open("g") == Err(Failed));
 
     // Call 1 opens it, and call 3 is the second read.
     let name = String::from_str(alloc, "f")?;
     let mut input = MemInput::new(name, sample(&rt, 264)?, 64, [3].to_vec(alloc)?);
     input.open("f")?;
     match read_whole(alloc, &mut input, 1000) {
-        Ok(_) => assert!(rt; false, "call 3 is in the list"),
-        Err(end) => assert_eq!(rt; end, ReadEnd::Read),
+        Ok(_) => holds(&rt, false),
+        Err(end) => same(&rt, &end, &ReadEnd::Read),
     }
     Ok(())
 }
@@ -84,7 +85,7 @@ fn a_text_is_written_whole(rt: HostRuntime) -> Result<(), Fail> {
     let mut sink = MemSink::new(alloc, 1_048_576, 16, Vec::new(alloc))?;
     write_whole(&mut sink, &text)?;
     write_whole(&mut sink, &[])?;
-    assert!(rt; sink.bytes() == text.as_slice());
+    holds(&rt, sink.bytes() == text.as_slice());
     Ok(())
 }
 
@@ -95,8 +96,11 @@ fn a_sink_fails_at_its_calls(rt: HostRuntime) -> Result<(), Fail> {
     // The third write fails; the room is full after the second.
     for (room, failing, written) in [(1_048_576, 3, 32), (20, 9, 20)] {
         let mut sink = MemSink::new(alloc, room, 16, [failing].to_vec(alloc)?)?;
-        assert!(rt; write_whole(&mut sink, &text) == Err(Failed));
-        assert!(rt; sink.bytes() == text.as_slice().get(..written).ok_or("short")?);
+        holds(&rt, write_whole(&mut sink, &text) == Err(Failed));
+        holds(
+            &rt,
+            sink.bytes() == text.as_slice().get(..written).ok_or("short")?,
+        );
     }
     Ok(())
 }
@@ -107,10 +111,10 @@ fn an_input_that_never_fails(rt: HostRuntime) -> Result<(), Fail> {
     let mut input = SafeInput::new(bytes.clone()?);
     input.open("any path")?;
     let mut buf = [9; 4];
-    assert_eq!(rt; input.read(&mut buf)?, 4);
-    assert_eq!(rt; buf, [0, 1, 2, 3]);
+    same(&rt, &input.read(&mut buf)?, &4);
+    same(&rt, &buf, &[0, 1, 2, 3]);
     let rest = read_safely(rt.alloc(), &mut input, 70_000)?;
-    assert!(rt; rest.as_slice() == bytes.get(4..).ok_or("short")?);
+    holds(&rt, rest.as_slice() == bytes.get(4..).ok_or("short")?);
     Ok(())
 }
 
@@ -127,9 +131,9 @@ fn read_safely(alloc: Global, input: &mut SafeInput, limit: usize) -> Result<Vec
 #[test]
 fn a_sink_that_counts(rt: HostRuntime) -> Result<(), Fail> {
     let mut sink = CountSink::new();
-    assert_eq!(rt; sink.write(b"four")?, 4);
+    same(&rt, &sink.write(b"four")?, &4);
     write_safely(&mut sink, &sample(&rt, 70_000)?)?;
-    assert_eq!(rt; sink.count(), 70_004);
+    same(&rt, &sink.count(), &70_004);
     Ok(())
 }
 
@@ -145,15 +149,15 @@ fn write_safely(sink: &mut CountSink, bytes: &[u8]) -> Result<(), Failed>
 fn writes_until_there_is_no_room(rt: HostRuntime) -> Result<(), Fail> {
     let mut list = Vec::new(rt.alloc());
     let mut sink = StdSink::new(&mut list);
-    assert_eq!(rt; sink.write(b"four")?, 4);
-    assert_eq!(rt; list.as_slice(), b"four".as_slice());
+    same(&rt, &sink.write(b"four")?, &4);
+    same(&rt, &list.as_slice(), &b"four".as_slice());
 
     // A slice takes no more bytes once it is full.
     let mut room = [0; 3];
     let mut sink = StdSink::new(room.as_mut_slice());
-    assert_eq!(rt; sink.write(b"four")?, 3);
-    assert!(rt; sink.write(b"r") == Err(Failed));
-    assert_eq!(rt; room, *b"fou");
+    same(&rt, &sink.write(b"four")?, &3);
+    holds(&rt, sink.write(b"r") == Err(Failed));
+    same(&rt, &room, &*b"fou");
     Ok(())
 }
 
@@ -161,7 +165,7 @@ fn writes_until_there_is_no_room(rt: HostRuntime) -> Result<(), Fail> {
 fn a_missing_file_is_not_opened(rt: HostRuntime) {
     let mut missing = FileInput::new(&rt);
     assert!(rt; missing.open("/no/such/file") == Err(Failed));
-    assert!(rt; missing.open("") == Err(Failed));
+    holds(&rt, missing.open("") == Err(Failed));
 }
 
 #[test]
@@ -182,8 +186,8 @@ fn expect_four<I: Input>(rt: &impl Abort, input: &mut I) -> Result<(), Fail>
     requires { IsOpened (I.opened input.old) }
 {
     let mut buf = [0; 8];
-    assert_eq!(rt; input.read(&mut buf)?, 4);
-    assert_eq!(rt; buf, *b"four\0\0\0\0");
-    assert_eq!(rt; input.read(&mut buf)?, 0);
+    same(rt, &input.read(&mut buf)?, &4);
+    same(rt, &buf, &*b"four\0\0\0\0");
+    same(rt, &input.read(&mut buf)?, &0);
     Ok(())
 }

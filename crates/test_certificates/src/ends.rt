@@ -10,6 +10,7 @@ use cfg_model::{Chains, Flow, Memory};
 use reached_terms::Numbered;
 use std::alloc::Global;
 use std::process::Abort;
+use test_asserts::holds;
 use test_programs::{Sample, row_8, row_10, table_jump};
 
 /// What the three deciders say of a part.
@@ -117,7 +118,7 @@ fn expect(
 ) -> Result<(), Memory> {
     let part = part_of(rt.alloc(), leads, returns)?;
     let said = asked(rt.alloc(), code, &part)?;
-    assert!(rt; said == Some(wanted));
+    holds(rt, said == Some(wanted));
     Ok(())
 }
 

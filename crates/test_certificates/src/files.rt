@@ -10,6 +10,7 @@ use elf_symbols::seeds;
 use std::alloc::Global;
 use std::process::Abort;
 use std::test::Fail;
+use test_asserts::same;
 
 const ROW_1: &[u8] = b"cfg-cert 1
 part none
@@ -140,23 +141,23 @@ fn canonical_text(alloc: Global, row: u32) -> Result<Vec<u8>, Fail>
 
 #[test]
 fn canonical_certificates_of_rows(rt: HostRuntime) -> Result<(), Fail> {
-    assert_eq!(rt; canonical_text(rt.alloc(), 1)?.as_slice(), ROW_1);
-    assert_eq!(rt; canonical_text(rt.alloc(), 8)?.as_slice(), ROW_8);
-    assert_eq!(rt; canonical_text(rt.alloc(), 15)?.as_slice(), ROW_15);
+    same(&rt, &canonical_text(rt.alloc(), 1)?.as_slice(), &ROW_1);
+    same(&rt, &canonical_text(rt.alloc(), 8)?.as_slice(), &ROW_8);
+    same(&rt, &canonical_text(rt.alloc(), 15)?.as_slice(), &ROW_15);
     Ok(())
 }
 
 #[test]
 fn canonical_certificates_of_calls(rt: HostRuntime) -> Result<(), Fail> {
-    assert_eq!(rt; canonical_text(rt.alloc(), 9)?.as_slice(), ROW_9);
-    assert_eq!(rt; canonical_text(rt.alloc(), 10)?.as_slice(), ROW_10);
-    assert_eq!(rt; canonical_text(rt.alloc(), 30)?.as_slice(), ROW_30);
+    same(&rt, &canonical_text(rt.alloc(), 9)?.as_slice(), &ROW_9);
+    same(&rt, &canonical_text(rt.alloc(), 10)?.as_slice(), &ROW_10);
+    same(&rt, &canonical_text(rt.alloc(), 30)?.as_slice(), &ROW_30);
     Ok(())
 }
 
 #[test]
 fn canonical_certificates_of_loops(rt: HostRuntime) -> Result<(), Fail> {
-    assert_eq!(rt; canonical_text(rt.alloc(), 6)?.as_slice(), ROW_6);
-    assert_eq!(rt; canonical_text(rt.alloc(), 17)?.as_slice(), ROW_17);
+    same(&rt, &canonical_text(rt.alloc(), 6)?.as_slice(), &ROW_6);
+    same(&rt, &canonical_text(rt.alloc(), 17)?.as_slice(), &ROW_17);
     Ok(())
 }

@@ -6,6 +6,7 @@ use cert_text::parse;
 use std::alloc::Global;
 use std::process::Abort;
 use std::test::Fail;
+use test_asserts::holds;
 use test_programs::{row_8, table_jump};
 
 /// Two streams that join before a branch.
@@ -74,9 +75,9 @@ fn is_valid(alloc: Global, code: &ByAddress, text: &[u8]) -> Result<bool, Fail> 
 #[test]
 fn branch_target_missed(rt: HostRuntime) -> Result<(), Fail> {
     let code = by_address(&rt, row_8(rt.alloc()));
-    assert!(rt; is_valid(rt.alloc(), &code, JOINING)?);
+    holds(&rt, is_valid(rt.alloc(), &code, JOINING)?);
     for text in NO_BRANCH_TARGET {
-        assert!(rt; !is_valid(rt.alloc(), &code, text)?);
+        holds(&rt, !is_valid(rt.alloc(), &code, text)?);
     }
     Ok(())
 }
@@ -85,7 +86,7 @@ fn branch_target_missed(rt: HostRuntime) -> Result<(), Fail> {
 #[test]
 fn table_target_missed(rt: HostRuntime) -> Result<(), Fail> {
     let code = by_address(&rt, table_jump(rt.alloc()));
-    assert!(rt; is_valid(rt.alloc(), &code, TABLE)?);
-    assert!(rt; !is_valid(rt.alloc(), &code, NO_TABLE_TARGET)?);
+    holds(&rt, is_valid(rt.alloc(), &code, TABLE)?);
+    holds(&rt, !is_valid(rt.alloc(), &code, NO_TABLE_TARGET)?);
     Ok(())
 }

@@ -13,6 +13,7 @@ use elf_image::Image;
 use std::alloc::Global;
 use std::process::Abort;
 use std::test::Fail;
+use test_asserts::holds;
 
 /// Where the code of a row's file begins, its one seed.
 const CODE: u64 = 0x10000;
@@ -253,10 +254,10 @@ fn is_valid(alloc: Global, row: u32, text: &[u8]) -> Result<bool, Fail>
 #[test]
 fn certificates_of_row_1(rt: HostRuntime) -> Result<(), Fail> {
     for text in VALID_1 {
-        assert!(rt; is_valid(rt.alloc(), 1, text)?);
+        holds(&rt, is_valid(rt.alloc(), 1, text)?);
     }
     for text in SPOILT_1 {
-        assert!(rt; !is_valid(rt.alloc(), 1, text)?);
+        holds(&rt, !is_valid(rt.alloc(), 1, text)?);
     }
     Ok(())
 }
@@ -264,10 +265,10 @@ fn certificates_of_row_1(rt: HostRuntime) -> Result<(), Fail> {
 #[test]
 fn certificates_of_row_8(rt: HostRuntime) -> Result<(), Fail> {
     for text in VALID_8 {
-        assert!(rt; is_valid(rt.alloc(), 8, text)?);
+        holds(&rt, is_valid(rt.alloc(), 8, text)?);
     }
     for text in SPOILT_8 {
-        assert!(rt; !is_valid(rt.alloc(), 8, text)?);
+        holds(&rt, !is_valid(rt.alloc(), 8, text)?);
     }
     Ok(())
 }
@@ -351,8 +352,8 @@ fn is_graph_of_row_8(graph: &Graph) -> bool {
 fn graph_of_row_8(rt: HostRuntime) -> Result<(), Fail> {
     for text in VALID_8 {
         let graph = graph_by(rt.alloc(), 8, text)?;
-        assert!(rt; graph.is_some_and(|graph| is_graph_of_row_8(&graph)));
+        holds(&rt, graph.is_some_and(|graph| is_graph_of_row_8(&graph)));
     }
-    assert!(rt; graph_by(rt.alloc(), 8, SPOILT_8[0])?.is_none());
+    holds(&rt, graph_by(rt.alloc(), 8, SPOILT_8[0])?.is_none());
     Ok(())
 }

@@ -5,6 +5,7 @@ use cert_text::{
     parse, print,
 };
 use std::alloc::Global;
+use test_asserts::holds;
 
 /// One line of every form, and a second part.
 const EVERY_FORM: &[u8] = b"cfg-cert 1
@@ -57,7 +58,7 @@ fn texts_are_read_and_printed_again(rt: HostRuntime) -> Result<(), TextError> {
     for text in [EVERY_FORM, NO_LINES] {
         let certificate = parse(rt.alloc(), text)?;
         let printed = print(rt.alloc(), &certificate).map_err(|_| TextError::Memory)?;
-        assert!(rt; printed.as_slice() == text);
+        holds(&rt, printed.as_slice() == text);
     }
     Ok(())
 }
@@ -65,6 +66,9 @@ fn texts_are_read_and_printed_again(rt: HostRuntime) -> Result<(), TextError> {
 #[test]
 fn no_texts_are_refused(rt: HostRuntime) {
     for text in NO_TEXTS {
-        assert!(rt; matches!(parse(rt.alloc(), text), Err(TextError::NoText)));
+        holds(
+            &rt,
+            matches!(parse(rt.alloc(), text), Err(TextError::NoText)),
+        );
     }
 }

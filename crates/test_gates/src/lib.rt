@@ -205,3 +205,54 @@ impl Gate for Counts {
         }
     }
 }
+
+/// How often a worker looks whether another is about to work too.
+const LOOKS: u32 = 10_000;
+
+/// Lets workers begin their operations together, so that they come to the same shards, and counts
+/// the names that they put into deques and the tries that they lost.
+///
+/// Of a program for which no worker keeps many names, those put are the ones put off.
+#[derive(Drop)]
+pub struct Crowd {
+    here: AtomicU64,
+    put: AtomicU64,
+    lost: AtomicU64,
+}
+
+impl Crowd {
+    /// A gate that nobody has called.
+    pub fn new() -> Self {
+        Crowd {
+            here: AtomicU64::new(0),
+            put: AtomicU64::new(0),
+            lost: AtomicU64::new(0),
+        }
+    }
+
+    /// Names that workers put into deques.
+    pub fn put(&self) -> u64 {
+        self.put.load(Ordering::SeqCst)
+    }
+
+    /// Tries that they lost.
+    pub fn lost(&self) -> u64 {
+        self.lost.load(Ordering::SeqCst)
+    }
+}
+
+impl Gate for Crowd {
+    fn before(&self, _worker: u32, _kind: WorkKind, _key: u64) {
+        let mine = self.here.fetch_add(1, Ordering::SeqCst);
+        for _ in 0..LOOKS {
+            if self.here.load(Ordering::SeqCst) != mine.wrapping_add(1) {
+                break;
+            }
+        }
+    }
+
+    fn ended(&self, _worker: u32, tally: &Tally) {
+        self.put.fetch_add(tally.put, Ordering::SeqCst);
+        self.lost.fetch_add(tally.lost, Ordering::SeqCst);
+    }
+}

@@ -6,6 +6,7 @@ ghost use Rattle.std.specs.Prelude.{◌≡◌};
 use address_map::{AddressMap, Look, lesser};
 use std::process::Abort;
 use std::test::Fail;
+use test_asserts::same;
 
 /// How many addresses there are; every second one is added.
 const COUNT: u16 = 2048;
@@ -35,8 +36,8 @@ fn add_half(rt: &impl Abort, map: &mut AddressMap<u16>, spread: Spread) -> Resul
     for place in 0..COUNT {
         let number = (u32::from(place) * 389 % u32::from(COUNT)) as u16;
         if value(number).is_some() {
-            assert_eq!(rt; map.add(spread.address(number), number)?, true);
-            assert_eq!(rt; map.add(spread.address(number), 1)?, false);
+            same(rt, &map.add(spread.address(number), number)?, &true);
+            same(rt, &map.add(spread.address(number), 1)?, &false);
         }
     }
     Ok(())
@@ -45,7 +46,11 @@ fn add_half(rt: &impl Abort, map: &mut AddressMap<u16>, spread: Spread) -> Resul
 /// Each second address is found.
 fn find_half(rt: &impl Abort, map: &AddressMap<u16>, spread: Spread) {
     for number in 0..COUNT {
-        assert_eq!(rt; map.get(spread.address(number)).copied(), value(number));
+        same(
+            rt,
+            &map.get(spread.address(number)).copied(),
+            &value(number),
+        );
     }
 }
 
@@ -54,15 +59,15 @@ fn walk_half(rt: &impl Abort, map: &AddressMap<u16>, spread: Spread) {
     for number in 0..COUNT - 2 {
         let a = spread.address(number);
         let next = spread.address(number + 2 - number % 2);
-        assert_eq!(rt; map.after(Some(a)), Some(next));
+        same(rt, &map.after(Some(a)), &Some(next));
         let in_page = if next / 4096 == a / 4096 {
             Some(next)
         } else {
             None
         };
-        assert_eq!(rt; map.after_in_page(a), in_page);
+        same(rt, &map.after_in_page(a), &in_page);
     }
-    assert_eq!(rt; map.after(Some(spread.address(COUNT - 2))), None);
+    same(rt, &map.after(Some(spread.address(COUNT - 2))), &None);
 }
 
 /// The look for the address of a value.
@@ -82,13 +87,13 @@ impl Look<u16, u64> for LookForValue {
 /// The value of one address is written, and found there alone.
 fn write_one(rt: &impl Abort, map: &mut AddressMap<u16>, spread: Spread) {
     let k = spread.address(6);
-    assert_eq!(rt; map.find_by(&LookForValue(7)), None);
+    same(rt, &map.find_by(&LookForValue(7)), &None);
     if map.get(k).is_some() {
         *map.value_mut(k) = 7;
     }
-    assert_eq!(rt; map.get(k).copied(), Some(7));
-    assert_eq!(rt; map.find_by(&LookForValue(7)), Some(k));
-    assert_eq!(rt; map.find_by(&LookForValue(6)), None);
+    same(rt, &map.get(k).copied(), &Some(7));
+    same(rt, &map.find_by(&LookForValue(7)), &Some(k));
+    same(rt, &map.find_by(&LookForValue(6)), &None);
 }
 
 /// In one page, in several pages of one chunk, and in several chunks.
@@ -114,13 +119,13 @@ fn far_ones_are_found(rt: HostRuntime) -> Result<(), Fail> {
             apart,
         };
         let mut map = AddressMap::new(rt.alloc());
-        assert_eq!(rt; map.add(0x10000, 1)?, true);
+        same(&rt, &map.add(0x10000, 1)?, &true);
         add_half(&rt, &mut map, spread)?;
         find_half(&rt, &map, spread);
         walk_half(&rt, &map, spread);
         write_one(&rt, &mut map, spread);
-        assert_eq!(rt; map.after(None), Some(0x10000));
-        assert_eq!(rt; map.after(Some(0x10000)), Some(spread.address(0)));
+        same(&rt, &map.after(None), &Some(0x10000));
+        same(&rt, &map.after(Some(0x10000)), &Some(spread.address(0)));
     }
     Ok(())
 }
@@ -128,7 +133,7 @@ fn far_ones_are_found(rt: HostRuntime) -> Result<(), Fail> {
 /// The lesser of two addresses; each may be none.
 #[test]
 fn the_lesser_is_found(rt: HostRuntime) {
-    assert_eq!(rt; lesser(Some(0x10008), Some(0x10004)), Some(0x10004));
-    assert_eq!(rt; lesser(None, Some(0x10004)), Some(0x10004));
-    assert_eq!(rt; lesser(Some(0x10008), None), Some(0x10008));
+    same(&rt, &lesser(Some(0x10008), Some(0x10004)), &Some(0x10004));
+    same(&rt, &lesser(None, Some(0x10004)), &Some(0x10004));
+    same(&rt, &lesser(Some(0x10008), None), &Some(0x10008));
 }

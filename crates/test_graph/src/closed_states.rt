@@ -4,6 +4,7 @@ use alone::build_alone;
 use core_state::State;
 use std::process::Abort;
 use std::test::Fail;
+use test_asserts::holds;
 use test_programs::{row_6, row_8, row_9, row_10, table_jump};
 use work_ops::finish;
 
@@ -12,11 +13,11 @@ fn expect_starts(rt: &impl Abort, state: &State, starts: &[u64]) {
     let mut at = None;
     for start in starts {
         let next = state.start_after(at);
-        assert!(rt; next == Some(*start));
+        holds(rt, next == Some(*start));
         at = Some(*start);
     }
     let next = state.start_after(at);
-    assert!(rt; next.is_none());
+    holds(rt, next.is_none());
 }
 
 /// The ends of a state, each with the start that is near there.
@@ -24,13 +25,13 @@ fn expect_ends(rt: &impl Abort, state: &State, ends: &[(u64, u64)]) {
     let mut at = None;
     for (end, start) in ends {
         let next = state.end_after(at);
-        assert!(rt; next == Some(*end));
+        holds(rt, next == Some(*end));
         let near = state.near(*end);
-        assert!(rt; near == Some(*start));
+        holds(rt, near == Some(*start));
         at = Some(*end);
     }
     let next = state.end_after(at);
-    assert!(rt; next.is_none());
+    holds(rt, next.is_none());
 }
 
 /// The terminators of a state, each with whether it returns.
@@ -38,13 +39,13 @@ fn expect_terminators(rt: &impl Abort, state: &State, terminators: &[(u64, bool)
     let mut at = None;
     for (terminator, returns) in terminators {
         let next = state.term_after(at);
-        assert!(rt; next == Some(*terminator));
+        holds(rt, next == Some(*terminator));
         let returned = state.has_returned(*terminator);
-        assert!(rt; returned == Some(*returns));
+        holds(rt, returned == Some(*returns));
         at = Some(*terminator);
     }
     let next = state.term_after(at);
-    assert!(rt; next.is_none());
+    holds(rt, next.is_none());
 }
 
 /// Row 6: a branch back into its own block.
@@ -113,7 +114,7 @@ fn finished_again(rt: HostRuntime) -> Result<(), Fail> {
     let mut state = build_alone(rt.alloc(), &code, code.seeds())?;
     let changes = state.changes();
     finish(rt.alloc(), &code, code.seeds(), &mut state)?;
-    assert!(rt; state.changes() == changes);
+    holds(&rt, state.changes() == changes);
     expect_starts(&rt, &state, &[0, 2, 4, 8]);
     expect_ends(&rt, &state, &[(0, 0), (2, 2), (4, 4), (8, 8)]);
     Ok(())

@@ -14,6 +14,7 @@ use rv_flow::{RawFlow, flow_of, insn_at};
 use std::alloc::Global;
 use std::process::Abort;
 use std::test::Fail;
+use test_asserts::{holds, holds_at, same};
 
 // Where the code of a row's file begins.
 const CODE: u64 = 0x10000;
@@ -83,7 +84,7 @@ fn agree(alloc: Global, row: u32) -> Result<bool, Fail>
 #[test]
 fn chains_end_where_walks_do(rt: HostRuntime) -> Result<(), Fail> {
     for row in 6..18 {
-        assert!(rt; agree(rt.alloc(), row)?, "row {row}");
+        holds_at(&rt, &row, agree(rt.alloc(), row)?);
     }
     Ok(())
 }
@@ -91,11 +92,11 @@ fn chains_end_where_walks_do(rt: HostRuntime) -> Result<(), Fail> {
 // The targets of the table of row 13; its first instruction has none.
 fn expect_targets(rt: &impl Abort, code: &Code) -> Result<(), Fail> {
     assert!(rt; code.has(CODE) && code.has(JUMP));
-    assert!(rt; code.targets(CODE)?.is_empty());
+    holds(rt, code.targets(CODE)?.is_empty());
     let targets = code.targets(JUMP)?;
     assert!(rt; targets.as_slice() == TARGETS.as_slice());
     for i in 0..8 {
-        assert!(rt; code.target(JUMP, i) == targets[i as usize]);
+        same(rt, &code.target(JUMP, i), &targets[i as usize]);
     }
     Ok(())
 }
@@ -128,10 +129,10 @@ fn found_in_parts(alloc: Global, code: &Code, workers: u32) -> Result<Vec<u64>, 
 // The register jumps of row 15, found in one go and in parts.
 fn expect_register_jumps(rt: &(impl Abort + AllocGlobal), code: &Code) -> Result<(), Fail> {
     let jumps = code.register_jumps(rt.alloc())?;
-    assert!(rt; jumps.as_slice() == JUMPS.as_slice());
+    holds(rt, jumps.as_slice() == JUMPS.as_slice());
     for workers in [1, 2, 4, 64] {
         let found = found_in_parts(rt.alloc(), code, workers)?;
-        assert!(rt; found.as_slice() == JUMPS.as_slice(), "{workers} workers");
+        holds_at(rt, &workers, found.as_slice() == JUMPS.as_slice());
     }
     Ok(())
 }

@@ -2,6 +2,7 @@
 
 use cfg_model::{Chains, Flow, before, meet, on_chain, term};
 use std::test::Fail;
+use test_asserts::{holds, same, same_at};
 use test_programs::{Sample, cut_table, row_6, row_8, row_9, row_10, row_12, row_17, table_jump};
 
 /// Where instructions stand in each of the programs, and which of them are seeds.
@@ -18,9 +19,9 @@ fn instructions(rt: HostRuntime) {
         (cut_table(rt.alloc()), &[0, 2, 4], &[0]),
     ];
     for (code, addresses, seeds) in &programs {
-        assert_eq!(rt; code.seeds(), *seeds);
+        same(&rt, &code.seeds(), seeds);
         for a in 0..24 {
-            assert_eq!(rt; code.has(a), addresses.contains(&a), "at {a}");
+            same_at(&rt, &a, &code.has(a), &addresses.contains(&a));
         }
     }
 }
@@ -39,14 +40,14 @@ fn one_instruction(rt: HostRuntime) -> Result<(), Fail> {
         targets: &[2, 0],
         seeds: &[0],
     };
-    assert_eq!(rt; code.flow(0), table);
-    assert_eq!(rt; code.length(2), 4);
+    same(&rt, &code.flow(0), &table);
+    same(&rt, &code.length(2), &4);
     let targets = code.targets(0)?;
     assert_eq!(rt; targets.as_slice(), [2, 0].as_slice());
     for i in 0..2 {
         assert_eq!(rt; code.target(0, i), targets[i as usize]);
     }
-    assert!(rt; code.targets(2)?.is_empty());
+    holds(&rt, code.targets(2)?.is_empty());
     Ok(())
 }
 
@@ -57,8 +58,8 @@ fn places_on_chains(rt: HostRuntime) {
     assert!(rt; code.has(0) && code.has(2) && code.has(4));
     assert!(rt; on_chain(&code, 0, 4));
     assert!(rt; on_chain(&code, 2, 4));
-    assert!(rt; !on_chain(&code, 4, 2));
-    assert_eq!(rt; term(&code, 0), 4);
-    assert_eq!(rt; before(&code, 2, 4), 2);
-    assert_eq!(rt; meet(&code, 0, 2, 4), 4);
+    holds(&rt, !on_chain(&code, 4, 2));
+    same(&rt, &term(&code, 0), &4);
+    same(&rt, &before(&code, 2, 4), &2);
+    same(&rt, &meet(&code, 0, 2, 4), &4);
 }

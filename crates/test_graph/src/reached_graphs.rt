@@ -11,6 +11,7 @@ use reached_graph::{graph_of, leaders_of};
 use reached_terms::ReachedTerms;
 use std::alloc::Global;
 use std::test::Fail;
+use test_asserts::{holds_at, same};
 use test_yardstick::plain_graph;
 
 // Where the code of a row's file begins, and the program starts.
@@ -62,7 +63,7 @@ fn blocks_agreed(alloc: Global, row: u32) -> Result<Option<usize>, Fail>
 fn rows_agree(rt: HostRuntime) -> Result<(), Fail> {
     for row in 6..18 {
         let blocks = blocks_agreed(rt.alloc(), row)?;
-        assert!(rt; matches!(blocks, Some(n) if n > 0), "row {row}");
+        holds_at(&rt, &row, matches!(blocks, Some(n) if n > 0));
     }
     Ok(())
 }
@@ -70,7 +71,7 @@ fn rows_agree(rt: HostRuntime) -> Result<(), Fail> {
 // Two streams that join at the fifth byte, as row 8 has them.
 #[test]
 fn streams_join(rt: HostRuntime) -> Result<(), Fail> {
-    assert_eq!(rt; blocks_agreed(rt.alloc(), 8)?, Some(4));
+    same(&rt, &blocks_agreed(rt.alloc(), 8)?, &Some(4));
     Ok(())
 }
 
@@ -93,7 +94,7 @@ fn row_8_lists(alloc: Global) -> Result<(Vec<u64>, Vec<u64>), Fail> {
 fn joins_lead(rt: HostRuntime) -> Result<(), Fail> {
     let (leaders, returning) = row_8_lists(rt.alloc())?;
     let starts = [CODE, CODE + 2, CODE + 4, CODE + 8];
-    assert_eq!(rt; leaders.as_slice(), starts.as_slice());
-    assert_eq!(rt; returning.as_slice(), [CODE + 4, CODE + 8].as_slice());
+    same(&rt, &leaders.as_slice(), &starts.as_slice());
+    same(&rt, &returning.as_slice(), &[CODE + 4, CODE + 8].as_slice());
     Ok(())
 }

@@ -6,23 +6,24 @@ use core_state::{Arrival, Ends, Name, Starts, State, Terms, WorkKind};
 use std::marker::Send;
 use std::process::Abort;
 use std::test::Fail;
+use test_asserts::{holds, same};
 
 /// Wants two starts, one of them twice.
 fn want_starts(rt: &impl Abort, state: &mut State) -> Result<(), Fail> {
-    assert_eq!(rt; state.want(0x10000)?, true);
-    assert_eq!(rt; state.want(0x10000)?, false);
-    assert_eq!(rt; state.want(0x10002)?, true);
-    assert_eq!(rt; state.start(0x10002), Some(Mark::Wanted));
-    assert_eq!(rt; state.start(0x10004), None);
+    same(rt, &state.want(0x10000)?, &true);
+    same(rt, &state.want(0x10000)?, &false);
+    same(rt, &state.want(0x10002)?, &true);
+    same(rt, &state.start(0x10002), &Some(Mark::Wanted));
+    same(rt, &state.start(0x10004), &None);
     Ok(())
 }
 
 /// The first start arrives at the end, twice.
 fn arrive_first(rt: &impl Abort, code: &Program, state: &mut State) -> Result<(), Fail> {
     assert_no_end(rt, state, 0x10004);
-    assert_eq!(rt; state.arrive(code, 0x10004, 0x10000)?, Arrival::First);
+    same(rt, &state.arrive(code, 0x10004, 0x10000)?, &Arrival::First);
     assert_near(rt, state, 0x10004, 0x10000);
-    assert_eq!(rt; state.arrive(code, 0x10004, 0x10000)?, Arrival::Same);
+    same(rt, &state.arrive(code, 0x10004, 0x10000)?, &Arrival::Same);
     Ok(())
 }
 
@@ -34,20 +35,20 @@ fn arrive_second(rt: &impl Abort, code: &Program, state: &mut State) -> Result<(
         first: 0x10000,
         second: Some(0x10002),
     };
-    assert_eq!(rt; state.arrive(code, 0x10004, 0x10002)?, split);
+    same(rt, &state.arrive(code, 0x10004, 0x10002)?, &split);
     Ok(())
 }
 
 /// The first start moves to an earlier end.
 fn move_first(rt: &impl Abort, code: &Program, state: &mut State) -> Result<(), Fail> {
-    assert_eq!(rt; state.want(0x10004)?, true);
+    same(rt, &state.want(0x10004)?, &true);
     assert_no_end(rt, state, 0x10000);
-    assert_eq!(rt; state.arrive(code, 0x10000, 0x10000)?, Arrival::First);
-    assert_eq!(rt; state.moved(0x10004), Some(0x10000));
+    same(rt, &state.arrive(code, 0x10000, 0x10000)?, &Arrival::First);
+    same(rt, &state.moved(0x10004), &Some(0x10000));
     assert_near(rt, state, 0x10004, 0x10004);
     state.settle(0x10004, 0x10000);
-    assert_eq!(rt; state.moved(0x10004), Some(0x10002));
-    assert_eq!(rt; state.moved(0x10000), None);
+    same(rt, &state.moved(0x10004), &Some(0x10002));
+    same(rt, &state.moved(0x10000), &None);
     Ok(())
 }
 
@@ -57,16 +58,16 @@ fn wait_for_return(rt: &impl Abort, state: &mut State) -> Result<(), Fail> {
         terminator: 0x10004,
         kind: WaitKind::Follow,
     };
-    assert_eq!(rt; state.term(0x10004)?, true);
-    assert_eq!(rt; state.term(0x10004)?, false);
-    assert_eq!(rt; state.want(0x10008)?, true);
-    assert_eq!(rt; state.term(0x10008)?, true);
-    assert_eq!(rt; state.done(0x10008), Some(false));
+    same(rt, &state.term(0x10004)?, &true);
+    same(rt, &state.term(0x10004)?, &false);
+    same(rt, &state.want(0x10008)?, &true);
+    same(rt, &state.term(0x10008)?, &true);
+    same(rt, &state.done(0x10008), &Some(false));
     assert_entered(rt, state, 0x10008);
-    assert_eq!(rt; state.wait(0x10008, follower)?, true);
-    assert_eq!(rt; state.has_returned(0x10008), Some(false));
+    same(rt, &state.wait(0x10008, follower)?, &true);
+    same(rt, &state.has_returned(0x10008), &Some(false));
     assert_entered(rt, state, 0x10008);
-    assert_eq!(rt; state.wait(0x10008, follower)?, false);
+    same(rt, &state.wait(0x10008, follower)?, &false);
     Ok(())
 }
 
@@ -80,23 +81,23 @@ fn tell_of_return(rt: &impl Abort, state: &mut State) -> Result<(), Fail> {
         terminator: 0x10004,
         kind: WaitKind::Release,
     };
-    assert_eq!(rt; state.untold(0x10008), None);
-    assert_eq!(rt; state.has_returned(0x10008), Some(false));
+    same(rt, &state.untold(0x10008), &None);
+    same(rt, &state.has_returned(0x10008), &Some(false));
     assert_entered(rt, state, 0x10008);
-    assert_eq!(rt; state.returned(0x10008), true);
-    assert_eq!(rt; state.has_returned(0x10008), Some(true));
+    same(rt, &state.returned(0x10008), &true);
+    same(rt, &state.has_returned(0x10008), &Some(true));
     assert_entered(rt, state, 0x10008);
-    assert_eq!(rt; state.place_waiter(0x10008, late)?, true);
+    same(rt, &state.place_waiter(0x10008, late)?, &true);
     let Some(waiter) = state.untold(0x10008) else {
         return Err(Fail::from("nobody waits"));
     };
-    assert_eq!(rt; waiter, follower);
+    same(rt, &waiter, &follower);
     state.told(0x10008, waiter);
-    assert_eq!(rt; state.has_returned(0x10008), Some(true));
+    same(rt, &state.has_returned(0x10008), &Some(true));
     assert_entered(rt, state, 0x10008);
-    assert_eq!(rt; state.mark_told(0x10008, late), false);
-    assert_eq!(rt; state.untold(0x10008), None);
-    assert_eq!(rt; state.has_returned(0x10008), Some(true));
+    same(rt, &state.mark_told(0x10008, late), &false);
+    same(rt, &state.untold(0x10008), &None);
+    same(rt, &state.has_returned(0x10008), &Some(true));
     Ok(())
 }
 
@@ -104,10 +105,10 @@ fn tell_of_return(rt: &impl Abort, state: &mut State) -> Result<(), Fail> {
 fn finish_first(rt: &impl Abort, state: &mut State) -> Result<(), Fail> {
     assert_start(rt, state, 0x10000);
     state.parsed(0x10000);
-    assert_eq!(rt; state.start(0x10000), Some(Mark::Parsed));
+    same(rt, &state.start(0x10000), &Some(Mark::Parsed));
     assert_entered(rt, state, 0x10004);
     state.edges_done(0x10004);
-    assert_eq!(rt; state.done(0x10004), Some(true));
+    same(rt, &state.done(0x10004), &Some(true));
     Ok(())
 }
 
@@ -117,15 +118,15 @@ fn find_left(rt: &impl Abort, code: &Program, empty: &State, state: &State) {
         kind: WorkKind::Want,
         key: 0x10000,
     };
-    assert_eq!(rt; empty.left(code, &[]), None);
-    assert_eq!(rt; empty.left(code, &[0x10000]), Some(seed));
-    assert!(rt; state.left(code, &[0x10000]).is_some());
+    same(rt, &empty.left(code, &[]), &None);
+    same(rt, &empty.left(code, &[0x10000]), &Some(seed));
+    holds(rt, state.left(code, &[0x10000]).is_some());
 }
 
 /// Each change counts, whether it adds something or not.
 fn count_changes(rt: &impl Abort, empty: &State, state: &State) {
-    assert_eq!(rt; empty.changes(), 0);
-    assert_eq!(rt; state.changes(), 22);
+    same(rt, &empty.changes(), &0);
+    same(rt, &state.changes(), &22);
 }
 
 /// A value that another thread may take.
@@ -140,24 +141,26 @@ fn shards_cross_threads(rt: HostRuntime) {
 
 /// The keys in their order, near ones and one that is far from all others.
 fn walk_keys(rt: &impl Abort, state: &mut State) -> Result<(), Fail> {
-    assert_eq!(rt; state.want(0x7fff_ffff_ffff_ffff)?, true);
-    assert_eq!(rt; state.start_after(None), Some(0x10000));
-    assert_eq!(rt; state.start_after(Some(0x10002)), Some(0x10004));
-    assert_eq!(rt;
-        state.start_after(Some(0x10008)),
-        Some(0x7fff_ffff_ffff_ffff)
+    same(rt, &state.want(0x7fff_ffff_ffff_ffff)?, &true);
+    same(rt, &state.start_after(None), &Some(0x10000));
+    same(rt, &state.start_after(Some(0x10002)), &Some(0x10004));
+    same(
+        rt,
+        &state.start_after(Some(0x10008)),
+        &Some(0x7fff_ffff_ffff_ffff),
     );
-    assert_eq!(rt; state.start_after(Some(0x7fff_ffff_ffff_ffff)), None);
-    assert_eq!(rt; state.start_behind(0x10000), Some(0x10002));
-    assert_eq!(rt;
-        state.start_behind(0x7fff_ffff_ffff_fffe),
-        Some(0x7fff_ffff_ffff_ffff)
+    same(rt, &state.start_after(Some(0x7fff_ffff_ffff_ffff)), &None);
+    same(rt, &state.start_behind(0x10000), &Some(0x10002));
+    same(
+        rt,
+        &state.start_behind(0x7fff_ffff_ffff_fffe),
+        &Some(0x7fff_ffff_ffff_ffff),
     );
-    assert_eq!(rt; state.start_behind(0x7fff_ffff_ffff_ffbf), None);
-    assert_eq!(rt; state.end_after(Some(0x10000)), Some(0x10004));
-    assert_eq!(rt; state.end_after(Some(0x10004)), None);
-    assert_eq!(rt; state.term_after(None), Some(0x10004));
-    assert_eq!(rt; state.term_after(Some(u64::MAX)), None);
+    same(rt, &state.start_behind(0x7fff_ffff_ffff_ffbf), &None);
+    same(rt, &state.end_after(Some(0x10000)), &Some(0x10004));
+    same(rt, &state.end_after(Some(0x10004)), &None);
+    same(rt, &state.term_after(None), &Some(0x10004));
+    same(rt, &state.term_after(Some(u64::MAX)), &None);
     Ok(())
 }
 

@@ -8,6 +8,7 @@ use core_state::Terms;
 use std::alloc::Global;
 use std::process::Abort;
 use std::test::Fail;
+use test_asserts::same;
 
 /// The terminator at which all of them wait.
 const CALLEE: u64 = 0x10000;
@@ -35,14 +36,14 @@ fn assert_entered(rt: &impl Abort, terms: &Terms, k: u64)
 /// A shard with the terminator alone.
 fn entered(rt: &impl Abort, alloc: Global) -> Result<Terms, Fail> {
     let mut terms = Terms::empty(alloc);
-    assert_eq!(rt; terms.term(CALLEE)?, true);
+    same(rt, &terms.term(CALLEE)?, &true);
     Ok(terms)
 }
 
 /// The terminator is noted to return.
 fn returns(rt: &impl Abort, terms: &mut Terms) {
     assert_entered(rt, terms, CALLEE);
-    assert_eq!(rt; terms.returned(CALLEE), true);
+    same(rt, &terms.returned(CALLEE), &true);
 }
 
 /// All of them wait, in another order than theirs: every seventh in turn.
@@ -50,9 +51,9 @@ fn wait_all(rt: &impl Abort, terms: &mut Terms, count: u8) -> Result<(), Fail> {
     for i in 0..count {
         let waiter = waiter_at(u64::from(i) * 7 % u64::from(count));
         assert_entered(rt, terms, CALLEE);
-        assert_eq!(rt; terms.wait(CALLEE, waiter)?, true);
+        same(rt, &terms.wait(CALLEE, waiter)?, &true);
         assert_entered(rt, terms, CALLEE);
-        assert_eq!(rt; terms.place_waiter(CALLEE, waiter)?, false);
+        same(rt, &terms.place_waiter(CALLEE, waiter)?, &false);
     }
     Ok(())
 }
@@ -61,12 +62,12 @@ fn wait_all(rt: &impl Abort, terms: &mut Terms, count: u8) -> Result<(), Fail> {
 fn tell_all(rt: &impl Abort, terms: &mut Terms, count: u8) {
     for place in 0..u64::from(count) {
         let next = terms.untold(CALLEE);
-        assert_eq!(rt; next, Some(waiter_at(place)));
+        same(rt, &next, &Some(waiter_at(place)));
         assert_entered(rt, terms, CALLEE);
         let left = terms.mark_told(CALLEE, waiter_at(place));
-        assert_eq!(rt; left, place + 1 < u64::from(count));
+        same(rt, &left, &(place + 1 < u64::from(count)));
     }
-    assert_eq!(rt; terms.untold(CALLEE), None);
+    same(rt, &terms.untold(CALLEE), &None);
 }
 
 /// None, in place, in a row and in a crowd.
@@ -75,7 +76,7 @@ fn told_in_order(rt: HostRuntime) -> Result<(), Fail> {
     for count in [0, 1, 2, 3, 26, 100] {
         let mut terms = entered(&rt, rt.alloc())?;
         wait_all(&rt, &mut terms, count)?;
-        assert_eq!(rt; terms.untold(CALLEE), None);
+        same(&rt, &terms.untold(CALLEE), &None);
         returns(&rt, &mut terms);
         tell_all(&rt, &mut terms, count);
     }
@@ -136,11 +137,11 @@ fn comes(
     place: u64,
 ) -> Result<(), Fail> {
     assert_entered(rt, terms, CALLEE);
-    assert_eq!(rt; terms.wait(CALLEE, waiter_at(place))?, true);
+    same(rt, &terms.wait(CALLEE, waiter_at(place))?, &true);
     plain.push((place, false))?;
     assert_entered(rt, terms, CALLEE);
-    assert_eq!(rt; terms.place_waiter(CALLEE, waiter_at(place))?, false);
-    assert_eq!(rt; terms.untold(CALLEE), first_untold(plain.as_slice()));
+    same(rt, &terms.place_waiter(CALLEE, waiter_at(place))?, &false);
+    same(rt, &terms.untold(CALLEE), &first_untold(plain.as_slice()));
     Ok(())
 }
 
@@ -150,8 +151,8 @@ fn is_told(rt: &impl Abort, terms: &mut Terms, plain: &mut [(u64, bool)], place:
     let left = terms.mark_told(CALLEE, waiter_at(place));
     mark(plain, place);
     let first = first_untold(plain);
-    assert_eq!(rt; left, first.is_some());
-    assert_eq!(rt; terms.untold(CALLEE), first);
+    same(rt, &left, &first.is_some());
+    same(rt, &terms.untold(CALLEE), &first);
 }
 
 /// Waiters come in one order, and are told in another. Every third is told at once.
@@ -181,7 +182,7 @@ fn come_and_are_told(
             telling.place(turn, count),
         );
     }
-    assert_eq!(rt; terms.untold(CALLEE), None);
+    same(rt, &terms.untold(CALLEE), &None);
     Ok(())
 }
 

@@ -10,6 +10,7 @@ use std::alloc::Global;
 use std::process::Abort;
 use std::test::Fail;
 use std::thread::Threads;
+use test_asserts::same;
 
 /// An address of the first shard.
 const FIRST: u64 = 0x10000;
@@ -26,7 +27,7 @@ fn find<R: Threads + Abort + Sync>(
     left: Option<Name>,
 ) -> Result<(), Fail> {
     for workers in [1, 2, 4, 64] {
-        assert_eq!(rt; state.left_by(rt, alloc, seeds, workers)?, left);
+        same(rt, &state.left_by(rt, alloc, seeds, workers)?, &left);
     }
     Ok(())
 }
@@ -47,7 +48,7 @@ fn find_at_start<R: Threads + Abort + Sync>(rt: &R, alloc: Global, s: u64) -> Re
     let mut state = State::new(alloc)?;
     find(rt, alloc, &state, &[], None)?;
     find(rt, alloc, &state, &[s], work(WorkKind::Want, s))?;
-    assert_eq!(rt; state.want(s)?, true);
+    same(rt, &state.want(s)?, &true);
     find(rt, alloc, &state, &[s], work(WorkKind::Parse, s))?;
     parse(rt, &mut state, s);
     find(rt, alloc, &state, &[s], None)?;
@@ -94,7 +95,7 @@ fn find_displaced<R: Threads + Abort + Sync>(
 {
     let mut state = State::new(alloc)?;
     displace(rt, &Program { alloc }, &mut state, first, second, k)?;
-    assert_eq!(rt; state.want(k)?, true);
+    same(rt, &state.want(k)?, &true);
     parse(rt, &mut state, k);
     find(rt, alloc, &state, &[], work(WorkKind::Move, k))
 }
@@ -114,7 +115,7 @@ fn near_starts_are_found(rt: HostRuntime) -> Result<(), Fail> {
     assert_no_end(&rt, &state, LAST);
     state.arrive(&code, LAST, LAST)?;
     find(&rt, alloc, &state, &[], work(WorkKind::Want, LAST))?;
-    assert_eq!(rt; state.want(LAST)?, true);
+    same(&rt, &state.want(LAST)?, &true);
     parse(&rt, &mut state, LAST);
     find(&rt, alloc, &state, &[], None)
 }
@@ -130,15 +131,15 @@ fn find_at_terminator<R: Threads + Abort + Sync>(
         kind: WaitKind::Follow,
     };
     let mut state = State::new(alloc)?;
-    assert_eq!(rt; state.term(k)?, true);
+    same(rt, &state.term(k)?, &true);
     find(rt, alloc, &state, &[], work(WorkKind::Edges, k))?;
     assert_entered(rt, &state, k);
     state.edges_done(k);
     find(rt, alloc, &state, &[], None)?;
     assert_entered(rt, &state, k);
-    assert_eq!(rt; state.wait(k, waiter)?, true);
+    same(rt, &state.wait(k, waiter)?, &true);
     assert_entered(rt, &state, k);
-    assert_eq!(rt; state.returned(k), true);
+    same(rt, &state.returned(k), &true);
     find(rt, alloc, &state, &[], work(WorkKind::Tell, k))?;
     state.told(k, waiter);
     find(rt, alloc, &state, &[], None)

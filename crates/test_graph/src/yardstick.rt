@@ -3,6 +3,7 @@
 use cfg_model::{Block, Edge, EdgeKind, EndKind, Flow, Function};
 use std::process::Abort;
 use std::test::Fail;
+use test_asserts::{holds, same};
 use test_programs::{Sample, row_6, row_8, row_9, row_10, row_12, row_17};
 use test_yardstick::plain_graph;
 
@@ -19,18 +20,18 @@ fn expect(
 ) -> Result<(), Fail> {
     let seeds = code.seeds();
     let graph = plain_graph(rt.alloc(), code, seeds, seeds[0])?;
-    assert_eq!(rt; graph.entry, seeds[0]);
+    same(rt, &graph.entry, &seeds[0]);
     expect_functions(rt, graph.functions.as_slice(), functions);
-    assert_eq!(rt; graph.blocks.as_slice(), blocks);
-    assert_eq!(rt; graph.edges.as_slice(), edges);
+    same(rt, &graph.blocks.as_slice(), &blocks);
+    same(rt, &graph.edges.as_slice(), &edges);
     Ok(())
 }
 
 /// Compares functions.
 fn expect_functions(rt: &impl Abort, functions: &[Function], wanted: &[Wanted]) {
-    assert!(rt; functions.len() == wanted.len());
+    holds(rt, functions.len() == wanted.len());
     for (function, want) in functions.iter().zip(wanted) {
-        assert!(rt; is_wanted(function, want));
+        holds(rt, is_wanted(function, want));
     }
 }
 

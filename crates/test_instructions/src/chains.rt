@@ -8,6 +8,7 @@ use rv_flow::{flow_of_bytes, raw_flow};
 use std::alloc::Global;
 use std::process::Abort;
 use std::test::Fail;
+use test_asserts::{holds, same, same_at};
 
 /// Six code sections, not in the order of their addresses. At 10000 (hexadecimal): `addi x0, x0, 0`
 /// and two `c.nop`. At 10008: `c.nop` and `addi x0, x0, 0`. At 1000E: `c.nop` and the lower half of
@@ -69,16 +70,17 @@ fn expect_ends(
 {
     for &(a, end, next) in cases {
         assert!(rt; image.is_code(a));
-        assert_eq!(rt; index.term(a), end, "the end of the chain of {a}");
-        assert_eq!(rt; index.next(a), next, "the address behind {a}");
+        same_at(rt, &a, &index.term(a), &end);
+        same_at(rt, &a, &index.next(a), &next);
         assert!(rt; index.is_code(a));
         let read = index.bytes_at(a);
-        assert_eq!(rt; Some(read.half), image.half_at(a), "the halfword at {a}");
-        assert_eq!(rt; read.word, image.word_at(a), "the word at {a}");
-        assert_eq!(rt;
-            flow_of_bytes(image, a, read).flow,
-            raw_flow(image, a),
-            "the flow at {a} by its bytes"
+        same_at(rt, &a, &Some(read.half), &image.half_at(a));
+        same_at(rt, &a, &read.word, &image.word_at(a));
+        same_at(
+            rt,
+            &a,
+            &flow_of_bytes(image, a, read).flow,
+            &raw_flow(image, a),
         );
     }
 }
@@ -116,14 +118,19 @@ fn widest_section_elsewhere(rt: HostRuntime) -> Result<(), Fail> {
 fn bounds_cut_evenly(rt: HostRuntime) -> Result<(), Fail> {
     let image = image(rt.alloc(), 2)?;
     let index = ChainIndex::new(rt.alloc(), &image)?;
-    assert!(rt; index.bounds(rt.alloc(), 1)?.is_empty());
-    assert_eq!(rt;
-        index.bounds(rt.alloc(), 2)?.as_slice(),
-        [0x1000C].as_slice()
+    holds(&rt, index.bounds(rt.alloc(), 1)?.is_empty());
+    same(
+        &rt,
+        &index.bounds(rt.alloc(), 2)?.as_slice(),
+        &[0x1000C].as_slice(),
     );
     let bounds = index.bounds(rt.alloc(), 4)?;
-    assert_eq!(rt; bounds.as_slice(), [0x10006, 0x1000C, 0x10012].as_slice());
-    assert_eq!(rt; index.bounds(rt.alloc(), 64)?.len(), 63);
+    same(
+        &rt,
+        &bounds.as_slice(),
+        &[0x10006, 0x1000C, 0x10012].as_slice(),
+    );
+    same(&rt, &index.bounds(rt.alloc(), 64)?.len(), &63);
     Ok(())
 }
 
@@ -183,11 +190,7 @@ fn long_run_in_stretches(rt: HostRuntime) -> Result<(), Fail> {
             let a = 0x20000 + 2 * i;
             let end = if i % 3 == 1 { a } else { 0x44A0E };
             assert!(rt; image.is_code(a));
-            assert_eq!(rt;
-                index.term(a),
-                end,
-                "the end of the chain of {a}, {workers} workers"
-            );
+            same_at(&rt, &(a, workers), &index.term(a), &end);
         }
     }
     Ok(())

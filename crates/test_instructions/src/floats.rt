@@ -5,6 +5,7 @@ use rv_decode::Insn;
 use rv_float::{decode_float, expand_float};
 use std::process::Abort;
 use std::test::Fail;
+use test_asserts::holds;
 
 /// `as -march=rv64gc`: a word, and the integer registers that it writes and reads.
 const ASSEMBLED: [(u32, u8, u8); 34] = [
@@ -78,7 +79,7 @@ const EXPANDED: [(u16, Option<u32>); 12] = [
 
 fn expect_float(rt: &impl Abort, word: u32, writes: u8, reads: u8) {
     let found = decode_float(word);
-    assert!(rt; found == Some(Insn::Float { writes, reads }));
+    holds(rt, found == Some(Insn::Float { writes, reads }));
 }
 
 #[test]
@@ -88,7 +89,7 @@ fn words_of_each_row(rt: HostRuntime) -> Result<(), Fail> {
     }
     for word in REFUSED {
         let found = decode_float(word);
-        assert!(rt; found.is_none());
+        holds(&rt, found.is_none());
     }
     Ok(())
 }
@@ -97,7 +98,7 @@ fn words_of_each_row(rt: HostRuntime) -> Result<(), Fail> {
 fn the_four_forms(rt: HostRuntime) -> Result<(), Fail> {
     for (half, word) in EXPANDED {
         let found = expand_float(half);
-        assert!(rt; found == word);
+        holds(&rt, found == word);
     }
     Ok(())
 }
@@ -108,6 +109,6 @@ fn halfwords_by_form(rt: HostRuntime) -> Result<(), Fail> {
     let count = (0..=u16::MAX)
         .filter(|half| expand_float(*half).is_some())
         .count();
-    assert!(rt; count == 4 * 2048);
+    holds(&rt, count == 4 * 2048);
     Ok(())
 }

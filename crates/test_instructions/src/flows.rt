@@ -1,12 +1,14 @@
 //! The calls on a small file, whose instructions were encoded by an assembler.
 
-use elf_image::{ElfError, Image};
+use elf_image::{ElfError, Extensions, Image};
 use rv_flow::{
     RawFlow, StraightForms, each_word_is_its_instruction, every_expansion_decodes, flow_of,
     insn_at, raw_flow,
 };
 use std::alloc::Global;
+use std::process::Abort;
 use std::test::Fail;
+use test_asserts::same_at;
 
 /// Code at 10000 (hexadecimal): `jalr x0, 0(x5)`; `lui x1, 0x10`, `jalr x1, 12(x1)`;
 /// `lui x6, 0x10`, `jalr x0, 1(x6)`; `jalr x0, 0(x6)`; and the 16-bit forms `c.jr x5` and `c.nop`.
@@ -40,6 +42,52 @@ const CASES: [(u64, u8, RawFlow); 8] = [
     (0x1001A, 2, RawFlow::Straight),
 ];
 
+/// A file whose attributes name `rv64i2p1_zba1p0_zcb1p0`. Code at 10000 (hexadecimal):
+/// `sh1add x10, x11, x12`; `c.zext.b x8` and `c.nop`; `jalr x6, 0(x28)`, the stub of an indirect
+/// function; `jalr x6, 0(x5)`; `jalr x1, 0(x28)`; `lui x28, 0x10`, `jalr x6, 0(x28)`.
+const NAMING: [u8; 328] = [
+    0x7F, 0x45, 0x4C, 0x46, 2, 1, 1, 0, 0, 0, 0, 0, 0, 0, 0, 0, 2, 0, 0xF3, 0, 1, 0, 0, 0, 0, 0, 1,
+    0, 0, 0, 0, 0, 0, 0, 0, 0, 0, 0, 0, 0, 0x88, 0, 0, 0, 0, 0, 0, 0, 0, 0, 0, 0, 0x40, 0, 0, 0, 0,
+    0, 0x40, 0, 3, 0, 0, 0, 0x33, 0xA5, 0xC5, 0x20, 0x61, 0x9C, 1, 0, 0x67, 3, 0xE, 0, 0x67, 0x83,
+    2, 0, 0xE7, 0, 0xE, 0, 0x37, 0xE, 1, 0, 0x67, 3, 0xE, 0, 0x41, 0x27, 0, 0, 0, 0x72, 0x69, 0x73,
+    0x63, 0x76, 0, 1, 0x1D, 0, 0, 0, 5, 0x72, 0x76, 0x36, 0x34, 0x69, 0x32, 0x70, 0x31, 0x5F, 0x7A,
+    0x62, 0x61, 0x31, 0x70, 0x30, 0x5F, 0x7A, 0x63, 0x62, 0x31, 0x70, 0x30, 0, 0, 0, 0, 0, 0, 0, 0,
+    0, 0, 0, 0, 0, 0, 0, 0, 0, 0, 0, 0, 0, 0, 0, 0, 0, 0, 0, 0, 0, 0, 0, 0, 0, 0, 0, 0, 0, 0, 0, 0,
+    0, 0, 0, 0, 0, 0, 0, 0, 0, 0, 0, 0, 0, 0, 0, 0, 0, 0, 0, 0, 0, 0, 0, 0, 0, 0, 0, 0, 0, 0, 0, 0,
+    0, 1, 0, 0, 0, 6, 0, 0, 0, 0, 0, 0, 0, 0, 0, 1, 0, 0, 0, 0, 0, 0x40, 0, 0, 0, 0, 0, 0, 0, 0x1C,
+    0, 0, 0, 0, 0, 0, 0, 0, 0, 0, 0, 0, 0, 0, 0, 2, 0, 0, 0, 0, 0, 0, 0, 0, 0, 0, 0, 0, 0, 0, 0, 0,
+    0, 0, 0, 3, 0, 0, 0x70, 0, 0, 0, 0, 0, 0, 0, 0, 0, 0, 0, 0, 0, 0, 0, 0, 0x5C, 0, 0, 0, 0, 0, 0,
+    0, 0x28, 0, 0, 0, 0, 0, 0, 0, 0, 0, 0, 0, 0, 0, 0, 0, 1, 0, 0, 0, 0, 0, 0, 0, 0, 0, 0, 0, 0, 0,
+    0, 0,
+];
+
+/// Where the type of the section of attributes stands in the file.
+const TYPE_AT: usize = 268;
+
+const NAMED_CASES: [(u64, u8, RawFlow); 8] = [
+    (0x10000, 4, RawFlow::Straight),
+    (0x10004, 2, RawFlow::Straight),
+    (0x10006, 2, RawFlow::Straight),
+    (
+        0x10008,
+        4,
+        RawFlow::RegisterJump {
+            register: 28,
+            offset: 0,
+        },
+    ),
+    (0x1000C, 4, RawFlow::IndirectCall),
+    (0x10010, 4, RawFlow::IndirectCall),
+    (0x10014, 4, RawFlow::Straight),
+    (0x10018, 4, RawFlow::Call { target: 0x10000 }),
+];
+
+/// The same without a section of attributes.
+const UNNAMED_CASES: [(u64, u8, RawFlow); 2] = [
+    (0x10000, 2, RawFlow::Stop),
+    (0x10004, 2, RawFlow::Stop),
+];
+
 fn image(alloc: Global) -> Result<Image, ElfError> {
     Image::parse(alloc, Vec::from_slice(alloc, &FILE)?)
 }
@@ -50,14 +98,34 @@ fn flows_of_a_small_file(rt: HostRuntime) -> Result<(), Fail> {
     for (a, length, flow) in CASES {
         assert!(rt; image.is_code(a));
         let placed = insn_at(&image, a);
-        assert_eq!(rt; placed.length, length, "the length at {a}");
-        assert_eq!(rt; raw_flow(&image, a), flow, "the flow at {a}");
-        assert_eq!(rt;
-            flow_of(&image, a, placed.insn),
-            flow,
-            "the flow at {a} by its meaning"
-        );
+        same_at(&rt, &a, &placed.length, &length);
+        same_at(&rt, &a, &raw_flow(&image, a), &flow);
+        same_at(&rt, &a, &flow_of(&image, a, placed.insn), &flow);
     }
+    Ok(())
+}
+
+fn expect_flows(rt: &impl Abort, image: &Image, cases: &[(u64, u8, RawFlow)]) {
+    for (a, length, flow) in cases {
+        assert!(rt; image.is_code(*a));
+        let found = insn_at(image, *a).length;
+        assert!(rt; found == *length);
+        let found = raw_flow(image, *a);
+        assert!(rt; found == *flow);
+    }
+}
+
+/// What the file names decides, and a stub jumps.
+#[test]
+fn flows_by_name(rt: HostRuntime) -> Result<(), Fail> {
+    let mut bytes = Vec::from_slice(rt.alloc(), &NAMING)?;
+    let named = Image::parse(rt.alloc(), Vec::from_slice(rt.alloc(), &NAMING)?)?;
+    expect_flows(&rt, &named, &NAMED_CASES);
+    if let Some(kind) = bytes.get_mut(TYPE_AT) {
+        *kind = 4;
+    }
+    let unnamed = Image::parse(rt.alloc(), bytes)?;
+    expect_flows(&rt, &unnamed, &UNNAMED_CASES);
     Ok(())
 }
 
@@ -76,9 +144,9 @@ const FORMS: [(u16, Option<u32>, Option<u8>); 7] = [
 /// A form is answered the same when it is asked for again.
 #[test]
 fn straight_forms(rt: HostRuntime) -> Result<(), Fail> {
-    let mut forms = StraightForms::new(rt.alloc());
+    let mut forms = StraightForms::new(rt.alloc(), Extensions::none());
     for (half, word, length) in FORMS.iter().chain(&FORMS).copied() {
-        assert_eq!(rt; forms.length(half, word), length, "the length of {half}");
+        same_at(&rt, &half, &forms.length(half, word), &length);
     }
     Ok(())
 }

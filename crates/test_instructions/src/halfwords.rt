@@ -1,6 +1,7 @@
 //! `expand` on pairs from outside, and over all halfwords against counts made by hand.
 
 use rvc_expand::expand;
+use test_asserts::{same, same_at};
 
 /// Halfwords with the instruction that each stands for, and halfwords that stand for none.
 #[test]
@@ -20,7 +21,7 @@ fn expands_worked_halfwords(rt: HostRuntime) {
         (0x8002, None),
         (0x9c41, None),
     ] {
-        assert_eq!(rt; expand(half), want, "at {half}");
+        same_at(&rt, &half, &expand(half), &want);
     }
 }
 
@@ -111,10 +112,10 @@ fn expands_as_many_of_each_form(rt: HostRuntime) {
         let count = (0..=u16::MAX)
             .filter(|half| form.has(*half) && expand(*half).is_some())
             .count();
-        assert_eq!(rt; count, form.count, "of {}", form.name);
+        same_at(&rt, &form.name, &count, &form.count);
     }
     let all = (0..=u16::MAX)
         .filter(|half| expand(*half).is_some())
         .count();
-    assert_eq!(rt; all, 38_551);
+    same(&rt, &all, &38_551);
 }

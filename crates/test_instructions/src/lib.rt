@@ -7,17 +7,25 @@
 //! - `words`: 32-bit instructions (`rv_decode`).
 //! - `halfwords`: 16-bit instructions (`rvc_expand`).
 //! - `floats`: instructions of floating point (`rv_float`).
+//! - `extensions`: instructions of the extensions that a file names (`rv_extensions`).
 //! - `flows`: where an instruction sends control (`rv_flow`).
 //! - `chains`: where straight runs end (`chain_index`).
 //! - `tables`: the table of a jump through a register (`jump_table`).
+//! - `declared`: the same of tables that a file declares, and of further extensions.
 #![tactic(auto)]
 
 #[cfg(test)]
 mod chains;
 #[cfg(test)]
+mod declared;
+#[cfg(test)]
+mod extensions;
+#[cfg(test)]
 mod floats;
 #[cfg(test)]
 mod flows;
+#[cfg(test)]
+mod further;
 #[cfg(test)]
 mod halfwords;
 #[cfg(test)]

@@ -1,24 +1,29 @@
 //! The calls on small files.
 
+use crate::further::{Further, counted, push_further};
 use elf_image::{ElfError, Image};
 use jump_table::{Table, entry_target, find_table, target_of};
 use std::alloc::{AllocError, Global};
+use std::process::Abort;
 use std::test::Fail;
+use test_asserts::same_at;
 
 /// Code at 10000 and read-only data at 20000 (hexadecimal), filled up with zeros, and a jump in it.
 #[derive(Clone, Copy)]
-struct Case {
-    code: [u32; 16],
-    data: [u32; 16],
-    jump: u64,
+pub(crate) struct Case {
+    pub(crate) code: [u32; 16],
+    pub(crate) data: [u32; 16],
+    /// Sections after those two.
+    pub(crate) further: &'static [Further],
+    pub(crate) jump: u64,
     /// Its table, with the targets of the first and the last entry.
-    want: Option<(Table, u64, u64)>,
+    pub(crate) want: Option<(Table, u64, u64)>,
 }
 
-/// The header of a file whose sections stand at 192, and those sections: none, 64 bytes of code and
-/// 64 bytes of data.
-const HEADER: [u32; 16] = [
-    0x464C457F, 0x00010102, 0, 0, 0x00F30002, 1, 0x10000, 0, 0, 0, 192, 0, 0, 0x40, 0x400000, 3,
+/// The header of a file whose sections stand at 192, without its last word, their number; and those
+/// sections: none, 64 bytes of code and 64 bytes of data.
+const HEADER: [u32; 15] = [
+    0x464C457F, 0x00010102, 0, 0, 0x00F30002, 1, 0x10000, 0, 0, 0, 192, 0, 0, 0x40, 0x400000,
 ];
 
 const SECTIONS: [u32; 48] = [
@@ -27,7 +32,7 @@ const SECTIONS: [u32; 48] = [
 ];
 
 /// Eight words, a bound test `bltu` at 10004 after `addi x15, x0, 7`, and four returns.
-const BOUNDED: Case = Case {
+pub(crate) const BOUNDED: Case = Case {
     code: [
         0x00700793, 0x02A7E263, 0x00020737, 0x00251513, 0x00E50533, 0x00052783, 0x00E787B3,
         0x00078067, 0x00008067, 0x00008067, 0x00008067, 0x00008067, 0, 0, 0, 0,
@@ -36,6 +41,7 @@ const BOUNDED: Case = Case {
         0xFFFF0020, 0xFFFF0020, 0xFFFF0020, 0xFFFF0020, 0xFFFF0020, 0xFFFF0020, 0xFFFF0020,
         0xFFFF0024, 0xFFFF002C, 0, 0, 0, 0, 0, 0, 0,
     ],
+    further: &[],
     jump: 0x1001C,
     want: Some((
         Table {
@@ -52,7 +58,7 @@ const BOUNDED: Case = Case {
 };
 
 /// Two words, and nothing before the shift.
-const OPEN: Case = Case {
+pub(crate) const OPEN: Case = Case {
     code: [
         0x00020737, 0x00251513, 0x00E50533, 0x00052783, 0x00E787B3, 0x00078067, 0x00008067,
         0x00008067, 0, 0, 0, 0, 0, 0, 0, 0,
@@ -60,6 +66,7 @@ const OPEN: Case = Case {
     data: [
         0xFFFF0018, 0xFFFF001C, 0, 0, 0, 0, 0, 0, 0, 0, 0, 0, 0, 0, 0, 0,
     ],
+    further: &[],
     jump: 0x10014,
     want: Some((
         Table {
@@ -76,7 +83,7 @@ const OPEN: Case = Case {
 };
 
 /// Two doublewords that are the targets themselves.
-const DOUBLEWORDS: Case = Case {
+pub(crate) const DOUBLEWORDS: Case = Case {
     code: [
         0x00100793, 0x02A7E063, 0x00020737, 0x00351513, 0x00E50533, 0x00053783, 0x00078067,
         0x00008067, 0x00008067, 0x00008067, 0, 0, 0, 0, 0, 0,
@@ -84,6 +91,7 @@ const DOUBLEWORDS: Case = Case {
     data: [
         0x0001001C, 0, 0x00010020, 0, 0, 0, 0, 0, 0, 0, 0, 0, 0, 0, 0, 0,
     ],
+    further: &[],
     jump: 0x10018,
     want: Some((
         Table {
@@ -100,7 +108,7 @@ const DOUBLEWORDS: Case = Case {
 };
 
 /// The bound test looks at x10 and the shift at x11, so that it tells nothing.
-const OTHER_INDEX: Case = Case {
+pub(crate) const OTHER_INDEX: Case = Case {
     code: [
         0x00700793, 0x02A7E263, 0x00020737, 0x00259513, 0x00E50533, 0x00052783, 0x00E787B3,
         0x00078067, 0x00008067, 0x00008067, 0x00008067, 0x00008067, 0, 0, 0, 0,
@@ -142,13 +150,13 @@ const ECALL: Case = Case {
 };
 
 /// A return.
-const RETURN: Case = Case {
+pub(crate) const RETURN: Case = Case {
     jump: 0x10018,
     want: None,
     ..OPEN
 };
 
-fn push_words(bytes: &mut Vec<u8>, words: &[u32]) -> Result<(), AllocError> {
+pub(crate) fn push_words(bytes: &mut Vec<u8>, words: &[u32]) -> Result<(), AllocError> {
     for word in words {
         bytes.extend_from_slice(&word.to_le_bytes())?;
     }
@@ -158,9 +166,11 @@ fn push_words(bytes: &mut Vec<u8>, words: &[u32]) -> Result<(), AllocError> {
 fn file(alloc: Global, case: &Case) -> Result<Vec<u8>, AllocError> {
     let mut bytes = Vec::new(alloc);
     push_words(&mut bytes, &HEADER)?;
+    push_words(&mut bytes, &[counted(case.further.len()).wrapping_add(3)])?;
     push_words(&mut bytes, &case.code)?;
     push_words(&mut bytes, &case.data)?;
     push_words(&mut bytes, &SECTIONS)?;
+    push_further(&mut bytes, case.further)?;
     Ok(bytes)
 }
 
@@ -198,6 +208,17 @@ fn last_of(case: &Case) -> Option<u64> {
     Some(last)
 }
 
+/// Each of these cases gives what it wants.
+pub(crate) fn gives_each(rt: &(impl Abort + AllocGlobal), cases: &[Case]) -> Result<(), Fail> {
+    for (number, case) in cases.iter().enumerate() {
+        let image = image(rt.alloc(), case)?;
+        let jump = case.jump;
+        same_at(&rt, &number, &found(&image, jump), &case.want);
+        same_at(&rt, &number, &last_target(&image, jump), &last_of(case));
+    }
+    Ok(())
+}
+
 #[test]
 fn tables_of_small_files(rt: HostRuntime) -> Result<(), Fail> {
     let cases = [
@@ -209,15 +230,5 @@ fn tables_of_small_files(rt: HostRuntime) -> Result<(), Fail> {
         ECALL,
         RETURN,
     ];
-    for (number, case) in cases.iter().enumerate() {
-        let image = image(rt.alloc(), case)?;
-        let jump = case.jump;
-        assert_eq!(rt; found(&image, jump), case.want, "case {number}");
-        assert_eq!(rt;
-            last_target(&image, jump),
-            last_of(case),
-            "the last target of case {number}"
-        );
-    }
-    Ok(())
+    gives_each(&rt, &cases)
 }

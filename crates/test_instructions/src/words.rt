@@ -5,6 +5,7 @@ use rv_decode::decode;
 use std::alloc::Global;
 use std::process::Abort;
 use std::test::Fail;
+use test_asserts::same_at;
 
 /// `as -march=rv64ima_zicsr_zifencei`, with operands that set each bit of the immediates.
 static ASSEMBLED: [(u32, &str); 98] = [
@@ -298,7 +299,7 @@ fn expect_insns(rt: &impl Abort, alloc: Global, table: &[(u32, &str)]) -> Result
     for (word, want) in table {
         let found = decode(*word).ok_or("a word of the table is refused")?;
         let text = format!(in alloc; "{found:?}")?;
-        assert_eq!(rt; text.as_str(), *want, "at {word:08x}");
+        same_at(rt, &word, &text.as_str(), want);
     }
     Ok(())
 }
@@ -312,6 +313,6 @@ fn decodes(rt: HostRuntime) -> Result<(), Fail> {
 #[test]
 fn refuses(rt: HostRuntime) {
     for (word, what) in REFUSED.as_slice() {
-        assert_eq!(rt; decode(*word), None, "at {word:08x}, {what}");
+        same_at(&rt, &word, &decode(*word), &None);
     }
 }

@@ -23,6 +23,7 @@ use std::marker::Sync;
 use std::process::Abort;
 use std::test::Fail;
 use std::thread::Threads;
+use test_asserts::same;
 
 /// A block of a function, and the mask of the registers that are live there.
 pub(crate) type Wanted = (u64, u32);
@@ -37,7 +38,7 @@ pub(crate) fn has_lives<R: Threads + Sync + Abort + AllocGlobal>(
     wanted: &[&[Wanted]],
 ) -> Result<(), Fail> {
     let all = lives_of_file(rt, file)?;
-    assert_eq!(rt; all.len(), wanted.len());
+    same(rt, &all.len(), &wanted.len());
     for (lives, want) in all.iter().zip(wanted) {
         expect(rt, lives.as_slice(), want);
     }
@@ -46,9 +47,9 @@ pub(crate) fn has_lives<R: Threads + Sync + Abort + AllocGlobal>(
 
 /// Compares the live registers of one function.
 fn expect(rt: &impl Abort, lives: &[Live], wanted: &[Wanted]) {
-    assert_eq!(rt; lives.len(), wanted.len());
+    same(rt, &lives.len(), &wanted.len());
     for (live, &(block, mask)) in lives.iter().zip(wanted) {
-        assert_eq!(rt; *live, Live { block, mask });
+        same(rt, live, &Live { block, mask });
     }
 }
 
@@ -114,7 +115,7 @@ fn outline_gives<R: Threads + Sync + Abort + AllocGlobal>(
 {
     for workers in CREWS {
         let all = lives_by(rt, rt.alloc(), image, code, outline, functions, workers)?;
-        same(rt, all.as_slice(), wanted);
+        same_lives(rt, all.as_slice(), wanted);
     }
     Ok(())
 }
@@ -130,18 +131,18 @@ fn graph_gives<R: Threads + Sync + Abort + AllocGlobal>(
     requires bodies { All (λ f. IsStrictlyIncreasing f.body) graph.now.functions }
 {
     let alone = graph_lives(rt.alloc(), image, graph)?;
-    same(rt, alone.as_slice(), wanted);
+    same_lives(rt, alone.as_slice(), wanted);
     for workers in CREWS {
         let all = graph_lives_by(rt, rt.alloc(), image, graph, workers)?;
-        same(rt, all.as_slice(), wanted);
+        same_lives(rt, all.as_slice(), wanted);
     }
     Ok(())
 }
 
 /// Compares the live registers of all functions.
-fn same(rt: &impl Abort, all: &[Lives], wanted: &[Lives]) {
-    assert_eq!(rt; all.len(), wanted.len());
+fn same_lives(rt: &impl Abort, all: &[Lives], wanted: &[Lives]) {
+    same(rt, &all.len(), &wanted.len());
     for (lives, want) in all.iter().zip(wanted) {
-        assert_eq!(rt; lives.as_slice(), want.as_slice());
+        same(rt, &lives.as_slice(), &want.as_slice());
     }
 }

@@ -1,8 +1,9 @@
 //! What single instructions read and write.
 
 use live_regs::effects_of;
-use rv_decode::decode;
+use rv_decode::{ExtendKind, Insn, decode};
 use std::test::Fail;
+use test_asserts::{same, same_at};
 
 /// Words with the masks of what they read and write, by the operands of their formats.
 static WORDS: [(u32, u32, u32); 10] = [
@@ -32,11 +33,68 @@ static WORDS: [(u32, u32, u32); 10] = [
 fn effects_of_words(rt: HostRuntime) -> Result<(), Fail> {
     for &(word, reads, writes) in WORDS.iter() {
         let effects = effects_of(decode(word));
-        assert_eq!(rt; effects.reads, reads, "{word:#x}");
-        assert_eq!(rt; effects.writes, writes, "{word:#x}");
+        same_at(&rt, &word, &effects.reads, &reads);
+        same_at(&rt, &word, &effects.writes, &writes);
     }
     let none = effects_of(None);
-    assert_eq!(rt; none.reads, 0);
-    assert_eq!(rt; none.writes, 0);
+    same(&rt, &none.reads, &0);
+    same(&rt, &none.writes, &0);
+    Ok(())
+}
+
+/// Instructions of extensions, with the masks of what they read and write.
+const EXTENDED: [(Insn, u32, u32); 4] = [
+    // sh2add x10, x11, x12
+    (
+        Insn::ShiftAdd {
+            shift: 2,
+            zero_extended: false,
+            rd: 10,
+            rs1: 11,
+            rs2: 12,
+        },
+        1 << 11 | 1 << 12,
+        1 << 10,
+    ),
+    // slli.uw x0, x31, 3: x0 is never written
+    (
+        Insn::ShiftAdd {
+            shift: 3,
+            zero_extended: true,
+            rd: 0,
+            rs1: 31,
+            rs2: 0,
+        },
+        1 << 31,
+        0,
+    ),
+    // sext.b x5, x6
+    (
+        Insn::Extend {
+            kind: ExtendKind::SextB,
+            rd: 5,
+            rs1: 6,
+        },
+        1 << 6,
+        1 << 5,
+    ),
+    // amocas.q x6, x8, (x10) with x0 in both masks
+    (
+        Insn::Extension {
+            reads: 1 | 1 << 6 | 1 << 7 | 1 << 8 | 1 << 9 | 1 << 10,
+            writes: 1 | 1 << 6 | 1 << 7,
+        },
+        0x7C0,
+        0xC0,
+    ),
+];
+
+#[test]
+fn effects_of_extensions(rt: HostRuntime) -> Result<(), Fail> {
+    for (insn, reads, writes) in EXTENDED {
+        let effects = effects_of(Some(insn));
+        assert_eq!(rt; effects.reads, reads);
+        assert_eq!(rt; effects.writes, writes);
+    }
     Ok(())
 }

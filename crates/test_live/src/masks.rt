@@ -4,6 +4,7 @@ use crate::all_calls::{Wanted, has_lives, lives_of_file};
 use crate::files::{named_file, plain_file};
 use big_case::big_file;
 use std::test::Fail;
+use test_asserts::holds_at;
 
 /// Code at 10000 (hexadecimal), and the blocks of its one function with their masks.
 type Worked = (&'static [u32], &'static [Wanted]);
@@ -97,6 +98,6 @@ fn several_pieces(rt: HostRuntime) -> Result<(), Fail> {
     for lives in all.iter() {
         blocks = blocks.saturating_add(lives.as_slice().len());
     }
-    assert!(rt; blocks > 5000, "{blocks}");
+    holds_at(&rt, &blocks, blocks > 5000);
     Ok(())
 }

@@ -8,6 +8,7 @@ use edge_cover::{Move, judge_in};
 use std::alloc::{AllocError, Global};
 use std::process::Abort;
 use std::test::Fail;
+use test_asserts::holds;
 
 /// A straight instruction at 0.
 const ENTRY: Block = Block {
@@ -91,7 +92,7 @@ fn edges_of(alloc: Global) -> Result<Vec<Edge>, AllocError>
 fn moves_in_a_worked_outline(rt: HostRuntime) -> Result<(), Fail> {
     let edges = edges_of(rt.alloc())?;
     for (block, next, to, expected) in &MOVES {
-        assert!(&rt; judge_in(&edges, block, *next, *to) == *expected);
+        holds(&rt, judge_in(&edges, block, *next, *to) == *expected);
     }
     Ok(())
 }

@@ -5,6 +5,7 @@ use elf_image::Image;
 use rv_machine::{Cpu, Ram, RamError, Regions};
 use std::alloc::{AllocError, Global};
 use std::test::Fail;
+use test_asserts::{holds, same, same_at};
 
 /// Addresses, and the bytes there: code, read-only data, data, zeros without bytes in the file, and
 /// the stack.
@@ -38,13 +39,13 @@ fn bytes_at_the_start(rt: HostRuntime) -> Result<(), Fail> {
     let alloc = rt.alloc();
     let image = Image::parse(alloc, Vec::from_slice(alloc, &FILE)?)?;
     let mut ram = Regions::new(alloc, &image).ok().ok_or("no memory")?;
-    assert!(rt; has_bytes(&ram));
-    assert!(rt; ram.has(0x4000C, 4) && !ram.has(0x4000D, 4));
-    assert!(rt; ram.store(0x30000, 6) && ram.load(0x30000) == Some(6));
-    assert!(rt; ram.store_le(0x4000C, 4, 0x1_0203_0405));
-    assert!(rt; !ram.store_le(0x4000D, 4, 0));
-    assert!(rt; ram.load_le(0x4000C, 4) == Some(0x0203_0405));
-    assert!(rt; ram.load_le(0x4000D, 4).is_none());
+    holds(&rt, has_bytes(&ram));
+    holds(&rt, ram.has(0x4000C, 4) && !ram.has(0x4000D, 4));
+    holds(&rt, ram.store(0x30000, 6) && ram.load(0x30000) == Some(6));
+    holds(&rt, ram.store_le(0x4000C, 4, 0x1_0203_0405));
+    holds(&rt, !ram.store_le(0x4000D, 4, 0));
+    holds(&rt, ram.load_le(0x4000C, 4) == Some(0x0203_0405));
+    holds(&rt, ram.load_le(0x4000D, 4).is_none());
     Ok(())
 }
 
@@ -58,7 +59,10 @@ fn too_much_memory(rt: HostRuntime) -> Result<(), Fail> {
         }
     }
     let image = Image::parse(alloc, bytes)?;
-    assert!(rt; Regions::new(alloc, &image).err() == Some(RamError::TooMuch));
+    holds(
+        &rt,
+        Regions::new(alloc, &image).err() == Some(RamError::TooMuch),
+    );
     Ok(())
 }
 
@@ -120,13 +124,13 @@ fn small_sections_that_overlap(rt: HostRuntime) -> Result<(), Fail> {
     for k in 0..220 {
         let a = 0x1F_FFF8 + k;
         let wanted = looked_up(&bytes, a);
-        assert_eq!(rt; ram.load(a), wanted, "{a:x}");
-        assert_eq!(rt; ram.store(a, 0xA5), wanted.is_some());
-        assert_eq!(rt; ram.load(a), wanted.map(|_| 0xA5));
-        assert_eq!(rt; ram.load(a + 1), looked_up(&bytes, a + 1));
+        same_at(&rt, &a, &ram.load(a), &wanted);
+        same(&rt, &ram.store(a, 0xA5), &wanted.is_some());
+        same(&rt, &ram.load(a), &wanted.map(|_| 0xA5));
+        same(&rt, &ram.load(a + 1), &looked_up(&bytes, a + 1));
     }
-    assert_eq!(rt; ram.load(0x10002), Some(0x4C));
-    assert_eq!(rt; ram.load(0x7FFE_FFFF), Some(0));
+    same(&rt, &ram.load(0x10002), &Some(0x4C));
+    same(&rt, &ram.load(0x7FFE_FFFF), &Some(0));
     Ok(())
 }
 
@@ -135,9 +139,9 @@ fn registers_are_read_and_written(rt: HostRuntime) -> Result<(), Fail> {
     let mut cpu = Cpu::start(0x10000, 0x7FFF_0000);
     cpu.registers.set(5, 7);
     cpu.registers.set(0, 7);
-    assert!(rt; cpu.registers.get(5) == 7);
-    assert!(rt; cpu.registers.get(0) == 0);
-    assert!(rt; cpu.registers.get(2) == 0x7FFF_0000);
-    assert!(rt; cpu.reservation.is_none());
+    holds(&rt, cpu.registers.get(5) == 7);
+    holds(&rt, cpu.registers.get(0) == 0);
+    holds(&rt, cpu.registers.get(2) == 0x7FFF_0000);
+    holds(&rt, cpu.reservation.is_none());
     Ok(())
 }

@@ -9,6 +9,7 @@ use rv_operations::{
     reg_result, reg_w_result, store_size,
 };
 use std::test::Fail;
+use test_asserts::holds;
 
 /// -1, and the least numbers of 64 and of 32 bits.
 const ONES: u64 = u64::MAX;
@@ -47,10 +48,10 @@ const REG_W: [(RegWKind, u64, u64, u64); 7] = [
 #[test]
 fn operations_on_registers(rt: HostRuntime) -> Result<(), Fail> {
     for (kind, x, y, result) in REG {
-        assert!(rt; reg_result(kind, x, y) == result);
+        holds(&rt, reg_result(kind, x, y) == result);
     }
     for (kind, x, y, result) in REG_W {
-        assert!(rt; reg_w_result(kind, x, y) == result);
+        holds(&rt, reg_w_result(kind, x, y) == result);
     }
     Ok(())
 }
@@ -76,13 +77,13 @@ const BRANCHES: [(BranchKind, u64, u64, bool); 4] = [
 #[test]
 fn immediates_and_branches(rt: HostRuntime) -> Result<(), Fail> {
     for (kind, x, y, result) in IMM {
-        assert!(rt; imm_result(kind, x, y) == result);
+        holds(&rt, imm_result(kind, x, y) == result);
     }
     for (kind, x, y, result) in IMM_W {
-        assert!(rt; imm_w_result(kind, x, y) == result);
+        holds(&rt, imm_w_result(kind, x, y) == result);
     }
     for (kind, x, y, taken) in BRANCHES {
-        assert!(rt; is_taken(kind, x, y) == taken);
+        holds(&rt, is_taken(kind, x, y) == taken);
     }
     Ok(())
 }
@@ -98,12 +99,12 @@ const WORDS: [(AtomicKind, u32, u32, u32); 5] = [
 #[test]
 fn atomics_and_loads(rt: HostRuntime) -> Result<(), Fail> {
     for (kind, x, y, result) in WORDS {
-        assert!(rt; atomic_word(kind, x, y) == result);
+        holds(&rt, atomic_word(kind, x, y) == result);
     }
-    assert!(rt; atomic_double(AtomicKind::Min, LEAST, 1) == LEAST);
-    assert!(rt; load_result(LoadKind::Lb, 0x80) == ONES - 0x7F);
-    assert!(rt; load_result(LoadKind::Lhu, 0x8000) == 0x8000);
-    assert!(rt; load_size(LoadKind::Lwu) == 4);
-    assert!(rt; store_size(StoreKind::Sd) == 8);
+    holds(&rt, atomic_double(AtomicKind::Min, LEAST, 1) == LEAST);
+    holds(&rt, load_result(LoadKind::Lb, 0x80) == ONES - 0x7F);
+    holds(&rt, load_result(LoadKind::Lhu, 0x8000) == 0x8000);
+    holds(&rt, load_size(LoadKind::Lwu) == 4);
+    holds(&rt, store_size(StoreKind::Sd) == 8);
     Ok(())
 }

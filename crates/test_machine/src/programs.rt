@@ -2,10 +2,11 @@
 
 use crate::small_file::FILE;
 use elf_image::Image;
-use rv_flow::insn_at;
+use rv_flow::rv64gc_insn_at;
 use rv_machine::{Cpu, Regions, Stepped, Trap, step, step_placed};
 use std::alloc::Global;
 use std::test::Fail;
+use test_asserts::holds;
 
 /// Where a program starts, the trap that ends it, a register, and what it then holds.
 type Case = (u64, Trap, u8, u64);
@@ -54,7 +55,7 @@ fn programs_end_so(rt: HostRuntime) -> Result<(), Fail> {
     let alloc = rt.alloc();
     let image = Image::parse(alloc, Vec::from_slice(alloc, &FILE)?)?;
     for case in CASES {
-        assert!(rt; ends_so(alloc, &image, case));
+        holds(&rt, ends_so(alloc, &image, case));
     }
     Ok(())
 }
@@ -66,8 +67,48 @@ fn a_decoded_instruction(rt: HostRuntime) -> Result<(), Fail> {
     let image = Image::parse(alloc, Vec::from_slice(alloc, &FILE)?)?;
     let mut ram = Regions::new(alloc, &image).ok().ok_or("no memory")?;
     let mut cpu = Cpu::start(image.entry(), 0x7FFF_0000);
-    let placed = insn_at(&image, cpu.pc);
-    assert!(rt; step_placed(&image, &mut cpu, &mut ram, placed) == Stepped::Next);
-    assert!(rt; cpu.pc == 0x10002);
+    let placed = rv64gc_insn_at(&image, cpu.pc);
+    holds(
+        &rt,
+        step_placed(&image, &mut cpu, &mut ram, placed) == Stepped::Next,
+    );
+    holds(&rt, cpu.pc == 0x10002);
+    Ok(())
+}
+
+/// What `.riscv.attributes` holds if the architecture is `rv64_zba_zcb`.
+const ATTRIBUTES: [u8; 30] = *b"A\x1D\0\0\0riscv\0\x01\x13\0\0\0\x05rv64_zba_zcb\0";
+
+/// Where the file keeps the instruction at 100B0, the names of its sections, and the section header
+/// of these names.
+const INSTRUCTION: usize = 0x210;
+
+const NAMES: usize = 0x260;
+
+const NAMES_HEADER: usize = 0x3C8;
+
+/// `sh1add x5, x6, x7`, and `c.lbu x8, 0(x8)` with zeros after it.
+const EXTENDED: [[u8; 4]; 2] = [[0xB3, 0x22, 0x73, 0x20], [0x00, 0x80, 0, 0]];
+
+/// An instruction of an extension is illegal, unless the file names the extension.
+#[test]
+fn instructions_of_extensions(rt: HostRuntime) -> Result<(), Fail> {
+    let alloc = rt.alloc();
+    for word in EXTENDED {
+        let mut file = FILE;
+        file[INSTRUCTION..INSTRUCTION + 4].copy_from_slice(&word);
+        let image = Image::parse(alloc, Vec::from_slice(alloc, &file)?)?;
+        holds(
+            &rt,
+            ends_so(alloc, &image, (0x100B0, Trap::Illegal, 2, 0x7FFF_0000)),
+        );
+        file[NAMES..NAMES + 30].copy_from_slice(&ATTRIBUTES);
+        file[NAMES_HEADER + 4..NAMES_HEADER + 8].copy_from_slice(&0x7000_0003_u32.to_le_bytes());
+        let image = Image::parse(alloc, Vec::from_slice(alloc, &file)?)?;
+        holds(
+            &rt,
+            ends_so(alloc, &image, (0x100B0, Trap::Unsupported, 2, 0x7FFF_0000)),
+        );
+    }
     Ok(())
 }

@@ -10,6 +10,7 @@ use rv_machine::Regions;
 use std::alloc::{AllocError, Global};
 use std::process::Abort;
 use std::test::Fail;
+use test_asserts::holds;
 use walk_trace::trace;
 
 /// The block of row 1: a return.
@@ -112,7 +113,10 @@ fn a_return_leaves(rt: HostRuntime) -> Result<(), Fail> {
     let alloc = rt.alloc();
     let file = row_file(alloc, 1, 0).ok().ok_or("no memory")?;
     let text = trace_with(alloc, file, &[RETURN], &[], 10).ok_or("no trace")?;
-    assert!(rt; text.as_slice() == b"at 0000000000010000\nout return\nend left\n".as_slice());
+    holds(
+        &rt,
+        text.as_slice() == b"at 0000000000010000\nout return\nend left\n".as_slice(),
+    );
     Ok(())
 }
 
@@ -121,7 +125,7 @@ fn a_loop_goes_on(rt: HostRuntime) -> Result<(), Fail> {
     let alloc = rt.alloc();
     let file = row_file(alloc, 6, 0).ok().ok_or("no memory")?;
     let text = trace_with(alloc, file, &[ENTRY, LOOP, EXIT], &EDGES, 5).ok_or("no trace")?;
-    assert!(rt; text.as_slice() == LOOP_TRACE);
+    holds(&rt, text.as_slice() == LOOP_TRACE);
     Ok(())
 }
 
@@ -136,6 +140,9 @@ fn a_trap_ends(rt: HostRuntime) -> Result<(), Fail> {
         }
     }
     let text = trace_with(alloc, file, &[RETURN], &[], 10).ok_or("no trace")?;
-    assert!(rt; text.as_slice() == b"at 0000000000010000\nend trap Ecall\n".as_slice());
+    holds(
+        &rt,
+        text.as_slice() == b"at 0000000000010000\nend trap Ecall\n".as_slice(),
+    );
     Ok(())
 }

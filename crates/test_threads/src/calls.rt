@@ -2,14 +2,15 @@
 
 use parallel::{for_each_chunk_mut, map_indices};
 use std::test::Fail;
+use test_asserts::same;
 
 #[test]
 fn results_in_order(rt: HostRuntime) -> Result<(), Fail> {
     for count in [0, 1, 2, 3, 4, 64] {
         let squares = map_indices(&rt, rt.alloc(), count, &|i: usize| i.wrapping_mul(i))?;
-        assert_eq!(rt; squares.len(), count);
+        same(&rt, &squares.len(), &count);
         for i in 0..count {
-            assert_eq!(rt; squares.get(i), Some(&i.wrapping_mul(i)));
+            same(&rt, &squares.get(i), &Some(&i.wrapping_mul(i)));
         }
     }
     Ok(())
@@ -33,7 +34,7 @@ fn each_place_once(rt: HostRuntime) -> Result<(), Fail> {
             },
         );
         for i in 0..10usize {
-            assert_eq!(rt; numbers.get(i), Some(&(101 * i)));
+            same(&rt, &numbers.get(i), &Some(&(101 * i)));
         }
     }
     Ok(())

@@ -11,6 +11,7 @@ use core_state::{Job, PlaceEnd, ShardKind};
 use std::alloc::Global;
 use std::process::Abort;
 use std::test::Fail;
+use test_asserts::{holds, same};
 
 /// A program with a return and a jump through a table to it.
 #[derive(Drop)]
@@ -105,11 +106,11 @@ fn works_beside<R: Abort>(rt: &R, board: &Board<Task>, seat: &mut Seat<Task>)
         kind: ShardKind::Starts,
         shard: 3,
     };
-    assert_eq!(rt; seat.want(board, 0xC0), Err(busy));
-    assert_eq!(rt; seat.want(board, 0x140), Ok(true));
-    assert_eq!(rt; seat.want(board, 0x140), Ok(false));
-    assert_eq!(rt; seat.has_start(board, 0x140), Ok(true));
-    assert_eq!(rt; seat.start_behind(board, 0x13F), Ok(None));
+    same(rt, &seat.want(board, 0xC0), &Err(busy));
+    same(rt, &seat.want(board, 0x140), &Ok(true));
+    same(rt, &seat.want(board, 0x140), &Ok(false));
+    same(rt, &seat.has_start(board, 0x140), &Ok(true));
+    same(rt, &seat.start_behind(board, 0x13F), &Ok(None));
 }
 
 // Row 24, its part on a board.
@@ -127,7 +128,7 @@ fn a_held_shard_is_busy(rt: HostRuntime) -> Result<(), Fail> {
     first.let_go(&board, held);
     let seat = first.join(&board, second);
     let state = board.close(rt.alloc(), seat)?;
-    assert_eq!(rt; state.start(0xC0), None);
-    assert!(rt; state.start(0x140).is_some());
+    same(&rt, &state.start(0xC0), &None);
+    holds(&rt, state.start(0x140).is_some());
     Ok(())
 }

@@ -7,6 +7,7 @@ use std::process::Abort;
 use std::test::Fail;
 use std::thread::Threads;
 use std::{mem, thread};
+use test_asserts::same;
 use turn_slots::{Fits, Hold, Taken, TurnSeat, Turns};
 
 // Each value fits each slot.
@@ -66,11 +67,11 @@ fn taken_while_held<R: Abort>(rt: &R, turns: &Slots, first: &mut Seat, second: &
     let Ok(three) = first.take(turns, 3) else {
         panic!(rt; "no seat holds 3")
     };
-    assert_eq!(rt; three.value, 13);
-    assert_eq!(rt; try_once(turns, second, 3), Some(Taken { slot: 3 }));
-    assert_eq!(rt; try_once(turns, second, 5), None);
+    same(rt, &three.value, &13);
+    same(rt, &try_once(turns, second, 3), &Some(Taken { slot: 3 }));
+    same(rt, &try_once(turns, second, 5), &None);
     first.give(turns, three);
-    assert_eq!(rt; try_once(turns, second, 3), None);
+    same(rt, &try_once(turns, second, 3), &None);
 }
 
 // Row 24, its part on turns.
@@ -82,9 +83,10 @@ fn two_seats_take_turns(rt: HostRuntime) -> Result<(), Fail> {
     taken_while_held(&rt, &turns, &mut first, &mut second);
     let seat = first.join(&turns, second);
     let values = turns.close(rt.alloc(), seat)?;
-    assert_eq!(rt;
-        values.as_slice(),
-        [10, 11, 12, 13, 14, 15, 16, 17].as_slice()
+    same(
+        &rt,
+        &values.as_slice(),
+        &[10, 11, 12, 13, 14, 15, 16, 17].as_slice(),
     );
     Ok(())
 }
@@ -240,7 +242,11 @@ fn threads_keep_every_value(rt: HostRuntime) -> Result<(), Fail> {
     let seat = stir_in_eight(&rt, &turns, seat);
     let mut values = turns.close(rt.alloc(), seat)?;
     values.sort()?;
-    assert_eq!(rt; values.as_slice(), [0, 1, 2, 3, 4, 5, 6, 7].as_slice());
+    same(
+        &rt,
+        &values.as_slice(),
+        &[0, 1, 2, 3, 4, 5, 6, 7].as_slice(),
+    );
     Ok(())
 }
 
@@ -256,6 +262,6 @@ fn turns_are_shared_and_seats_are_sent(rt: HostRuntime) -> Result<(), Fail> {
     let hold = sent(hold);
     seat.give(&turns, hold);
     let values = turns.close(rt.alloc(), seat)?;
-    assert_eq!(rt; values.as_slice(), [7].as_slice());
+    same(&rt, &values.as_slice(), &[7].as_slice());
     Ok(())
 }

@@ -11,6 +11,7 @@ use std::sync::Wait;
 use std::test::Fail;
 use std::thread::{Threads, join};
 use steal_pool::{Deques, Hand, Memory, Names, Pool, Round, Tried, first_of};
+use test_asserts::{holds, holds_at, same};
 
 /// How many names each thread puts.
 const PUTS: u64 = 300;
@@ -55,7 +56,7 @@ fn marked(rt: &impl Abort, marks: &mut Vec<bool>, keys: &[u64]) {
     for key in keys {
         let at = *key as usize;
         assert!(rt; at < marks.len(), "no such name was put: {at}");
-        assert!(rt; !marks[at], "a name was given twice: {at}");
+        holds_at(rt, &at, !marks[at]);
         marks[at] = true;
     }
 }
@@ -167,20 +168,23 @@ fn rounds(rt: HostRuntime) -> Result<(), Fail> {
     let five = Tried::Got { name: parse(5) };
     let six = Tried::Got { name: parse(6) };
     let (beaten, empty) = (Tried::Beaten, Tried::Empty);
-    assert_eq!(rt;
-        round_over([empty, five, six], 0),
-        Round::Got { name: parse(5) }
+    same(
+        &rt,
+        &round_over([empty, five, six], 0),
+        &Round::Got { name: parse(5) },
     );
-    assert_eq!(rt;
-        round_over([empty, five, six], 2),
-        Round::Got { name: parse(6) }
+    same(
+        &rt,
+        &round_over([empty, five, six], 2),
+        &Round::Got { name: parse(6) },
     );
-    assert_eq!(rt;
-        round_over([five, empty, beaten], 1),
-        Round::Got { name: parse(5) }
+    same(
+        &rt,
+        &round_over([five, empty, beaten], 1),
+        &Round::Got { name: parse(5) },
     );
-    assert_eq!(rt; round_over([empty, beaten, empty], 1), Round::Again);
-    assert_eq!(rt; round_over([empty, empty, empty], 1), Round::Dry);
+    same(&rt, &round_over([empty, beaten, empty], 1), &Round::Again);
+    same(&rt, &round_over([empty, empty, empty], 1), &Round::Dry);
     Ok(())
 }
 
@@ -189,7 +193,7 @@ fn put_all<R: Abort>(rt: &R, hand: &mut Hand, keys: &[u64])
     ensures { IsSameHand hand.old hand.new }
 {
     for key in keys {
-        assert_eq!(rt; hand.put(parse(*key)), Ok(()));
+        same(rt, &hand.put(parse(*key)), &Ok(()));
     }
 }
 
@@ -205,11 +209,11 @@ fn taken_in_turn<R: Threads + Wait + Abort + Sync>(
     ensures { IsSameHand zero result.0 × IsSameHand one result.1 }
 {
     let mut zero = zero;
-    assert_eq!(rt; zero.take(rt, pool), None);
+    same(rt, &zero.take(rt, pool), &None);
     put_all(rt, &mut zero, &[1, 2, 3]);
     let (one, taken) = first_there(rt, pool, one);
-    assert_eq!(rt; taken, Some(parse(1)));
-    assert_eq!(rt; zero.take(rt, pool), Some(parse(2)));
+    same(rt, &taken, &Some(parse(1)));
+    same(rt, &zero.take(rt, pool), &Some(parse(2)));
     (zero, one)
 }
 
@@ -223,7 +227,7 @@ fn row_25(rt: HostRuntime) -> Result<(), Fail> {
     let Ok(left) = left_of_two(rt.alloc(), pool, zero, one) else {
         panic!(rt; "no memory");
     };
-    assert_eq!(rt; left.as_slice(), [parse(3)].as_slice());
+    same(&rt, &left.as_slice(), &[parse(3)].as_slice());
     Ok(())
 }
 
@@ -271,7 +275,7 @@ fn all_are_accounted_for(rt: HostRuntime) -> Result<(), Fail> {
         marked(&rt, &mut marks, &[name.key]);
     }
     for mark in marks.as_slice() {
-        assert!(rt; *mark, "a name is lost");
+        holds(&rt, *mark);
     }
     Ok(())
 }

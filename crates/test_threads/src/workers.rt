@@ -11,7 +11,8 @@ use std::process::Abort;
 use std::sync::Wait;
 use std::test::Fail;
 use std::thread::Threads;
-use test_gates::{Counts, Meeting, Robbery};
+use test_asserts::{holds, same};
+use test_gates::{Counts, Crowd, Meeting, Robbery};
 use test_programs::{
     Sample, Slot, cut_table, row_6, row_8, row_9, row_10, row_12, row_17, table_jump,
 };
@@ -63,11 +64,11 @@ fn same_starts(rt: &impl Abort, one: &State, other: &State) {
     let mut at = None;
     for _ in 0..MANY {
         let next = one.start_after(at);
-        assert!(rt; next == other.start_after(at), "another start");
+        holds(rt, next == other.start_after(at));
         let Some(s) = next else {
             return;
         };
-        assert!(rt; one.start(s) == other.start(s), "another mark");
+        holds(rt, one.start(s) == other.start(s));
         at = next;
     }
 }
@@ -77,11 +78,11 @@ fn same_ends(rt: &impl Abort, one: &State, other: &State) {
     let mut at = None;
     for _ in 0..MANY {
         let next = one.end_after(at);
-        assert!(rt; next == other.end_after(at), "another end");
+        holds(rt, next == other.end_after(at));
         let Some(k) = next else {
             return;
         };
-        assert!(rt; one.near(k) == other.near(k), "another near start");
+        holds(rt, one.near(k) == other.near(k));
         at = next;
     }
 }
@@ -91,15 +92,12 @@ fn same_terminators(rt: &impl Abort, one: &State, other: &State) {
     let mut at = None;
     for _ in 0..MANY {
         let next = one.term_after(at);
-        assert!(rt; next == other.term_after(at), "another terminator");
+        holds(rt, next == other.term_after(at));
         let Some(k) = next else {
             return;
         };
-        assert!(rt;
-            one.has_returned(k) == other.has_returned(k),
-            "another status"
-        );
-        assert!(rt; one.done(k) == other.done(k), "another mark");
+        holds(rt, one.has_returned(k) == other.has_returned(k));
+        holds(rt, one.done(k) == other.done(k));
         at = next;
     }
 }
@@ -113,7 +111,7 @@ fn crews_agree<R: Threads + Wait + Abort + Sync>(
     let one = build_alone(alloc, code, code.seeds())?;
     for workers in CREWS {
         let left = work(rt, alloc, code, code.seeds(), workers, &OpenGate)?;
-        assert!(rt; left.left(code, code.seeds()).is_none(), "work is left");
+        holds(rt, left.left(code, code.seeds()).is_none());
         let state = build(rt, alloc, code, code.seeds(), workers, &OpenGate)?;
         same_starts(rt, &one, &state);
         same_ends(rt, &one, &state);
@@ -149,9 +147,9 @@ fn two_workers_meet(rt: HostRuntime) -> Result<(), Fail> {
     let code = row_5(rt.alloc());
     let gate = Meeting::new();
     let state = build(&rt, rt.alloc(), &code, code.seeds(), 2, &gate)?;
-    assert!(rt; gate.both_came());
-    assert_eq!(rt; state.near(0), Some(0));
-    assert_eq!(rt; state.near(4), Some(4));
+    holds(&rt, gate.both_came());
+    same(&rt, &state.near(0), &Some(0));
+    same(&rt, &state.near(4), &Some(4));
     Ok(())
 }
 
@@ -163,7 +161,7 @@ fn a_worker_steals(rt: HostRuntime) -> Result<(), Fail> {
     let code = four_returns(rt.alloc());
     let gate = Robbery::of_edges();
     let state = build(&rt, rt.alloc(), &code, code.seeds(), 2, &gate)?;
-    assert!(rt; gate.took_place());
+    holds(&rt, gate.took_place());
     let one = build_alone(rt.alloc(), &code, code.seeds())?;
     same_ends(&rt, &one, &state);
     Ok(())
@@ -177,11 +175,11 @@ fn workers_count(rt: HostRuntime) -> Result<(), Fail> {
     for workers in CREWS {
         let gate = Counts::new();
         build(&rt, rt.alloc(), &code, code.seeds(), workers, &gate)?;
-        assert_eq!(rt; gate.ended(), workers);
-        assert!(rt; gate.fit());
+        same(&rt, &gate.ended(), &workers);
+        holds(&rt, gate.fit());
         let put = gate.put().saturating_add(4);
-        assert!(rt; gate.from_deques() <= put, "a name was never put");
-        assert!(rt; gate.made() >= 8, "work was not counted");
+        holds(&rt, gate.from_deques() <= put);
+        holds(&rt, gate.made() >= 8);
     }
     Ok(())
 }
@@ -190,6 +188,71 @@ fn workers_count(rt: HostRuntime) -> Result<(), Fail> {
 #[test]
 fn the_open_gate_holds_nobody(rt: HostRuntime) -> Result<(), Fail> {
     OpenGate.before(1, WorkKind::Parse, 0);
-    assert_eq!(rt; OpenGate, OpenGate);
+    same(&rt, &OpenGate, &OpenGate);
     Ok(())
+}
+
+/// How often workers try to come to a shard together.
+const RUNS: u32 = 1000;
+
+static SHORT_RETURNS: [Slot; 31] = [
+    Some((2, Flow::Return)),
+    None,
+    Some((2, Flow::Return)),
+    None,
+    Some((2, Flow::Return)),
+    None,
+    Some((2, Flow::Return)),
+    None,
+    Some((2, Flow::Return)),
+    None,
+    Some((2, Flow::Return)),
+    None,
+    Some((2, Flow::Return)),
+    None,
+    Some((2, Flow::Return)),
+    None,
+    Some((2, Flow::Return)),
+    None,
+    Some((2, Flow::Return)),
+    None,
+    Some((2, Flow::Return)),
+    None,
+    Some((2, Flow::Return)),
+    None,
+    Some((2, Flow::Return)),
+    None,
+    Some((2, Flow::Return)),
+    None,
+    Some((2, Flow::Return)),
+    None,
+    Some((2, Flow::Return)),
+];
+
+/// Sixteen functions of one return each, whose starts lie in one shard, which has 64 bytes.
+fn one_shard(alloc: Global) -> Sample<'static> {
+    Sample {
+        alloc,
+        slots: &SHORT_RETURNS,
+        targets: &[],
+        seeds: &[0, 2, 4, 6, 8, 10, 12, 14, 16, 18, 20, 22, 24, 26, 28, 30],
+    }
+}
+
+/// A name at whose work tries were lost is put off, and found again: where one was put off, no work
+/// is left. Workers that drop it leave its work to be finished. All starts of this program lie in
+/// one shard, so workers are in each other's way; how often depends on the system, so they try until
+/// a name was put off.
+#[test]
+fn names_put_off_are_found_again(rt: HostRuntime) -> Result<(), Fail> {
+    let code = one_shard(rt.alloc());
+    for _ in 0..RUNS {
+        let gate = Crowd::new();
+        let state = work(&rt, rt.alloc(), &code, code.seeds(), 16, &gate)?;
+        holds(&rt, state.left(&code, code.seeds()).is_none());
+        if gate.put() > 0 && gate.lost() >= 3 {
+            return Ok(());
+        }
+    }
+    Err(Fail::from("no name was put off"))
 }

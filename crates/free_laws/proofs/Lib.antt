@@ -1,0 +1,10 @@
+mod Sources
+mod Reading
+mod Writing
+mod OneStep
+mod LiveFrom
+mod Ends
+mod Twins
+mod Forever
+mod Keeping
+mod ByMask
