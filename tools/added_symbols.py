@@ -1,4 +1,4 @@
-"""Writes a copy of an ELF file with further function symbols, in which nothing else changes.
+"""Writes a copy of an ELF file with further function symbols and declared jump tables, in which nothing else changes.
 
 The tables that grow, and the section headers, are written behind the end of the file; all that was there keeps its
 place. So what is loaded, and where, stays as it was.
@@ -11,10 +11,13 @@ import os
 import shutil
 import struct
 import tempfile
-from typing import Iterable, Iterator, List, NamedTuple, Tuple
+from typing import Iterable, Iterator, List, NamedTuple, Optional, Tuple
 
+import architecture
+import declared_tables
 from cfg_report import ReportError
-from elf_file import ALLOC, SECTION_SIZE, STRTAB, SYMBOL_SIZE, SYMTAB, Header, Memory
+from declared_tables import Additions
+from elf_file import ALLOC, PROGBITS, SECTION_SIZE, STRTAB, SYMBOL_SIZE, SYMTAB, Header, Memory
 
 LARGEST = 64 << 20
 MOST_SECTIONS = 0xFF00
@@ -29,9 +32,17 @@ class Entry(NamedTuple):
     size: int = 0
 
 
-def with_symbols(elf: Memory, entries: Iterable[Entry]) -> bytes:
-    """The bytes of a file with function symbols added to its symbol table, or with a table of them where it has none."""
+def with_symbols(elf: Memory, entries: Iterable[Entry], named: Optional[str] = None, tables: Optional[Additions] = None) -> bytes:
+    """The bytes of a file with function symbols added to its symbol table, or with a table of them where it has none; with
+    attributes that name this architecture, if one is given; and with declared jump tables."""
     copy = _Copy(elf)
+    if tables is not None:
+        _declare(copy, elf, tables)
+    if named is not None:
+        attributes = next((section.index for section in elf.sections if section.kind == architecture.KIND), None)
+        if attributes is None:
+            attributes = copy.new(architecture.NAME, architecture.KIND, 1, 0, 0)
+        copy.put(attributes, architecture.section(named), 1)
     table = next((section for section in elf.sections if section.kind == SYMTAB), None)
     strings = copy.strings_of(table)
     symbols = elf.contents(table) if table else bytes(SYMBOL_SIZE)
@@ -58,6 +69,16 @@ def with_symbols(elf: Memory, entries: Iterable[Entry]) -> bytes:
     return copy.bytes()
 
 
+def _declare(copy: "_Copy", elf: Memory, tables: Additions) -> None:
+    """Adds records before those that the file has, since the first one of a jump counts, and the tables of some of them."""
+    before = next((section for section in elf.sections if section.kind == declared_tables.KIND), None)
+    index = before.index if before else copy.new(declared_tables.NAME, declared_tables.KIND, 8, 32, 0)
+    copy.put(index, tables.records + (elf.contents(before) if before else b""), 8)
+    if tables.copies:
+        index = copy.new(declared_tables.COPIES, PROGBITS, 8, 8, 0, tables.address)
+        copy.put(index, tables.copies, 8)
+
+
 class _Copy:
     """A copy of a file whose section headers can be changed, and which grows at its end."""
 
@@ -76,9 +97,10 @@ class _Copy:
         strings = self._elf.sections[table.link]
         return strings if strings.kind == STRTAB else None
 
-    def new(self, name: bytes, kind: int, alignment: int, entry_size: int, info: int) -> int:
-        """A further section header, without contents."""
-        header = bytearray(struct.pack("<IIQQQQIIQQ", 0, kind, 0, 0, 0, 0, 0, info, alignment, entry_size))
+    def new(self, name: bytes, kind: int, alignment: int, entry_size: int, info: int, address: Optional[int] = None) -> int:
+        """A further section header, without contents: of data that can only be read, if it has an address."""
+        flags = 0 if address is None else ALLOC
+        header = bytearray(struct.pack("<IIQQQQIIQQ", 0, kind, flags, address or 0, 0, 0, 0, info, alignment, entry_size))
         self._headers.append(header)
         self._new.append((len(self._headers) - 1, name))
         return len(self._headers) - 1
@@ -89,8 +111,9 @@ class _Copy:
     def put(self, index: int, contents: bytes, alignment: int) -> None:
         """Gives a section new contents, behind the end of the file."""
         flags, = struct.unpack_from("<Q", self._headers[index], 8)
-        if flags & ALLOC:
-            raise ReportError(f"{self._elf.path}: its table of symbols or of their names is loaded, and cannot grow")
+        if flags & ALLOC and index < len(self._elf.sections):
+            what = "table of symbols, of their names or of jump tables"
+            raise ReportError(f"{self._elf.path}: its {what} is loaded, and cannot grow")
         struct.pack_into("<QQ", self._headers[index], 24, self._place(alignment), len(contents))
         self._tail += contents
 

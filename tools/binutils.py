@@ -59,6 +59,16 @@ def code_sections(path):
     return {index: section for index, flags, section in _sections(path) if "X" in flags}
 
 
+def declaring_sections(path):
+    """The sections of the type 8CF60001, which declare jump tables, in the order of the table. Of what stands in none of the
+    types that readelf knows it prints how far behind 80000000 the type is, where the types of programs begin."""
+    for line in output(READELF, "-SW", path).splitlines():
+        match = re.match(r"\s*\[\s*\d+\]\s.*?\s+LOUSER\+0x0*cf60001\s+([0-9a-f]{16}) ([0-9a-f]+) ([0-9a-f]+) ", line)
+        if match:
+            start, offset, size = (int(text, 16) for text in match.groups())
+            yield Section(range(start, start + size), offset)
+
+
 def read_only_sections(path):
     """The sections that are read-only data, PROGBITS with ALLOC and without WRITE, in the order of the table."""
     return [section for _, flags, section in _sections(path) if "W" not in flags]

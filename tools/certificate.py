@@ -15,7 +15,7 @@ import subprocess
 import sys
 from typing import BinaryIO, Dict, Iterator, List, NamedTuple, NoReturn, Optional, Set, Tuple
 
-from cfg_report import TOP, Block, Edge, ReportError
+from cfg_report import Block, Edge, ReportError, program_of
 from listing import Flow, Listing
 from pattern_tables import Table, Tables, cuts
 
@@ -67,7 +67,7 @@ def opened(path: Optional[str], elf: str) -> Iterator[BinaryIO]:
         with open(path, "rb") as stream:
             yield stream
     else:
-        program = os.environ.get("CFG_CHECK") or os.path.join(TOP, "bin", "cfg_check")
+        program = program_of("cfg_check")
         with subprocess.Popen([program, "make", elf], stdout=subprocess.PIPE) as run:
             assert run.stdout is not None
             yield run.stdout  # type: ignore[misc]

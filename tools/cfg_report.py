@@ -11,12 +11,13 @@ For other scripts there are two ways to read. `read(stream)` gives the heading, 
 registers of each function, and the end of a report one by one, and keeps none of them, so that a report of any size can be read. `load(stream)` keeps all
 of them in one `Report`. Both raise `ReportError`, with the number of the line, where the text is no report by
 docs/REPORT.md. `opened(path)` gives the stream: of a report, of standard input for `-`, or of what `cfg` says of an ELF
-file. Where another kind than `graph` is wanted of an ELF file, it is named.
+file. Where another kind than `graph` is wanted of an ELF file, it is named. `write(report, file)` writes a report.
 """
 
 from __future__ import annotations
 
 import contextlib
+import io
 import os
 import re
 import subprocess
@@ -381,6 +382,9 @@ def read(stream: BinaryIO) -> Iterator[Item]:
 
 # ---- whole reports
 
+# What gives the addresses of a name, if there is something: a report keeps one name of each function, and a file may have more.
+Names = Optional[Callable[[str], Set[int]]]
+
 
 class Report:
     """A whole report, of its parts. What its kind leaves out is empty."""
@@ -429,9 +433,9 @@ class Report:
             raise ReportError(f"this is a report of kind {self.kind}, and one of kind {' or '.join(kinds)} is needed")
         return self
 
-    def function(self, wanted: str) -> Function:
+    def function(self, wanted: str, named: Names = None) -> Function:
         """The function of this name, as the report writes it or as text, or at this hexadecimal address."""
-        return find_function(self.functions, wanted)
+        return find_function(self.functions, wanted, named)
 
     def problems(self) -> Iterator[str]:
         """What does not fit together in a report of kind graph."""
@@ -442,9 +446,12 @@ class Report:
             yield from _wrong_statuses(self)
 
 
-def find_function(functions: List[Function], wanted: str) -> Function:
-    """The one function of this name or at this address."""
+def find_function(functions: List[Function], wanted: str, named: Names = None) -> Function:
+    """The one function of this name, or with this further name, or at this address."""
     found = [function for function in functions if _is_named(function, wanted)]
+    if not found and named is not None:
+        places = named(wanted)
+        found = [function for function in functions if function.entry in places]
     if not found and re.fullmatch(r"(0x)?[0-9a-fA-F]{1,16}", wanted):
         found = [f for f in functions if f.entry == int(wanted, 16)]
     if len(found) > 1:
@@ -463,6 +470,32 @@ def _is_named(function: Function, wanted: str) -> bool:
 def load(stream: BinaryIO) -> Report:
     """A whole report."""
     return Report(read(stream))
+
+
+def write(report: Report, file: BinaryIO) -> None:
+    """Writes a report, of any kind, as `cfg` prints one: what `load` reads of it is the same report."""
+    for line in lines(report):
+        file.write(line.encode() + b"\n")
+
+
+def lines(report: Report) -> Iterator[str]:
+    """The lines of a report."""
+    yield from (FIRST_LINE.decode().rstrip(), f"entry {address(report.entry)}")
+    if report.kind in ("graph", "functions", "live"):
+        yield f"{'lives' if report.kind == 'live' else 'functions'} {len(report.functions)}"
+        for function in report.functions:
+            status = "may-return" if function.may_return else "no-return"
+            yield f"function {address(function.entry)} {status} {len(function.blocks)} {name_field(function.name)}"
+            masks = report.lives.get(function.entry, {})
+            for start in function.blocks:
+                yield f"live {address(start)} {masks[start]:08x}" if report.kind == "live" else f"in {address(start)}"
+    if report.kind in ("graph", "blocks"):
+        yield f"blocks {len(report.blocks)}"
+        yield from (f"block {address(one.start)} {address(one.end)} {one.kind}" for one in report.blocks.values())
+    if report.kind in ("graph", "edges"):
+        yield f"edges {len(report.edges)}"
+        yield from (f"edge {address(one.source)} {address(one.to)} {one.kind}" for one in report.edges)
+    yield "end"
 
 
 def _unknown_places(report: Report) -> Iterator[str]:
@@ -533,6 +566,38 @@ def _wrong_statuses(report: Report) -> Iterator[str]:
             yield f"the function at {function.entry:x} is said to be {status}, and is not"
 
 
+# ---- reports of a file that grows
+
+
+class Growing:
+    """Reports that `cfg` prints, one after the other, of a file to which entries are added. Most lines of each stand in those
+    before: only the others are read. They are not checked, and functions have no bodies."""
+
+    _FUNCTION = re.compile(rb"^function ([0-9a-f]{16}) (may|no)-return \d+ ", re.MULTILINE)
+
+    def __init__(self) -> None:
+        self._blocks: Dict[bytes, Block] = {}
+        self._edges: Dict[bytes, Edge] = {}
+
+    def read(self, stream: BinaryIO) -> Report:
+        """The next report, of kind graph."""
+        text = stream.read()
+        places = text.find(b"\nblocks "), text.find(b"\nedges ")
+        if not text.startswith(FIRST_LINE) or not text.endswith(b"\nend\n") or not 0 < places[0] < places[1]:
+            # What is wrong with it is said as of any report.
+            return load(io.BytesIO(text)).want("graph")
+        report = Report([Heading(int(text[len(FIRST_LINE) + 6:len(FIRST_LINE) + 22], 16)), End("graph")])
+        report.functions = [Function(int(entry, 16), status == b"may", None, ()) for entry, status in self._FUNCTION.findall(text[:places[0] + 1])]
+        blocks, edges = text[places[0] + 1:places[1]].split(b"\n")[1:], text[places[1] + 1:-len("\nend\n")].split(b"\n")[1:]
+        for line in set(blocks).difference(self._blocks):
+            self._blocks[line] = Block(int(line[6:22], 16), int(line[23:39], 16), _KIND[line[40:]])
+        for line in set(edges).difference(self._edges):
+            self._edges[line] = Edge(int(line[5:21], 16), int(line[22:38], 16), _KIND[line[39:]])
+        report.blocks = {block.start: block for block in map(self._blocks.__getitem__, blocks)}
+        report.edges = list(map(self._edges.__getitem__, edges))
+        return report
+
+
 # ---- files, and what scripts have in common
 
 
@@ -542,11 +607,26 @@ def opened(path: str, program: Optional[str] = None, kind: str = "graph") -> Ite
     if path == "-":
         yield sys.stdin.buffer
     elif is_elf(path):
-        with _answer(path, program or os.environ.get("CFG") or os.path.join(TOP, "bin", "cfg"), kind) as stream:
+        with _answer(path, program or program_of("cfg"), kind) as stream:
             yield stream
     else:
         with open(path, "rb") as stream:
             yield stream
+
+
+# Whether a program may be built that is not, which takes hours: with the first word `--build` of any script.
+may_build = False
+
+
+def program_of(name: str) -> str:
+    """The command of a program: what the variable CFG names, or CFG_WALK or CFG_CHECK, or bin/NAME, if it is built."""
+    variable = os.environ.get(name.upper())
+    starter = os.path.join(TOP, "bin", name)
+    in_package = not os.path.isfile(os.path.join(TOP, "bin", "proved"))
+    if variable or may_build or in_package or os.access(os.path.join(TOP, "crates", name, "out", name), os.X_OK):
+        return variable or starter
+    how = f"{starter}, run once, proves and builds it, in one to two hours of processor time, as `--build` as the first word does here"
+    raise ReportError(f"{name} is not built: {how}; the variable {name.upper()} may name another one")
 
 
 def is_elf(path: str) -> bool:
@@ -577,8 +657,15 @@ def _answer(path: str, program: str, kind: str) -> Iterator[BinaryIO]:
 
 
 def run(main: Callable[[], int]) -> NoReturn:
-    """Runs a script and ends with its status. What is wrong with a file is one line on standard error, and status 2."""
+    """Runs a script and ends with its status. What is wrong with a file is one line on standard error, and status 2. With the
+    first word --build a program may be built that is not."""
+    global may_build
+    # bin/install gives the scripts other names.
+    sys.argv[0] = os.environ.get("CFG_SCRIPT") or sys.argv[0]
     name = os.path.basename(sys.argv[0])
+    if sys.argv[1:2] == ["--build"]:
+        may_build = True
+        del sys.argv[1]
     try:
         status = main()
         sys.stdout.flush()
@@ -601,11 +688,12 @@ def _told(name: str, why: str) -> int:
 
 @contextlib.contextmanager
 def naming(path: str) -> Iterator[None]:
-    """Puts the name of a file in front of what is wrong with it."""
+    """Puts the name of a file in front of what is wrong with it, once."""
     try:
         yield
     except ReportError as error:
-        raise ReportError(f"{'standard input' if path == '-' else path}: {error}") from None
+        name = "standard input" if path == "-" else path
+        raise error if str(error).startswith(f"{name}: ") else ReportError(f"{name}: {error}") from None
 
 
 def load_path(path: str) -> Report:
@@ -630,7 +718,7 @@ def main() -> int:
         for line in described_tables(elf, report):
             print(line)
         return 0
-    wrong = [] if words.edges or words.sure else list(report.problems())
+    wrong = [] if words.edges or words.sure or words.fold else list(report.problems())
     counts = f"{len(report.functions)} functions, {len(report.blocks)} blocks, {len(report.edges)} edges"
     if report.kind == "live":
         counts = f"{len(report.functions)} functions, {sum(map(len, report.lives.values()))} masks"

@@ -115,7 +115,11 @@ def rebuilt(report: Report, edges: Iterable[Edge], called: Iterable[int] = ()) -
         onward.setdefault(edge.source, []).append(edge)
     names = {function.entry: function.name for function in report.functions}
     names.update({entry: None for entry in called if entry not in names})
-    bodies = {entry: _body(entry, names, onward) for entry in names}
+    return _with_bodies(report, names, {entry: _body(entry, names, onward) for entry in names}, onward)
+
+
+def _with_bodies(report: Report, names: Dict[int, Optional[bytes]], bodies: Dict[int, Set[int]], onward: Dict[int, List[Edge]]) -> Report:
+    """A report with these functions, of the blocks that they have."""
     left = set().union(*bodies.values())
     new = Report(())
     new.entry, new.kind = report.entry, report.kind
@@ -126,6 +130,33 @@ def rebuilt(report: Report, edges: Iterable[Edge], called: Iterable[int] = ()) -
     for entry, name in sorted(names.items()):
         new.functions.append(Function(entry, entry in returning, name, tuple(sorted(bodies[entry]))))
     return new
+
+
+# Names that tools/add_entries gives to what may be no function: a case of a switch, a place where exceptions land, the place after
+# a call, code in a gap. All but the first name their address.
+_GUESS = re.compile(rb"case_.*_\d+|entry_(?:pad|behind|gap)_([0-9a-f]+)", re.DOTALL)
+
+
+def is_guess(function: Function) -> bool:
+    """Whether the name of a function says that it may be none."""
+    found = _GUESS.fullmatch(function.name or b"")
+    return found is not None and (found[1] is None or int(found[1], 16) == function.entry)
+
+
+def folded(report: Report) -> Report:
+    """The report without the functions whose names say that they may be none, unless one is called: their blocks belong to those that
+    lead to them, or else to the function before them."""
+    called = {edge.to for edge in report.edges if edge.kind == "call"} | {report.entry}
+    guesses = {function.entry for function in report.functions if is_guess(function) and function.entry not in called}
+    names = {function.entry: function.name for function in report.functions if function.entry not in guesses}
+    bodies = {entry: _body(entry, names, report.edges_from) for entry in names}
+    reached, rising = set().union(*bodies.values()), sorted(names)
+    for guess in sorted(guesses):
+        if guess not in reached:
+            holder = rising[max(bisect.bisect_right(rising, guess) - 1, 0)]
+            bodies[holder] |= _body(guess, names, report.edges_from)
+            reached |= bodies[holder]
+    return _with_bodies(report, names, bodies, report.edges_from)
 
 
 def _named(edge: Edge, bodies: Dict[int, Set[int]]) -> Edge:

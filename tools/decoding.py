@@ -6,7 +6,9 @@ from __future__ import annotations
 import functools
 from typing import NamedTuple, Optional
 
-from instructions import KEPT_BY_CALLS, Row, decoded, immediate, signed
+import extensions
+from extensions import NONE, Names
+from instructions import KEPT_BY_CALLS, STUB_BASE, STUB_LINK, Row, decoded, immediate, signed
 
 UNKNOWN = "?"
 CALLER_SAVED = frozenset(range(1, 32)) - KEPT_BY_CALLS
@@ -18,7 +20,7 @@ ENDS = (UNKNOWN, "ebreak", "mret", "sret")
 # whether it writes an integer register.
 FOLLOWED = frozenset((
     *"lui auipc jal jalr ebreak addi slti sltiu xori ori andi slli srli srai addiw slliw srliw sraiw".split(),
-    *"add sub sll slt sltu xor srl sra or and addw subw beq bne blt bge bltu bgeu".split(), *LOAD_SIZES, *STORES))
+    *"add sub sll slt sltu xor srl sra or and addw subw beq bne blt bge bltu bgeu sh1add sh2add sh3add".split(), *LOAD_SIZES, *STORES))
 
 
 class Insn(NamedTuple):
@@ -34,13 +36,24 @@ class Insn(NamedTuple):
     @property
     def goes_on(self) -> bool:
         """Whether control may go on to the instruction behind, if not at once, then after a call."""
-        return self.name not in ENDS and not (self.name in ("jal", "jalr") and self.rd == 0)
+        return self.name not in ENDS and not (self.name in ("jal", "jalr") and self.rd == 0) and not self.is_stub
+
+    @property
+    def is_stub(self) -> bool:
+        """Whether it is a JALR that jumps, unless it is paired, though it writes a register: the end of a stub."""
+        return self.name == "jalr" and (self.rd, self.rs1) == (STUB_LINK, STUB_BASE)
+
+    @property
+    def is_call(self) -> bool:
+        """Whether it is a call, as far as it alone says."""
+        return self.name in ("jal", "jalr") and self.rd != 0 and not self.is_stub
 
 
 @functools.lru_cache(maxsize=1 << 16)
-def decode(word: int) -> Insn:
-    """The instruction that a word of four bytes stands for, or one of two bytes, which is below 65536."""
-    found = decoded(word)
+def decode(word: int, names: Names = NONE) -> Insn:
+    """The instruction that a word of four bytes stands for, or one of two bytes, which is below 65536. The names are those of
+    the extensions that the file names; some are recognised without."""
+    found = extensions.decoded(word, names) if names else decoded(word)
     if found is not None:
         return _of_row(*found)
     # What is not known has two bytes by the reckoning of `cfg`.

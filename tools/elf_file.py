@@ -4,17 +4,19 @@
 from __future__ import annotations
 
 import bisect
+import functools
 import struct
 import zlib
-from typing import Dict, Iterator, List, NamedTuple, Optional, Tuple
+from typing import Dict, FrozenSet, Iterator, List, NamedTuple, Optional, Set, Tuple
 
+import architecture
 import names
-from cfg_report import ReportError, name_field
+from cfg_report import ReportError, name_field, read_name
 
 PROGBITS, SYMTAB, STRTAB, RELA, NOBITS = 1, 2, 3, 4, 8
 INIT_ARRAY, FINI_ARRAY, PREINIT_ARRAY = 14, 15, 16
 WRITE, ALLOC, EXECINSTR, THREADS, COMPRESSED = 0x1, 0x2, 0x4, 0x400, 0x800
-FUNC = 2
+FUNC, INDIRECT = 2, 10
 RELRO_SEGMENT = 0x6474E552
 # Relocations of a file that is loaded at its own addresses: what is put at the place is the addend, or the address of a
 # function that answers it.
@@ -96,8 +98,9 @@ class File:
         except (struct.error, zlib.error):
             raise ReportError(f"{self.path}: {section.name.decode('latin-1')} is packed, and broken") from None
 
-    def functions(self) -> Iterator[Function]:
-        """The function symbols that name code sections, in the order of the tables."""
+    def functions(self, kind: int = FUNC) -> Iterator[Function]:
+        """The function symbols that name code sections, in the order of the tables; or those of indirect functions, which
+        stand at what chooses one."""
         for table in self.headers:
             if table.kind != SYMTAB:
                 continue
@@ -105,8 +108,36 @@ class File:
             data = self.contents(table)
             for at in range(0, len(data) - SYMBOL_SIZE + 1, SYMBOL_SIZE):
                 name, info, _, section, value, size = struct.unpack_from("<IBBHQQ", data, at)
-                if info % 16 == FUNC and 0 < section < len(self.headers) and self.headers[section].is_code:
+                if info % 16 == kind and 0 < section < len(self.headers) and self.headers[section].is_code:
                     yield Function(value, size, _text(strings, name), section)
+
+    @functools.cached_property
+    def architecture(self) -> Optional[str]:
+        """The text of the architecture that the file names in its attributes, where it does."""
+        section = next((one for one in self.headers if one.kind == architecture.KIND), None)
+        return architecture.text_of(self.data[section.offset:section.offset + section.size]) if section else None
+
+    @functools.cached_property
+    def extensions(self) -> FrozenSet[str]:
+        """The extensions whose instructions are decoded, in lower case."""
+        return architecture.names(self.architecture or "")
+
+    @functools.cached_property
+    def relocated(self) -> Dict[int, int]:
+        """What relocations put into words of eight bytes when the file is loaded at its own addresses."""
+        return {place: addend for place, kind, addend in self._relocations() if kind == RELATIVE}
+
+    @functools.cached_property
+    def resolvers(self) -> Dict[int, int]:
+        """The functions that answer, when the file is loaded, which address is put into a word, by the word's address."""
+        return {place: addend for place, kind, addend in self._relocations() if kind == IRELATIVE}
+
+    def _relocations(self) -> Iterator[Tuple[int, int, int]]:
+        """The place, the kind and the addend of each relocation that the program has in memory."""
+        for section in self.headers:
+            if section.kind == RELA and section.flags & ALLOC:
+                data = self.data[section.offset:section.offset + section.size]
+                yield from struct.iter_unpack("<QQQ", data[:len(data) // 24 * 24])
 
 
 def _text(strings: bytes, at: int) -> bytes:
@@ -134,11 +165,15 @@ class Memory(File):
 
     def code_at(self, address: int) -> Optional[Header]:
         """The code section in which an instruction can stand at an address."""
+        start, end, last = self._last_code
+        if start <= address <= end - 2:
+            return None if address % 2 else last
         place = bisect.bisect_right(self._code_starts, address) - 1
-        if place < 0 or address % 2:
+        if place < 0 or address % 2 or address + 2 > self.code[place].end:
             return None
         found = self.code[place]
-        return found if address + 2 <= found.end else None
+        self._last_code = found.address, found.end, found
+        return found
 
     def is_code(self, address: int) -> bool:
         """Whether an instruction can stand at an address."""
@@ -197,12 +232,13 @@ class Memory(File):
                 raise ReportError(f"{self.path}: section {one.index} does not lie in the file")
         self.code = sorted((one for one in self.sections if one.is_code and one.size), key=lambda one: one.address)
         self._code_starts = [one.address for one in self.code]
+        # The section that was found last: most often it is the next one, too.
+        self._last_code: Tuple[int, int, Optional[Header]] = (1, 0, None)
         self.allocated = sorted((one for one in self.sections if one.flags & ALLOC and one.size
                                  and not (one.flags & THREADS and one.kind == NOBITS)), key=lambda one: one.address)
         self._starts = [one.address for one in self.allocated]
         self._relro = [(one.address, one.end) for one in self.sections if one.name.startswith(b".data.rel.ro")]
         self._relro += self._relro_segments()
-        self.relocated, self.resolvers = self._relocations()
 
     def _relro_segments(self) -> Iterator[Tuple[int, int]]:
         """The ranges that are read-only once the file is relocated."""
@@ -212,21 +248,6 @@ class Memory(File):
             kind, start, length = struct.unpack_from("<I12xQ16xQ", self.data, table + size * i)
             if kind == RELRO_SEGMENT:
                 yield start, start + length
-
-    def _relocations(self) -> Tuple[Dict[int, int], List[int]]:
-        """What relocations put into words of eight bytes, and the functions that answer an address when it is loaded."""
-        found: Dict[int, int] = {}
-        resolvers: List[int] = []
-        for section in self.sections:
-            if section.kind == RELA and section.flags & ALLOC:
-                data = self.data[section.offset:section.offset + section.size]
-                for at in range(0, len(data) - 23, 24):
-                    place, info, addend = struct.unpack_from("<QQQ", data, at)
-                    if info == RELATIVE:
-                        found[place] = addend
-                    elif info == IRELATIVE:
-                        resolvers.append(addend)
-        return found, resolvers
 
 
 # ---- places and names
@@ -269,6 +290,7 @@ class Elf(File):
         self.code = sorted(self._read_code())
         self.sections = sorted(self._read_sections())
         self._names = self._read_names()
+        self._by_name: Optional[Dict[str, Set[int]]] = None
         self._places = sorted(self._names)
         self.owners = owners(self.symbols(), self.code)
         self._owners = [start for start, _, _ in self.owners]
@@ -306,6 +328,29 @@ class Elf(File):
                 symbol = symbol._replace(size=after[0] - symbol.address)
             found.append(symbol)
         return found
+
+    @functools.cached_property
+    def all_names(self) -> Dict[int, List[str]]:
+        """All names of the functions at each address, as a report writes names, rising. A report has the first of them."""
+        found: Dict[int, Set[str]] = {}
+        for one in self.functions():
+            if one.name:
+                found.setdefault(one.address, set()).add(_shown(one.name))
+        return {address: sorted(every) for address, every in found.items()}
+
+    def aliases(self, address: int) -> List[str]:
+        """The names of the function at an address but the one that a report has."""
+        return self.all_names.get(address, [])[1:]
+
+    def addresses_of(self, wanted: str) -> Set[int]:
+        """The addresses of the functions that have a name, as a report writes it, as text, or demangled."""
+        if self._by_name is None:
+            self._by_name = {}
+            for address, every in self.all_names.items():
+                for name in every:
+                    for spelled in {name, names.shown(name), read_name(name.encode()).decode("utf-8", "replace")}:  # type: ignore[union-attr]
+                        self._by_name.setdefault(spelled, set()).add(address)
+        return self._by_name.get(wanted, set())
 
     def owner(self, address: int) -> Optional[Symbol]:
         """The function symbol in whose range an address lies."""

@@ -234,8 +234,9 @@ def frames(elf: Memory) -> List[Frame]:
     return [found[start] for start in sorted(found)]
 
 
-def landing_pads(elf: Memory, frame: Frame) -> List[Tuple[int, int, int]]:
-    """Where exceptions land that are thrown in a frame's code: each range of code with its place to land at."""
+def landing_pads(elf: Memory, frame: Frame, catching: bool = False) -> List[Tuple[int, int, int]]:
+    """Where exceptions land that are thrown in a frame's code: each range of code with its place to land at. With `catching`
+    only where something is caught, and not those that clean up and throw it on."""
     if frame.data is None:
         return []
     section = elf.section_at(frame.data)
@@ -243,12 +244,12 @@ def landing_pads(elf: Memory, frame: Frame) -> List[Tuple[int, int, int]]:
         raise ReportError(f"{elf.path}: the exception data at {frame.data:x} is in no section")
     reader = Reader(elf, elf.contents(section), section.address, frame.data - section.address)
     try:
-        return list(_read_pads(reader, frame))
+        return [(first, last, pad) for first, last, pad, action in _read_pads(reader, frame) if action or not catching]
     except Broken as error:
         raise ReportError(f"{elf.path}: {section.name.decode('latin-1')} is broken: {error}") from None
 
 
-def _read_pads(reader: Reader, frame: Frame) -> Iterator[Tuple[int, int, int]]:
+def _read_pads(reader: Reader, frame: Frame) -> Iterator[Tuple[int, int, int, int]]:
     start = reader.pointer(reader.number(1), frame.start)
     base = frame.start if start is None else start
     if reader.number(1) != OMITTED:
@@ -260,6 +261,6 @@ def _read_pads(reader: Reader, frame: Frame) -> Iterator[Tuple[int, int, int]]:
     reader.end = reader.at + length
     while reader.at < reader.end:
         first, size, pad = (reader.value(encoding) for _ in range(3))
-        reader.leb()
+        action = reader.leb()
         if pad:
-            yield frame.start + first, frame.start + first + size, base + pad
+            yield frame.start + first, frame.start + first + size, base + pad, action

@@ -9,9 +9,12 @@ from __future__ import annotations
 import random
 import re
 import struct
-from typing import Callable, Dict, List, NamedTuple, Optional, Sequence
+from typing import Callable, Dict, Iterator, List, NamedTuple, Optional, Sequence
 
 NULL, PROGBITS, SYMTAB, STRTAB, NOBITS = 0, 1, 2, 3, 8
+# The type of sections that declare jump tables, and a record of one.
+DECLARING = 0x8CF60001
+_RECORD = struct.Struct("<QQQII")
 WRITE, ALLOC, EXECINSTR = 1, 2, 4
 CODE = ALLOC | EXECINSTR
 CODE_AT, DATA_AT = 0x10000, 0x800000
@@ -211,9 +214,19 @@ _OPEN = 1024
 
 
 def table_entries(file: bytes) -> int:
-    """How many entries the jump tables of a file may have together, at the most."""
+    """How many entries the jump tables of a file may have together, at the most, but for those of files that are no whole ones."""
     bounded = sum(1 + (int.from_bytes(found[1], "little") >> 4) % 2048 for found in _BOUND.finditer(file))
-    return bounded + _OPEN * file.count(_JUMP)
+    return bounded + _OPEN * file.count(_JUMP) + sum(_declared_entries(file))
+
+
+def _declared_entries(file: bytes) -> Iterator[int]:
+    """How many entries each record of a file may give, at the most."""
+    table, count = int.from_bytes(file[40:48], "little"), int.from_bytes(file[60:62], "little")
+    for place in range(table, min(table + 64 * count, len(file) - 63), 64):
+        kind, offset, size = struct.unpack_from("<4xI16xQQ", file, place)
+        data = file[offset:offset + size] if kind == DECLARING else b""
+        for *_, entries_of_one, _ in _RECORD.iter_unpack(data[:len(data) // 32 * 32]):
+            yield min(entries_of_one, 65536, len(file))
 
 
 # ---- shapes
@@ -422,6 +435,34 @@ def wide_tables(rng: random.Random) -> bytes:
     return file_with(halves, some_symbols(rng, halves, rng.choice((0, 100))), data=data)
 
 
+def declared_tables(rng: random.Random) -> bytes:
+    """Tables that the file declares, by good records and wrong ones, of jumps and of other places, several of the same one."""
+    count, size = rng.choice((1, 3, 40)), rng.choice((8, 64, 2048))
+    halves: Halves = []
+    jumps: List[int] = []
+    for _ in range(count):
+        halves += rng.choice(([], table_jump(rng.choice((1, 7, None)), DATA_AT, 40), busy_code(rng, 3, 8)))
+        jumps.append(CODE_AT + 2 * len(halves))
+        halves += rng.choice((immediate(0x67, 0, 0, 15, 0), [0x8782], immediate(0x67, 0, 6, 28, 0), immediate(0x67, 0, 0, 15, 4), RETURN))
+    halves += RETURN * 8
+    data = struct.pack(f"<{size}I", *entries(rng, size, DATA_AT, 2 * len(halves)))
+
+    def section() -> Section:
+        found = b"".join(declared_record(rng, rng.choice(jumps), size) for _ in range(rng.choice((0, 1, count, 3 * count))))
+        flags, address = rng.choice(((0, 0), (0, 0), (ALLOC, 0x900000), (CODE, CODE_AT), (WRITE, TOP_ADDRESS - 8)))
+        return Section(DECLARING, flags, address, found + any_bytes(rng, rng.choice((0, 0, 31))))
+
+    sections = sections_of(halves, some_symbols(rng, halves, rng.choice((0, 30))), data=data)
+    return file_of([*sections, *(section() for _ in range(rng.choice((1, 1, 2, 5))))])
+
+
+def declared_record(rng: random.Random, jump: int, size: int) -> bytes:
+    """A record of a jump, most often of a table of words at some place of the data."""
+    base = DATA_AT + rng.choice((0, 0, 4, 4 * rng.randrange(size), 4 * size, 2, -4))
+    added = rng.choice((DATA_AT, DATA_AT, 0, rng.randrange(TOP_ADDRESS)))
+    return _RECORD.pack(jump + rng.choice((0, 0, 0, 2)), base, added, rng.choice((0, 1, 3, size, 65536, 2**32 - 1)), rng.choice((4, 4, 4, 8, 5)))
+
+
 def table_chain(rng: random.Random) -> bytes:
     """Tables each of which begins inside the one before, and whose entries lead to the next jump, so that a cut takes
     code away that has the table which made it."""
@@ -501,7 +542,7 @@ SHAPES: Dict[str, Callable[[random.Random], bytes]] = {
     make.__name__: make for make in (
         header_bits, any_bits, section_header_bits, cut_short, random_bytes, program_headers, odd_sections,
         joined_sections, many_sections, symbol_tables, names, code_of_random_halfwords, busy,
-        streams_of_both_parities, jump_tables, wide_tables, table_chain, ring_of_calls, deep_calls,
+        streams_of_both_parities, jump_tables, wide_tables, declared_tables, table_chain, ring_of_calls, deep_calls,
         calls_from_behind, symbols_on_nops, branch_ladder,
     )
 }

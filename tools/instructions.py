@@ -14,6 +14,9 @@ FLOATS = ("ft0 ft1 ft2 ft3 ft4 ft5 ft6 ft7 fs0 fs1 fa0 fa1 fa2 fa3 fa4 fa5 fa6 f
 ARGUMENTS = range(10, 18)
 # The word of `unimp`, csrrw x0, cycle, x0.
 UNIMP = 0xC0001073
+# The registers of `jalr t1, t3`, with which an entry of a procedure linkage table ends (RISC-V psABI). By this project's
+# profile such a JALR is a jump, though it writes a register: t1 is no link register, and nothing comes back to it.
+STUB_LINK, STUB_BASE = 6, 28
 # What a call leaves as it was: sp, gp, tp and the registers s0 to s11.
 KEPT_BY_CALLS = frozenset((2, 3, 4, 8, 9, *range(18, 28)))
 
@@ -39,7 +42,7 @@ fence 0f 0 - - |fence.i 0f 1 - - |csrrw 73 1 - - d,c,s|csrrs 73 2 - - d,c,s|csrr
 csrrwi 73 5 - - d,c,z|csrrsi 73 6 - - d,c,z|csrrci 73 7 - - d,c,z
 flw 07 2 - - D,i(s)|fld 07 3 - - D,i(s)|fsw 27 2 - - T,i(s)|fsd 27 3 - - T,i(s)
 """
-_ATOMIC = {"amoadd": 0, "amoswap": 1, "lr": 2, "sc": 3, "amoxor": 4, "amoor": 8, "amoand": 12, "amomin": 16, "amomax": 20,
+ATOMIC = {"amoadd": 0, "amoswap": 1, "lr": 2, "sc": 3, "amoxor": 4, "amoor": 8, "amoand": 12, "amomin": 16, "amomax": 20,
            "amominu": 24, "amomaxu": 28}
 # Of floats: the name, then funct7 of the form for single precision, funct3 and rs2; F is the precision.
 _FLOAT_ROWS = """
@@ -60,7 +63,8 @@ class Row(NamedTuple):
     operands: str
 
 
-def _row(name: str, opcode: int, funct3: str, funct7: str, rs2: str, operands: str) -> Row:
+def row(name: str, opcode: int, funct3: str, funct7: str, rs2: str, operands: str) -> Row:
+    """A row by the numbers in its fields."""
     mask, match = 0x7F, opcode
     for text, at, ones in ((funct3, 12, 7), (funct7, 25, 0x7F), (rs2, 20, 31)):
         if text != "-":
@@ -73,25 +77,25 @@ def _table() -> Dict[int, List[Row]]:
     rows = [Row("ecall", 0xFFFFFFFF, 0x73, ""), Row("ebreak", 0xFFFFFFFF, 0x100073, "")]
     for item in _ROWS.strip().replace("\n", "|").split("|"):
         name, opcode, *fields, operands = item.split(" ")
-        rows.append(_row(name, int(opcode, 16), *fields, operands))
-    for name, number in _ATOMIC.items():
+        rows.append(row(name, int(opcode, 16), *fields, operands))
+    for name, number in ATOMIC.items():
         for width, funct3 in (("w", "2"), ("d", "3")):
             rs2, operands = ("0", "d,(s)") if name == "lr" else ("-", "d,t,(s)")
-            row = _row(f"{name}.{width}", 0x2F, funct3, "-", rs2, operands)
-            rows.append(row._replace(mask=row.mask | 0xF8000000, match=row.match | number << 27))
+            found = row(f"{name}.{width}", 0x2F, funct3, "-", rs2, operands)
+            rows.append(found._replace(mask=found.mask | 0xF8000000, match=found.match | number << 27))
     for place, precision in enumerate("sd"):
         for item in _FLOAT_ROWS.strip().replace("\n", "|").split("|"):
             name, funct7, funct3, rs2, operands = item.split(" ")
-            rows.append(_row(name.replace("F", precision), 0x53, funct3, f"{int(funct7, 16) + place:x}", rs2, operands))
+            rows.append(row(name.replace("F", precision), 0x53, funct3, f"{int(funct7, 16) + place:x}", rs2, operands))
         for name, opcode in (("fmadd", 0x43), ("fmsub", 0x47), ("fnmsub", 0x4B), ("fnmadd", 0x4F)):
             rows.append(Row(f"{name}.{precision}", 0x0600007F, opcode | place << 25, "D,S,T,R"))
-    rows += [_row("fcvt.s.d", 0x53, "-", "20", "1", "D,S"), _row("fcvt.d.s", 0x53, "-", "21", "0", "D,S"),
-             _row("fmv.x.w", 0x53, "0", "70", "0", "d,S"), _row("fmv.w.x", 0x53, "0", "78", "0", "D,s"),
-             _row("fmv.x.d", 0x53, "0", "71", "0", "d,S"), _row("fmv.d.x", 0x53, "0", "79", "0", "D,s")]
-    found: Dict[int, List[Row]] = {}
-    for row in rows:
-        found.setdefault(row.match & 0x7F, []).append(row)
-    return found
+    rows += [row("fcvt.s.d", 0x53, "-", "20", "1", "D,S"), row("fcvt.d.s", 0x53, "-", "21", "0", "D,S"),
+             row("fmv.x.w", 0x53, "0", "70", "0", "d,S"), row("fmv.w.x", 0x53, "0", "78", "0", "D,s"),
+             row("fmv.x.d", 0x53, "0", "71", "0", "d,S"), row("fmv.d.x", 0x53, "0", "79", "0", "D,s")]
+    table: Dict[int, List[Row]] = {}
+    for one in rows:
+        table.setdefault(one.match & 0x7F, []).append(one)
+    return table
 
 
 _TABLE = _table()
@@ -178,6 +182,11 @@ class Instruction(NamedTuple):
     def is_turn(self) -> bool:
         """Whether it is a branch, JAL or JALR."""
         return self.word & 0x7F in (0x63, 0x67, 0x6F)
+
+    @property
+    def is_stub(self) -> bool:
+        """Whether it is a JALR that jumps, unless it is paired, though it writes a register."""
+        return self.name == "jalr" and (self.rd, self.rs1) == (STUB_LINK, STUB_BASE)
 
     @property
     def is_straight(self) -> bool:
@@ -331,10 +340,10 @@ def _moves(half: int, rd: int, rs2: int) -> Optional[int]:
 
 _known: Dict[int, Optional[Tuple[int, int, Row]]] = {}
 # The numbers of no rounding mode, in the field funct3 of an operation on floats that rounds.
-_NO_ROUNDING = (5, 6)
+NO_ROUNDING = (5, 6)
 
 
-def _is_float(word: int) -> bool:
+def is_rounded(word: int) -> bool:
     """Whether a word has an opcode of an operation on floats."""
     return word & 0x7F in (0x43, 0x47, 0x4B, 0x4F, 0x53)
 
@@ -344,10 +353,10 @@ def decoded(raw: int) -> Optional[Tuple[int, int, Row]]:
     length, word = (4, raw) if raw & 3 == 3 else (2, expanded(raw & 0xFFFF))
     if word is None:
         return None
-    row = next((row for row in _TABLE.get(word & 0x7F, ()) if word & row.mask == row.match), None)
-    if row is None or _is_float(word) and not row.mask >> 12 & 7 and word >> 12 & 7 in _NO_ROUNDING:
+    found = next((one for one in _TABLE.get(word & 0x7F, ()) if word & one.mask == one.match), None)
+    if found is None or is_rounded(word) and not found.mask >> 12 & 7 and word >> 12 & 7 in NO_ROUNDING:
         return None
-    return length, word, row
+    return length, word, found
 
 
 def decode(data: bytes, address: int) -> Optional[Instruction]:

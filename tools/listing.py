@@ -8,6 +8,9 @@ import re
 from collections import namedtuple
 
 import binutils
+import extensions
+from elf_file import File
+from instructions import decoded
 
 JUMPS = {"jal", "jalr", "c.j", "c.jr", "c.jalr"}
 BRANCHES = {"beq", "bne", "blt", "bge", "bltu", "bgeu", "c.beqz", "c.bnez"}
@@ -38,11 +41,31 @@ def by_profile(line):
     return line
 
 
+def jumps(link, register):
+    """Whether a JALR that is not paired is a jump: one that writes no register, or the end of an entry of a procedure linkage
+    table, `jalr t1, t3` (RISC-V psABI)."""
+    return link == "x0" or (link, register) == ("x6", "x28")
+
+
+def of_named(line, names):
+    """The line of an instruction of an extension that the file names, or None. objdump may not know it: its registers are those of
+    the tables here, first the one that is written, if there is one."""
+    found = extensions.decoded(line.word, names)
+    if found is None or decoded(line.word) is not None:
+        return None
+    _, word, row = found
+    read = [f"x{word >> at & 31}" for letter, at in (("s", 15), ("t", 20)) if letter in row.operands]
+    if "d" not in row.operands:
+        return line._replace(mnemonic="extension.reads", operands=read)
+    written = f"x{word >> 7 & 31}"
+    return line._replace(mnemonic="extension", operands=[written, *([written] if row.name.startswith("amocas") else []), *read])
+
+
 class Listing:
     """The code sections, seeds and instructions of a file."""
 
     def __init__(self, path):
-        self.path = path
+        self.path, self.names = path, File(path).extensions
         self.sections = list(binutils.code_sections(path).values())
         self.seeds = list(binutils.seeds(path))
         self.lines, self.halves, self.by_bytes, self._alone = {}, {}, set(), {}
@@ -74,7 +97,7 @@ class Listing:
         line = self.line(address)
         if line.mnemonic == "c.jr":
             register = line.operands[0]
-        elif line.mnemonic == "jalr" and line.operands[0] == "x0" and line.operands[1].startswith("0("):
+        elif line.mnemonic == "jalr" and line.operands[1].startswith("0(") and jumps(line.operands[0], line.operands[1][2:-1]):
             register = line.operands[1][2:-1]
         else:
             return None
@@ -88,7 +111,8 @@ class Listing:
                 self.halves.setdefault(address + i, line.word >> 8 * i & 0xFFFF)
             name = line.mnemonic
             known = name in BRANCHES | JUMPS | STOPS or STRAIGHT.fullmatch(name)
-            self.lines[address] = line if known else line._replace(length=2, mnemonic="none")
+            of_extension = of_named(line, self.names) if self.names and not known else None
+            self.lines[address] = line if known else of_extension or line._replace(length=2, mnemonic="none")
 
     def section(self, address):
         """The code section with both bytes of a halfword at an even address, or None."""
@@ -150,9 +174,9 @@ class Listing:
         target = self.pair(address, register, int(offset))
         if target is not None:
             return self.to_known(link, target, behind)
-        if link != "x0":
+        if not jumps(link, register):
             return Flow("icall", fall=self.code(behind))
-        if register in ("x1", "x5"):
+        if link == "x0" and register in ("x1", "x5"):
             return Flow("return")
         return self.through_table(address, behind, register, int(offset))
 

@@ -1,20 +1,25 @@
 """The jump tables of a file by this project's profile, worked out anew in Python, for checks from outside.
 
 What registers hold on the way to a jump is followed along straight runs, as docs/REPORT.md says: after a bound test (the
-bounded form), or from anywhere (the open form). The instructions are those of `instructions.py`.
+bounded form), or from anywhere (the open form). Between the two come the tables that the file declares. The instructions
+are those of `instructions.py`.
 """
 
 from __future__ import annotations
 
-from typing import Dict, List, NamedTuple, Optional, Tuple
+import struct
+from typing import Dict, Iterator, List, NamedTuple, Optional, Tuple
 
 import binutils
 import listing as listings
-from instructions import Instruction, decode
+from extensions import decode
+from instructions import Instruction, signed
 
 # How many instructions a run to the jump has at most, and how far before the jump a test and a run may begin, in bytes.
 MOST_INSTRUCTIONS, FARTHEST_TEST, FARTHEST_RUN = 16, 68, 64
-OPEN_BOUND = 1024
+OPEN_BOUND, DECLARED_BOUND = 1024, 65536
+# Of a declared table: the addresses of the jump and of the first entry, what is added, and how many entries of what size.
+RECORD = struct.Struct("<QQQII")
 TOP = 2**64
 
 # What a register holds: a tuple that begins with one of these words.
@@ -26,7 +31,8 @@ ENTRIES = ("entry", "entry and constant")
 
 
 class Table(NamedTuple):
-    """A jump table: `bound` is how many entries the test allows, and `targets` are those of all entries that count."""
+    """A jump table: `bound` is how many entries the test allows, and `targets` are those of all entries that count. An open one
+    may be declared."""
 
     base: int
     width: int
@@ -34,6 +40,7 @@ class Table(NamedTuple):
     bound: int
     is_open: bool
     targets: Tuple[int, ...]
+    is_declared: bool = False
 
 
 class Tables:
@@ -45,16 +52,25 @@ class Tables:
             self._bytes = file.read()
         self._read_only = binutils.read_only_sections(listing.path)
         self._known: Dict[Tuple[int, str], Optional[Table]] = {}
+        # The first record of each jump.
+        self.records: Dict[int, Tuple[int, int, int, int]] = {}
+        for jump, *record in self._all_records():
+            self.records.setdefault(jump, (record[0], record[1], record[2], record[3]))
+
+    def _all_records(self) -> Iterator[Tuple[int, ...]]:
+        for section in binutils.declaring_sections(self._listing.path):
+            data = self._bytes[section.offset:section.offset + len(section.places)]
+            yield from RECORD.iter_unpack(data[:len(data) - len(data) % RECORD.size])
 
     def table(self, jump: int, register: str) -> Optional[Table]:
         """The table of a jump through a register alone."""
         key = jump, register
         if key not in self._known:
             number = int(register[1:])
-            self._known[key] = (self._bounded(jump, number) or self._open(jump, number)) if number else None
+            self._known[key] = (self._bounded(jump, number) or self._declared(jump) or self._open(jump, number)) if number else None
         return self._known[key]
 
-    # ---- the two forms
+    # ---- the three forms
 
     def _bounded(self, jump: int, register: int) -> Optional[Table]:
         for back in range(4, FARTHEST_TEST + 1, 2):
@@ -64,7 +80,7 @@ class Tables:
                 index, bound = test
                 if bound is None:
                     return None
-                value = self._value(jump, jump - back + 4, register, False, {index: INDEX})
+                value = self._value(jump, jump - back + 4, register, False, {index: INDEX}, bound)
                 return self._at(value, bound, False)
         return None
 
@@ -74,6 +90,13 @@ class Tables:
             if value is not None and value[0] in ENTRIES:
                 return self._at(value, OPEN_BOUND, True)
         return None
+
+    def _declared(self, jump: int) -> Optional[Table]:
+        base, added, count, width = self.records.get(jump, (0, 0, 0, 0))
+        if width not in (4, 8):
+            return None
+        found = self._at(("entry and constant", base, width, added), min(count, DECLARED_BOUND), True)
+        return found and found._replace(is_declared=True)
 
     def _test(self, jump: int, at: int) -> Optional[Tuple[int, Optional[int]]]:
         """The index that a bound test at an address compares, and how many of its values pass, if the limit is good."""
@@ -92,7 +115,7 @@ class Tables:
     def _constant(self, jump: int, at: int, register: int) -> Optional[int]:
         """The constant that the instruction just before an address sets a register to: the short one, else the long one."""
         half = self._half(jump, at - 2)
-        short = decode(half.to_bytes(2, "little"), at - 2) if half is not None and half & 3 != 3 else None
+        short = decode(half.to_bytes(2, "little"), at - 2, self._listing.names) if half is not None and half & 3 != 3 else None
         for one in (short, self._whole(jump, at - 4)):
             if one is not None and one.name == "addi" and one.rd == register and one.rs1 == 0:
                 return one.immediate
@@ -113,12 +136,12 @@ class Tables:
         low, high = self._half(jump, at), self._half(jump, at + 2)
         if low is None or high is None or low & 3 != 3:
             return None
-        return decode((low | high << 16).to_bytes(4, "little"), at)
+        return decode((low | high << 16).to_bytes(4, "little"), at, self._listing.names)
 
     def _placed(self, jump: int, at: int) -> Optional[Instruction]:
         half = self._half(jump, at)
         if half is not None and half & 3 != 3:
-            return decode(half.to_bytes(2, "little"), at)
+            return decode(half.to_bytes(2, "little"), at, self._listing.names)
         return self._whole(jump, at)
 
     def _run(self, jump: int, at: int) -> Optional[List[Instruction]]:
@@ -132,7 +155,7 @@ class Tables:
             at = one.end
         return found
 
-    def _value(self, jump: int, at: int, register: int, is_open: bool, held: Dict[int, Value]) -> Optional[Value]:
+    def _value(self, jump: int, at: int, register: int, is_open: bool, held: Dict[int, Value], bound: int = 0) -> Optional[Value]:
         """What a register holds at the jump after the straight run from an address."""
         run = self._run(jump, at)
         if run is None:
@@ -141,7 +164,7 @@ class Tables:
             if one.name == "ecall":
                 held.clear()
             elif one.written is not None:
-                held[one.written] = _result(one, held, is_open)
+                held[one.written] = _result(one, held, is_open, bound)
         return held.get(register, UNKNOWN) if register else _constant(0)
 
     # ---- entries
@@ -184,7 +207,7 @@ def _constant(number: int) -> Value:
     return "constant", number % TOP
 
 
-def _result(one: Instruction, held: Dict[int, Value], is_open: bool) -> Value:
+def _result(one: Instruction, held: Dict[int, Value], is_open: bool, bound: int = 0) -> Value:
     """What an instruction leaves in the register that it writes."""
     def of(register: int) -> Value:
         return held.get(register, UNKNOWN) if register else _constant(0)
@@ -197,9 +220,16 @@ def _result(one: Instruction, held: Dict[int, Value], is_open: bool) -> Value:
             return first
         return _constant(first[1] + one.immediate) if first[0] == "constant" else UNKNOWN
     if one.name == "slli":
-        if first == INDEX or is_open and first == UNKNOWN:
-            return {2: ("scaled", 4), 3: ("scaled", 8), 32: HIGH}.get(one.immediate, UNKNOWN)
-        return UNKNOWN
+        return _moved(first, one.immediate, is_open)
+    if one.name in _EXTENDED:
+        return _extended(first, _EXTENDED[one.name], one.name == "sext.b" and not is_open and bound > 128)
+    if one.name in _ADDED:
+        shift, is_word = _ADDED[one.name]
+        moved = _extended(first, (32, False)) if is_word else first
+        moved = _moved(moved, shift, is_open) if shift else moved
+        return moved if one.rs2 == 0 else _sum(moved, of(one.rs2))
+    if one.name == "slli.uw":
+        return _moved(_extended(first, (32, False)), one.immediate, is_open) if one.immediate else _extended(first, (32, False))
     if one.name == "srli":
         return {30: ("scaled", 4), 29: ("scaled", 8)}.get(one.immediate, UNKNOWN) if first == HIGH else UNKNOWN
     if one.name == "add":
@@ -209,6 +239,27 @@ def _result(one: Instruction, held: Dict[int, Value], is_open: bool) -> Value:
     if one.name in ("lw", "ld") and first[0] == "address" and first[2] == (4 if one.name == "lw" else 8):
         return "entry", (first[1] + one.immediate) % TOP, first[2], 0
     return UNKNOWN
+
+
+# How many bits instructions extend, and whether by the sign; and of those that move up and add, by how much, and whether of 32 bits.
+_EXTENDED = {"sext.b": (8, True), "sext.h": (16, True), "zext.h": (16, False)}
+_ADDED = {"add.uw": (0, True), **{f"sh{by}add{end}": (by, bool(end)) for by in (1, 2, 3) for end in ("", ".uw")}}
+
+
+def _moved(value: Value, by: int, is_open: bool) -> Value:
+    """A value that is moved up by some bits."""
+    if value == INDEX or is_open and value == UNKNOWN:
+        return {2: ("scaled", 4), 3: ("scaled", 8), 32: HIGH}.get(by, UNKNOWN)
+    return UNKNOWN
+
+
+def _extended(value: Value, form: Tuple[int, bool], is_changed: bool = False) -> Value:
+    """A value whose low bits are extended: an index stays one, unless that changes it."""
+    bits, is_signed = form
+    if value[0] == "constant":
+        low = value[1] % (1 << bits)
+        return _constant(signed(low, bits) if is_signed else low)
+    return value if value == INDEX and not is_changed else UNKNOWN
 
 
 def _sum(first: Value, second: Value) -> Value:

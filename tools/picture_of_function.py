@@ -4,7 +4,7 @@ from __future__ import annotations
 
 import re
 from collections import Counter
-from typing import Counter as Counts, Dict, Iterable, List, Optional, Set, Tuple
+from typing import Counter as Counts, Dict, Iterable, List, NamedTuple, Optional, Set, Tuple
 
 import cfg_report
 from cfg_report import Block, Edge, End, Function, ReportError, function_name
@@ -13,12 +13,21 @@ from lost import Lost, LostCode
 from unsure import Unsure
 
 
+class Whole(NamedTuple):
+    """The blocks of a function and the edges from them, where a part of them alone is shown."""
+
+    blocks: Dict[int, Block]
+    edges: List[Edge]
+
+
 class FunctionParts:
     """One function, and what is around it, as they are read from a report. It is wanted by its name, or by an address, of
     its entry or of any instruction in it."""
 
     def __init__(self, wanted: str, elf: Optional[Elf]) -> None:
         self.wanted, self.elf = wanted, elf
+        self.named = elf.addresses_of if elf else None
+        self.whole: Optional[Whole] = None
         self.functions: List[Function] = []
         self.names: Dict[int, str] = {}
         self.function: Optional[Function] = None
@@ -72,7 +81,7 @@ class FunctionParts:
 
     def _may_be(self, function: Function) -> bool:
         try:
-            cfg_report.find_function([function], self.wanted)
+            cfg_report.find_function([function], self.wanted, self.named)
             return True
         except ReportError:
             return False
@@ -81,7 +90,7 @@ class FunctionParts:
         if not self.functions:
             raise ReportError("this report has no functions, and one of kind graph is needed")
         try:
-            self.function = cfg_report.find_function(self.functions, self.wanted)
+            self.function = cfg_report.find_function(self.functions, self.wanted, self.named)
         except ReportError:
             if not self._holders:
                 raise
@@ -113,6 +122,7 @@ class FunctionParts:
             if edge.kind != "call" and edge.to in self.body:
                 beside.setdefault(edge.source, set()).add(edge.to)
                 beside.setdefault(edge.to, set()).add(edge.source)
+        self.whole = Whole(self.blocks, self.edges)
         kept, layer = {start}, {start}
         for _ in range(depth):
             layer = {to for one in layer for to in beside.get(one, ())} - kept

@@ -49,7 +49,7 @@ def pointers_in_data(elf: Memory) -> List[int]:
             for place, (at, number) in enumerate(held):
                 if low <= number < high and at not in elf.relocated and elf.is_code(number) and not _is_counted(held, place):
                     found[number] = None
-    for number in [*elf.relocated.values(), *elf.resolvers]:
+    for number in [*elf.relocated.values(), *elf.resolvers.values()]:
         if elf.is_code(number):
             found[number] = None
     return list(found)
@@ -77,16 +77,15 @@ class MadeAddresses:
 
     def __init__(self, elf: Memory) -> None:
         self._elf = elf
-        self._done: Set[Tuple[int, int]] = set()
         self.made: Dict[int, None] = {}
+        self._has_begun = False
         self.data: Set[int] = set()
 
     def read(self, reached: Reached) -> None:
-        """Reads the blocks that have not been read before."""
-        for block in reached.report.blocks.values():
-            if (block.start, block.end) not in self._done:
-                self._done.add((block.start, block.end))
-                self.read_listed(reached.instructions(block))
+        """Reads the blocks that no report before has."""
+        for block in reached.new if self._has_begun else reached.report.blocks.values():
+            self.read_listed(reached.instructions(block))
+        self._has_begun = True
 
     def read_listed(self, listed: Iterable[Tuple[int, Insn]]) -> None:
         """Reads instructions in the order of their addresses."""

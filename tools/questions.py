@@ -2,6 +2,7 @@
 
 from __future__ import annotations
 
+import re
 from typing import Any, Dict, Iterator, List, NamedTuple, Optional, Set, Tuple
 
 import cfg_report
@@ -9,6 +10,7 @@ from body import Body
 from cfg_report import Block, Edge, Function, Report, ReportError, address, function_name
 from changed_graph import Places
 from elf_file import Elf
+from staying import Staying, behind
 from traces import Trace
 
 OPEN_KINDS = ("icall", "unknown", "table-open", "table-cut")
@@ -36,7 +38,7 @@ class Questions:
     def function(self, wanted: str) -> Function:
         """The function of a name, or at an address or around it."""
         try:
-            return self.report.function(wanted)
+            return self.report.function(wanted, self.elf.addresses_of if self.elf else None)
         except ReportError:
             block = self.places.of(int(wanted, 16)) if all(digit in "0123456789abcdefABCDEF" for digit in wanted) else None
             if block is None:
@@ -81,7 +83,16 @@ class Questions:
         fields = {"function": name, "entry": address(entry), "kind": edge.kind, "block": address(edge.source)}
         return Answer(f"{name} at {entry:x}, {edge.kind} from the block at {edge.source:x}", fields)
 
-    def where(self, at: int) -> Iterator[Answer]:
+    def where(self, wanted: str) -> Iterator[Answer]:
+        try:
+            at = self.report.function(wanted, self.elf.addresses_of if self.elf else None).entry
+        except ReportError:
+            if not all(digit in "0123456789abcdefABCDEF" for digit in re.sub("^0x", "", wanted)):
+                raise
+            at = int(wanted, 16)
+        yield from self._where(at)
+
+    def _where(self, at: int) -> Iterator[Answer]:
         block = self.places.of(at)
         if block is None:
             near = f", in the symbol {self.elf.place(at)}" if self.elf and self.elf.owner(at) else ""
@@ -90,9 +101,11 @@ class Questions:
         for function in self.homes[block.start]:
             name = self.name(function.entry)
             where = f"in the block from {block.start:x} to {block.end:x}, which ends with {block.kind}"
-            yield Answer(f"{at:x} is in {name} at {function.entry:x}, {where}",
+            aliases = self.elf.aliases(function.entry) if self.elf else []
+            also = f", also {', '.join(aliases)}," if aliases else ""
+            yield Answer(f"{at:x} is in {name}{also} at {function.entry:x}, {where}",
                          {"address": address(at), "function": name, "entry": address(function.entry),
-                          "block": address(block.start), "end": address(block.end), "kind": block.kind})
+                          "block": address(block.start), "end": address(block.end), "kind": block.kind, **({"aliases": aliases} if aliases else {})})
 
     def reach(self, wanted: str, target: Optional[str], backwards: bool) -> Iterator[Answer]:
         """The functions that one reaches, or that reach it; or the shortest way from one to another."""
@@ -135,32 +148,21 @@ class Questions:
 
     def no_return(self, wanted: Optional[str]) -> Iterator[Answer]:
         functions = [self.function(wanted)] if wanted else [one for one in self.report.functions if not one.may_return]
+        staying = Staying(self.report, self.elf)
         for function in functions:
             name = self.name(function.entry)
             fields = {"function": name, "entry": address(function.entry), "may_return": function.may_return}
-            why = [] if function.may_return else self._why_not(function)
+            why = [] if function.may_return else staying.why(function)
+            doubt = staying.why_doubtful(function.entry)
             text = f": {'; '.join(why)}" if why else " may return"
-            yield Answer(f"{name} at {function.entry:x}{text}", {**fields, **({"why": why} if why else {})})
+            told = {**({"why": why} if why else {}), **({"doubt": doubt} if doubt else {})}
+            yield Answer(f"{name} at {function.entry:x}{text}", {**fields, **told})
 
-    def _why_not(self, function: Function) -> List[str]:
-        """How the ways of a function end that does not return."""
-        found: List[str] = []
-        for start in function.blocks:
-            block, edges = self.report.blocks[start], self.report.edges_from.get(start, [])
-            if block.kind == "stop":
-                found.append(f"stops at {start:x}")
-            elif block.kind in ("call", "icall") and all(edge.kind == "call" for edge in edges):
-                callee = f"{self.name(edges[0].to)}, which does not return" if edges else "what is not known"
-                found.append(f"calls {callee}, at {start:x}")
-            for edge in edges:
-                if edge.kind != "call" and edge.to in self.functions and edge.to != function.entry:
-                    found.append(f"goes on to {self.name(edge.to)}, which does not return, at {start:x}")
-        body = Body(self.report, function)
-        for loop in body.loops():
-            edges = [edge for start in loop.blocks for edge in self.report.edges_from.get(start, [])]
-            if loop.depth == 0 and all(edge.kind == "call" or edge.to in loop.blocks for edge in edges):
-                found.append(f"loops for ever at {min(loop.entries):x}")
-        return found[:6] + ([f"and {len(found) - 6} more"] if len(found) > 6 else [])
+    def behind(self, wanted: Optional[str]) -> Iterator[Answer]:
+        """Where control goes on though the report does not say so, as a list for add_entries."""
+        callee = self.function(wanted).entry if wanted else None
+        for at in behind(Staying(self.report, self.elf), callee):
+            yield Answer(f"behind_{at:x} {at:x}", {"address": address(at)})
 
     def loops(self, wanted: str) -> Iterator[Answer]:
         for loop in Body(self.report, self.function(wanted)).loops():

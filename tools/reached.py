@@ -5,66 +5,86 @@ from __future__ import annotations
 from typing import Dict, Iterator, List, Optional, Set, Tuple
 
 from cfg_report import Block, Report
-from decoding import UNKNOWN, Insn, decode
+from decoding import ENDS, UNKNOWN, Insn, decode
 from elf_file import Memory
 
 APART, START, INSIDE = 0, 1, 2
 LONGEST_TRIAL = 20_000
 # How far back code is read to see whether an address begins a function, in half words.
 FARTHEST = 2000
+NO_INSN = Insn(UNKNOWN, 2)
+# The instructions from which control does not simply go on.
+TURNS = frozenset(("jal", "jalr", "beq", "bne", "blt", "bge", "bltu", "bgeu", *ENDS))
 
 
 class Reached:
-    """The instructions that are reached. More can be marked as reached than the report has."""
+    """The instructions that are reached. More can be marked as reached than the report has. What an earlier one of the same file
+    has read is not read again."""
 
-    def __init__(self, elf: Memory, report: Report) -> None:
+    def __init__(self, elf: Memory, report: Report, before: "Optional[Reached]" = None) -> None:
         self.elf, self.report = elf, report
-        self._marks: Dict[int, bytearray] = {section.index: bytearray(section.size // 2 + 1) for section in elf.code}
+        self._names = elf.extensions
         self._staying = {function.entry for function in report.functions if not function.may_return}
-        for block in report.blocks.values():
-            for at, insn in self.instructions(block):
-                self._mark(at, insn)
+        self._sure: Dict[int, bytearray] = before._sure if before else {one.index: bytearray(one.size // 2 + 1) for one in elf.code}
+        self._read: Dict[Tuple[int, int], List[Tuple[int, Insn]]] = before._read if before else {}
+        self._insns: Dict[int, Insn] = before._insns if before else {}
+        # The blocks that no earlier report has.
+        self.new: List[Block] = [block for block in report.blocks.values() if (block.start, block.end) not in self._read]
+        for block in self.new:
+            self._mark_all(self._sure, self.instructions(block))
+        self._marks = {index: bytearray(marks) for index, marks in self._sure.items()}
 
-    def instructions(self, block: Block) -> Iterator[Tuple[int, Insn]]:
+    def instructions(self, block: Block) -> List[Tuple[int, Insn]]:
         """The instructions of a block, each with its address."""
+        found = self._read.get((block.start, block.end))
+        if found is None:
+            found = self._read[block.start, block.end] = self._decoded(block)
+        return found
+
+    def _decoded(self, block: Block) -> List[Tuple[int, Insn]]:
         section = self.elf.code_at(block.start)
         if section is None:
-            return
-        data, base = self.elf.data, section.offset - section.address
-        at = block.start
+            return []
+        data, base, names, known = self.elf.data, section.offset - section.address, self._names, self._insns
+        at, found = block.start, []
         while at < block.end:
-            place = base + at
-            word = data[place] | data[place + 1] << 8
-            if word & 3 == 3:
-                word |= data[place + 2] << 16 | data[place + 3] << 24
-            insn = decode(word)
-            yield at, insn
+            insn = known.get(at)
+            if insn is None:
+                place = base + at
+                word = data[place] | data[place + 1] << 8
+                if word & 3 == 3:
+                    word |= data[place + 2] << 16 | data[place + 3] << 24
+                insn = known[at] = decode(word, names)
+            found.append((at, insn))
             at += insn.length
+        return found
 
     def state(self, address: int) -> int:
         """Whether a reached instruction starts at an address of code, or has it inside."""
         section = self.elf.code_at(address)
         return self._marks[section.index][(address - section.address) // 2] if section else APART
 
-    def _mark(self, at: int, insn: Insn) -> None:
-        section = self.elf.code_at(at)
-        if section is not None:
-            marks, place = self._marks[section.index], (at - section.address) // 2
-            marks[place] = START
-            if insn.length == 4 and marks[place + 1] == APART:
-                marks[place + 1] = INSIDE
+    def _mark_all(self, every: Dict[int, bytearray], listed: List[Tuple[int, Insn]]) -> None:
+        for at, insn in listed:
+            section = self.elf.code_at(at)
+            if section is not None:
+                marks, place = every[section.index], (at - section.address) // 2
+                marks[place] = START
+                if insn.length == 4 and marks[place + 1] == APART:
+                    marks[place + 1] = INSIDE
 
     def insn(self, address: int) -> Insn:
         """The instruction at an address."""
-        word = self.elf.instruction(address)
-        return Insn(UNKNOWN, 2) if word is None else decode(word)
+        found = self._insns.get(address)
+        if found is None:
+            word = self.elf.instruction(address)
+            found = self._insns[address] = NO_INSN if word is None else decode(word, self._names)
+        return found
 
     def overlaps(self, address: int) -> bool:
         """Whether an instruction at an address would share bytes with one that is reached and starts elsewhere."""
         state = self.state(address)
-        if state == APART:
-            return self.insn(address).length == 4 and self.state(address + 2) == START
-        return state == INSIDE
+        return self._is_cut(address, self.insn(address)) if state == APART else state == INSIDE
 
     def is_padding(self, address: int, entries: Set[int]) -> bool:
         """Whether what stands at an address only fills the room up to the next entry: zeros, or what does nothing."""
@@ -88,24 +108,52 @@ class Reached:
         left: List[Tuple[int, bool]] = [(address, False)]
         while left and len(found) < LONGEST_TRIAL:
             at, is_apart = left.pop()
-            if at in found or self.state(at) == START:
-                continue
-            insn = self.insn(at)
-            if insn.name == UNKNOWN or not self.elf.is_code(at) or self.overlaps(at) or at - 2 in found and found[at - 2].length == 4:
-                if is_apart:
-                    continue
-                return None
-            found[at] = insn
-            left += self._onward(at, insn, is_apart)
+            while at not in found:
+                insn = self._tried(at, found)
+                if insn is None:
+                    break
+                if insn.name == UNKNOWN:
+                    if is_apart:
+                        break
+                    return None
+                found[at] = insn
+                if insn.name in TURNS:
+                    left += self._onward(at, insn, is_apart)
+                    break
+                at += insn.length
         return sorted(found.items())
+
+    def _tried(self, at: int, found: Dict[int, Insn]) -> Optional[Insn]:
+        """The instruction at an address, none if it is reached already. One that shares bytes with another is not known."""
+        section = self.elf.code_at(at)
+        if section is None:
+            return NO_INSN
+        marks, place = self._marks[section.index], (at - section.address) // 2
+        if marks[place] == START:
+            return None
+        insn = self._insns.get(at) or self.insn(at)
+        is_inside = marks[place] == INSIDE or at - 2 in found and found[at - 2].length == 4
+        return NO_INSN if is_inside or insn.length == 4 and marks[place + 1] == START else insn
+
+    def _is_cut(self, at: int, insn: Insn) -> bool:
+        """Whether an instruction at an address that is not reached shares its second half with one that is."""
+        return insn.length == 4 and self.state(at + 2) == START
 
     def _onward(self, at: int, insn: Insn, is_apart: bool) -> Iterator[Tuple[int, bool]]:
         """Where control goes from an instruction, and whether it comes there only by a call or behind one."""
-        is_call = insn.name in ("jal", "jalr") and insn.rd != 0
+        is_call = self.is_call(at, insn)
         if insn.name.startswith("b") or insn.name == "jal":
             yield at + insn.imm, is_apart or is_call
-        if insn.goes_on:
+        if self.goes_on(at, insn):
             yield at + insn.length, is_apart or is_call
+
+    def is_call(self, at: int, insn: Insn) -> bool:
+        """Whether an instruction calls: what ends a stub does so where it is paired."""
+        return insn.is_call or insn.is_stub and self._callee(at, insn) is not None
+
+    def goes_on(self, at: int, insn: Insn) -> bool:
+        """Whether control may go on to the instruction behind, if not at once, then after a call."""
+        return insn.goes_on or insn.is_stub and self._callee(at, insn) is not None
 
     def begins(self, address: int) -> bool:
         """Whether a function may begin at an address: what stands before it, read from the last known instruction on, meets
@@ -119,9 +167,9 @@ class Reached:
         if before is None:
             return False
         at, insn = before
-        if not insn.goes_on:
+        if not self.goes_on(at, insn):
             return True
-        if insn.name not in ("jal", "jalr"):
+        if not self.is_call(at, insn):
             return False
         return self._callee(at, insn) in self._staying or self.makes_room(address)
 
@@ -178,5 +226,4 @@ class Reached:
 
     def keep(self, found: List[Tuple[int, Insn]]) -> None:
         """Marks instructions as reached."""
-        for at, insn in found:
-            self._mark(at, insn)
+        self._mark_all(self._marks, found)

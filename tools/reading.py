@@ -4,12 +4,12 @@ from __future__ import annotations
 
 import argparse
 import re
-from typing import BinaryIO, Iterator, Optional
+from typing import BinaryIO, Iterator, Optional, Sequence, Tuple
 
 import cfg_report
 import names
 from cfg_report import Block, Heading, Item, Reader, Report, ReportError
-from changed_graph import rebuilt, with_edges
+from changed_graph import folded, rebuilt, with_edges
 from elf_file import Elf
 from matching import Matching
 from progress import Progress
@@ -25,12 +25,16 @@ def add_words(parser: argparse.ArgumentParser, sure: bool = False) -> argparse.A
     if sure:
         what = "leave out the edges of open tables that lead outside the function symbol that holds the jump"
         parser.add_argument("--sure", action="store_true", help=what)
+        what = "count entries that add_entries guessed, as cases of switches, to the functions around them"
+        parser.add_argument("--fold", action="store_true", help=what)
     return parser
 
 
-def command(description: str, sure: bool = False) -> argparse.ArgumentParser:
-    """The words of a script, the first of which says what report to read."""
+def command(description: str, sure: bool = False, before: Optional[Tuple[str, Sequence[str]]] = None) -> argparse.ArgumentParser:
+    """The words of a script, the first of which says what report to read; or the second, after one of several words."""
     parser = argparse.ArgumentParser(description=description)
+    if before is not None:
+        parser.add_argument(before[0], metavar=before[0].upper(), choices=before[1], help=", ".join(before[1]))
     parser.add_argument("report", metavar="REPORT_OR_ELF", help=REPORT_HELP)
     return add_words(parser, sure)
 
@@ -70,7 +74,7 @@ def items(words: argparse.Namespace, path: str, elf: Optional[Elf] = None) -> It
     """The parts of the report one by one: as they are read, where the words do not ask for another graph. They are compared
     with the ELF file."""
     names.demangle(words.demangle)
-    if words.edges or getattr(words, "sure", False):
+    if words.edges or getattr(words, "sure", False) or getattr(words, "fold", False):
         yield from report(words, path, elf, whole=False).items()
         return
     with cfg_report.opened(path, kind=_kind(words)) as stream:
@@ -109,12 +113,14 @@ def report(words: argparse.Namespace, path: str, elf: Optional[Elf] = None, whol
     names.demangle(words.demangle)
     with cfg_report.naming(path), cfg_report.opened(path, kind=_kind(words)) as stream:
         found = Report(_matching(stream, elf))
-        if whole or words.edges or getattr(words, "sure", False):
+        if whole or words.edges or getattr(words, "sure", False) or getattr(words, "fold", False):
             found.want("graph")
             for problem in found.problems():
                 raise ReportError(problem)
     if words.edges:
         found = with_edges(found, words.edges)
+    if getattr(words, "fold", False):
+        found = folded(found)
     if getattr(words, "sure", False):
         unsure = Unsure(elf).see_all(found.items())
         found = rebuilt(found, [edge for edge in found.edges if not unsure.is_unsure(edge)])

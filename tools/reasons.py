@@ -4,9 +4,12 @@ from __future__ import annotations
 
 from typing import List, NamedTuple, Optional, Tuple
 
+import extensions
 from cfg_report import Block
-from instructions import ARGUMENTS, NAMES, UNIMP, Instruction, signed
+from declared_tables import Declared
+from instructions import ARGUMENTS, NAMES, Instruction, signed
 from tables import Use, use_of_table
+from staying import undecoded
 from unsure import Unsure
 from values import CALL, CALLER, Code, Place, Setter, Values, copied
 
@@ -32,7 +35,9 @@ NOT_TOLD = Why("not told: no instruction of RV64GC ends the block")
 CUT = Why("fewer entries of its table are kept than its bound test allows: another table begins inside it, or an entry "
           "leads to no code")
 OPEN = "a table without a bound test: where it ends is not known"
+DECLARED = "a table that the file declares: nothing proves where it ends"
 TABLE = "a jump table"
+INDIRECT = "to an indirect function: through a word that its resolver answers when the program starts"
 
 
 class Reasons:
@@ -43,6 +48,7 @@ class Reasons:
         self.values = values or Values(code)
         self.unsure = Unsure(self.elf).see_all(self.report.items())
         self.ends = {block.end: block for block in self.report.blocks.values()}
+        self._declared = Declared(self.elf)
 
     def blocks(self) -> List[Block]:
         """The blocks whose ways on are not known."""
@@ -67,20 +73,19 @@ class Reasons:
         if block.kind == "table-open":
             ways = self.report.edges_from.get(block.start, [])
             outside = sum(map(self.unsure.is_unsure, ways))
-            return Why(OPEN, f"{len(ways)} ways on" + (f", {outside} of them outside its symbol" if outside else ""))
+            is_declared = self._declared.is_of(last.address)
+            return Why(DECLARED if is_declared else OPEN, f"{len(ways)} ways on" + (f", {outside} of them outside its symbol" if outside else ""))
         if last.name == "jal":
             return Why(NO_CODE, f"{last.target:x}")
         return self._why_jump(block, last)
 
     def _why_stop(self, block: Block) -> Why:
-        end = self.elf.bytes_at(block.end - 2, block.end) or b""
-        known = self.code.of(block)
-        if known and known[-1].end == block.end:
-            return MEANT if known[-1].name == "ebreak" else Why("runs on " + NO_CODE, f"{block.end:x}")
-        word = int.from_bytes(self.elf.bytes_at(block.end - 2, block.end + 2) or end, "little")
-        if end == b"\0\0" or word == UNIMP:
-            return MEANT
-        return Why("an instruction that cfg does not decode", f"{word:08x}" if word & 3 == 3 else f"{word & 0xFFFF:04x}")
+        found = undecoded(self.code, block)
+        if found is None:
+            last = self.code.last(block)
+            return Why("runs on " + NO_CODE, f"{block.end:x}") if last is not None and last.is_straight else MEANT
+        told = extensions.told(found[1])
+        return Why("an instruction that cfg does not decode" + (f", {told}" if told else ""), extensions.shown(found[1]))
 
     def _why_jump(self, block: Block, last: Instruction) -> Why:
         """Of a jump or call through a register."""
@@ -174,6 +179,9 @@ class Reasons:
         address = self.values.constant(load.rs1, place)
         if address is not None:
             address = (address + load.immediate) % 2**64
+            resolver = self.elf.resolvers.get(address)
+            if resolver is not None:
+                return Why(INDIRECT, f"{address:x}{self._section(address)}, by {self.elf.place(resolver)} at {resolver:x}")
             return Why("through a pointer loaded from a fixed address", f"{address:x}{self._section(address)}")
         if load.rs1 == 2:
             return Why("through a value on the stack", f"{load.text} at {load.address:x}")
@@ -186,7 +194,7 @@ class Reasons:
     def _why_table(self, use: Use, place: Place, last: Instruction) -> Why:
         """What keeps a table from the patterns that `cfg` looks for, as far as that can be checked."""
         entries = f"{use.size}-byte entries"
-        is_call = last.rd != 0
+        is_call = last.rd != 0 and not last.is_stub
         table = "a table of pointers to functions" if is_call else TABLE
         if use.address is None:
             is_one = self.values.setter(*use.base) is not None

@@ -5,11 +5,16 @@ from __future__ import annotations
 import bisect
 from typing import Dict, Iterable, List, Optional, Tuple
 
+import extensions
 from cfg_report import Block, Report, ReportError
+from declared_tables import jump_register
 from elf_file import Memory, joined, size_of
 from frames import frames, landing_pads
 from pointers import array_entries, pointers_in_data
 from reached import Reached
+from staying import undecoded
+from stubs import stubs
+from values import Code
 from switch_cases import Switch, Switches
 
 Ranges = List[Tuple[int, int]]
@@ -24,6 +29,7 @@ def starts(elf: Memory) -> Dict[str, List[int]]:
         framed, pads = [], []
     return {
         "--eh-frame": [frame.start for frame in framed if elf.is_code(frame.start)],
+        "--stubs": [stub.resolver for stub in stubs(elf) if stub.resolver is not None and elf.is_code(stub.resolver)],
         "--arrays": [address for address in array_entries(elf) if elf.is_code(address)],
         "--pointers": pointers_in_data(elf),
         "--landing-pads": [pad for pad in pads if elf.is_code(pad)],
@@ -49,16 +55,27 @@ def what_to_try(path: str, reached: Ranges, has_open_ends: bool) -> str:
     return f"; to reach more: tools/add_entries {' '.join(named)}" if named else ""
 
 
+def architecture_for(code: Code, report: Report) -> str:
+    """The text of an architecture that names what the file names, and the extensions of what is not decoded."""
+    needed = set()
+    for block in report.blocks.values():
+        found = undecoded(code, block)
+        needed |= (extensions.names_needed(found[1]) or set()) if found else set()
+    return "_".join([code.elf.architecture or "rv64gc", *sorted(needed - code.elf.extensions)])
+
+
 class Remedies:
     """What closes the open ends of a report."""
 
-    def __init__(self, path: str, report: Report) -> None:
-        elf = Memory(path)
+    def __init__(self, code: Code, report: Report) -> None:
+        elf = self._elf = Memory(code.elf.path)
+        self._code, self._architecture = code, architecture_for(code, report)
         self._reached = Reached(elf, report)
-        self._values = Switches(self._reached, {})
+        self._values = Switches(self._reached)
         self._switches: Dict[int, Switch] = {switch.block.start: switch for switch in self._values.found()}
         reached = joined([(block.start, block.end) for block in report.blocks.values()])
         self._is_all = size_of(reached) >= sum(section.size for section in elf.code)
+        self._stubs = {stub.jump + 4 for stub in stubs(elf) if stub.resolver is not None}
         self._pointers = any(map(self._reached.begins, apart(pointers_in_data(elf), reached)))
 
     def text(self, block: Block) -> str:
@@ -67,11 +84,22 @@ class Remedies:
         return f"; try add_entries with {remedy}" if remedy else ""
 
     def of(self, block: Block) -> Optional[str]:
-        """The source of entries that brings what a block leads to into the report, if one does."""
+        """The source of tables or entries that brings what a block leads to into the report, if one does."""
+        if block.kind == "stop":
+            found = undecoded(self._code, block)
+            needed = extensions.names_needed(found[1]) if found else None
+            return f"--arch {self._architecture}" if needed and not needed <= self._code.elf.extensions else None
+        if block.end in self._stubs and block.kind in ("unknown", "icall"):
+            return "--stubs, for what answers where it leads; and --trace, for that place"
         switch = self._switches.get(block.start)
-        if switch is not None:
+        if switch is not None and block.kind == "unknown":
             count = len({case for case in switch.cases if not self._reached.state(case)})
-            return f"--switches, {count} cases that are not reached" if count else None
-        if self._is_all or block.kind not in ("unknown", "icall") or self._values.is_fixed(block):
+            more = f", {count} of them not reached" if count else ""
+            return f"--switches, which declares its table: {len(set(switch.cases))} cases{more}"
+        if block.kind not in ("unknown", "icall") or self._values.is_fixed(block):
+            return None
+        if block.kind == "unknown" and jump_register(self._elf, self._reached.instructions(block)[-1][0]) is not None:
+            return "--trace or --tables, which declare its targets" + ("; and --pointers" if self._pointers and not self._is_all else "")
+        if self._is_all:
             return None
         return "--pointers, --trace" if self._pointers else "--trace"

@@ -6,7 +6,8 @@ from __future__ import annotations
 from typing import Dict, Hashable, Iterable, List, NamedTuple, Optional, Tuple
 
 from elf_file import Elf, Symbol
-from instructions import Instruction, decode
+from extensions import decode
+from instructions import Instruction
 
 GLOBAL_POINTER = 3
 PAGE = 0x1000
@@ -37,7 +38,7 @@ class Compared:
             known: Dict[int, int] = {}
             at = 0
             while at < len(data):
-                one = decode(data[at:at + 4], start + at)
+                one = decode(data[at:at + 4], start + at, self.elf.extensions)
                 if one is None:
                     found.append(Piece(data[at:at + 2], start + at, 2, f".2byte 0x{data[at:at + 2][::-1].hex()}"))
                     at += 2

@@ -1,5 +1,5 @@
-"""The cases of switches whose jump ends a block with `unknown`: their tables are found by following the target of the jump
-backwards, through all blocks that lead to it.
+"""The tables of switches whose jump ends a block with `unknown`, or with `table-open`: they are found by following the target
+of the jump backwards, through all blocks that lead to it.
 
 A target is a sum: a constant, and what was loaded or is not known, each so many times. A jump goes through a table of
 offsets where its target is a constant and a loaded word of four bytes, and through one of addresses where it is a loaded
@@ -13,9 +13,12 @@ from typing import Dict, FrozenSet, Iterator, List, NamedTuple, Optional, Set, T
 
 from cfg_report import Block
 from decoding import CALLER_SAVED, LOAD_SIZES, Insn
-from reached import Reached
+from reached import START, Reached
 
-DEEPEST, MOST_BLOCKS, MOST_CASES = 16, 4000, 1024
+DEEPEST, MOST_BLOCKS = 16, 4000
+# How many cases a switch has at the most: by a test, and without one.
+MOST_TESTED, MOST_CASES = 65536, 1024
+KINDS = ("unknown", "table-open")
 TEST_BLOCKS = 12
 
 
@@ -45,32 +48,42 @@ def unknown(*what: object) -> Sum:
 
 
 class Switch(NamedTuple):
-    """A jump through a table, and where the cases are, in the order of the table."""
+    """A jump through a table: the table's address, the size of an entry, what is added to each, how many there are by a test,
+    if there is one, and where the cases are, in the order of the table."""
 
     block: Block
     jump: int
     table: int
     width: int
+    added: int
     bound: Optional[int]
     cases: Tuple[int, ...]
 
 
-class Switches:
-    """Finds switches in what is reached. `came_from` has for a case that is an entry the block of its jump."""
+class Known:
+    """What was found of jumps before, by their blocks: a switch that a test bounds, of which no more is asked, or how much code led
+    to a jump in its function when no table was found. While that stays, it is not asked again."""
 
-    def __init__(self, reached: Reached, came_from: Dict[int, int]) -> None:
-        self._reached, self._elf = reached, reached.elf
+    def __init__(self) -> None:
+        self.bounded: Dict[int, int] = {}
+        self.bases: Set[int] = set()
+        self.fruitless: Dict[int, Tuple[int, ...]] = {}
+
+
+class Switches:
+    """Finds switches in what is reached."""
+
+    def __init__(self, reached: Reached, known: "Optional[Known]" = None) -> None:
+        self._reached, self._elf, self._known = reached, reached.elf, known or Known()
         report = reached.report
         self._blocks = report.blocks
-        self._entries = {function.entry for function in report.functions} - came_from.keys()
+        self._entries = {function.entry for function in report.functions}
         self._rising = sorted(self._entries)
+        self._starts, self._targets = sorted(self._blocks), sorted(edge.to for edge in report.edges if edge.kind != "call")
         self._before: Dict[int, List[Tuple[int, str]]] = {}
         for edge in report.edges:
             if edge.kind != "call":
                 self._before.setdefault(edge.to, []).append((edge.source, edge.kind))
-        for case, block in came_from.items():
-            if block in self._blocks:
-                self._before.setdefault(case, []).append((block, "table"))
         self._held: Dict[Tuple[int, int], Sum] = {}
         self._listed: Dict[int, List[Tuple[int, Insn]]] = {}
         self._stores: Dict[int, Optional[Dict[int, Tuple[int, int]]]] = {}
@@ -79,16 +92,30 @@ class Switches:
         """The switches, by the address of their block."""
         tables = []
         for block in self._blocks.values():
-            if block.kind == "unknown":
+            if block.kind in KINDS and block.start not in self._known.bounded:
+                around = self._around(block)
+                if self._known.fruitless.get(block.start) == around:
+                    continue
                 found = self._table(block)
                 if found:
                     tables.append((block, *found))
-        bases = {table for _, _, table, *_ in tables}
-        for block, jump, table, width, start, index in tables:
+                else:
+                    self._known.fruitless[block.start] = around
+        self._known.bases.update(table for _, _, table, *_ in tables)
+        for block, jump, table, width, added, index in tables:
             bound = self._bound(block, index)
-            cases = self._cases(jump, table, width, start, bound, bases)
+            most = bound or (index[1] + 1 if index[0] == "masked" else MOST_CASES)
+            cases = self._cases(jump, table, width, added, most, bound is not None)
             if cases:
-                yield Switch(block, jump, table, width, bound, tuple(cases))
+                if bound is not None:
+                    self._known.bounded[block.start] = table
+                yield Switch(block, jump, table, width, added, bound, tuple(cases))
+
+    def _around(self, block: Block) -> Tuple[int, ...]:
+        """The extent of the function that a block is in, and how many blocks and edges are there."""
+        low, high = self._extent(block.start)
+        count = [bisect.bisect_left(places, high) - bisect.bisect_left(places, low) for places in (self._starts, self._targets)]
+        return low, high, *count
 
     def is_fixed(self, block: Block) -> bool:
         """Whether a block ends at a known address, by an instruction that names it or through a register."""
@@ -100,7 +127,7 @@ class Switches:
 
     def _instructions(self, start: int) -> List[Tuple[int, Insn]]:
         if start not in self._listed:
-            self._listed[start] = list(self._reached.instructions(self._blocks[start]))
+            self._listed[start] = self._reached.instructions(self._blocks[start])
         return self._listed[start]
 
     def value(self, start: int, place: int, register: int, depth: int = 0) -> Sum:
@@ -241,7 +268,7 @@ class Switches:
         """The jump, the table's address, the size of its entries, what is added to each, and the index."""
         listed = self._instructions(block.start)
         jump, insn = listed[-1]
-        if insn.name != "jalr" or insn.rd or insn.rs1 in (1, 5):
+        if insn.name != "jalr" or insn.rd and not insn.is_stub or insn.rs1 in (1, 5):
             return None
         target = self.value(block.start, len(listed) - 1, insn.rs1).plus(Sum(insn.imm % 2**64))
         loaded = target.only()
@@ -253,24 +280,27 @@ class Switches:
             return None
         return jump, place.constant, width, target.constant, index[0]
 
-    def _cases(self, jump: int, table: int, width: int, start: int, bound: Optional[int], bases: Set[int]) -> List[int]:
-        """Where the entries of a table lead, up to its bound, or without one as long as they lead into the function."""
+    def _cases(self, jump: int, table: int, width: int, added: int, most: int, is_tested: bool) -> List[int]:
+        """Where the entries of a table lead, up to a number that is tested; or else as long as they lead into the function, and
+        to what reads as code."""
         low, high = self._extent(jump)
         found: List[int] = []
-        for number in range(MOST_CASES if bound is None else bound):
+        for number in range(most):
             at = table + width * number
             word = self._elf.word(at, width, signed=width == 4)
-            if word is None or not self._elf.is_read_only(at, width) or number and at in bases:
+            if word is None or not self._elf.is_read_only(at, width) or number and at in self._known.bases:
                 break
-            case = (start + word) % 2**64
-            if not self._elf.is_code(case) or bound is None and not low <= case < high:
+            case = (added + word) % 2**64 & ~1
+            if not self._elf.is_code(case) or not is_tested and not (low <= case < high and self._reads_as_code(case)):
                 break
             found.append(case)
         return found
 
+    def _reads_as_code(self, case: int) -> bool:
+        return self._reached.state(case) == START or not self._reached.overlaps(case) and self._reached.trial(case) is not None
+
     def _bound(self, block: Block, index: Tuple) -> Optional[int]:
-        """How many entries a test of the index allows, in the blocks before the jump; or how many its mask does."""
-        bound = index[1] + 1 if index[0] == "masked" else None
+        """How many entries a test of the index allows, in the blocks before the jump."""
         seen, left = {block.start}, [(block.start, 0)]
         while left:
             start, depth = left.pop(0)
@@ -284,7 +314,7 @@ class Switches:
                 tested = self._tested(source, kind, index)
                 if tested is not None:
                     return tested
-        return bound
+        return None
 
     def _tested(self, start: int, kind: str, index: Tuple) -> Optional[int]:
         """How many values of an index let control go along an edge, where the block tests it."""
@@ -302,4 +332,4 @@ class Switches:
             limit = first.constant + 1
         else:
             return None
-        return limit if 0 < limit <= MOST_CASES else None
+        return limit if 0 < limit <= MOST_TESTED else None

@@ -1,20 +1,24 @@
 """Jump tables: what the instructions before a jump through a register load from where, and a table's entries.
 
-docs/REPORT.md says which tables `cfg` finds. Here a calculation is followed along all ways of the graph, and so further.
+docs/REPORT.md says which tables `cfg` finds. Here a calculation is followed along all ways of the graph, and so further. The
+tables that the file declares are read from its records.
 """
 
 from __future__ import annotations
 
 import bisect
-from typing import Dict, Iterable, Iterator, List, NamedTuple, Optional, Tuple
+from typing import Dict, Iterable, Iterator, List, NamedTuple, Optional, Set, Tuple
 
 from cfg_report import TABLE_KINDS, Block, Report
+from declared_tables import Declared
 from elf_file import Elf
 from instructions import Instruction, signed
 from unsure import Unsure
 from values import INSTRUCTION, Code, Place, Setter, Values
 
 MOST_ENTRIES = 1024
+# Instructions that scale an index by the size of an entry and add an address.
+SCALED_SUMS = {"sh1add": 2, "sh2add": 4, "sh3add": 8, "sh1add.uw": 2, "sh2add.uw": 4, "sh3add.uw": 8}
 SIZES = {"lb": 1, "lbu": 1, "lh": 2, "lhu": 2, "lw": 4, "lwu": 4, "ld": 8}
 
 
@@ -66,20 +70,29 @@ def _loaded(values: Values, load: Setter, added: Optional[int], parts: Tuple[Ins
     assert one is not None
     size = SIZES[one.name]
     total = values.setter(one.rs1, load.place)
-    if total is None or total.instruction is None or total.instruction.name != "add":
+    if total is None or total.instruction is None:
         return None
     add = total.instruction
+    if add.name in SCALED_SUMS and SCALED_SUMS[add.name] == size:
+        return _at(values, one, size, add.rs2, total, added, (*parts, one, add))
+    if add.name != "add":
+        return None
     for index, base in ((add.rs1, add.rs2), (add.rs2, add.rs1)):
         scaled = _scaled(values, index, total.place, size)
         if scaled is None:
             continue
-        address = values.constant(base, total.place)
-        if address is not None:
-            address = (address + one.immediate) % 2**64
-        setters = values.setters(base, total.place) or []
-        makers = [setter.instruction for setter in setters if setter.kind == INSTRUCTION and setter.instruction]
-        return Use(one, size, (base, total.place), address, added, (*parts, one, add, *scaled, *makers))
+        return _at(values, one, size, base, total, added, (*parts, one, add, *scaled))
     return None
+
+
+def _at(values: Values, load: Instruction, size: int, base: int, total: Setter, added: Optional[int], parts: Tuple[Instruction, ...]) -> Use:
+    """A table at the address in a register, to which a scaled index is added."""
+    address = values.constant(base, total.place)
+    if address is not None:
+        address = (address + load.immediate) % 2**64
+    setters = values.setters(base, total.place) or []
+    makers = [setter.instruction for setter in setters if setter.kind == INSTRUCTION and setter.instruction]
+    return Use(load, size, (base, total.place), address, added, (*parts, *makers))
 
 
 def _scaled(values: Values, register: int, place: Place, size: int) -> Optional[Tuple[Instruction, ...]]:
@@ -102,13 +115,15 @@ def _scaled(values: Values, register: int, place: Place, size: int) -> Optional[
 
 
 class Table(NamedTuple):
-    """The jump table of a block: its address, the size of an entry in bytes, and where each entry that is kept leads."""
+    """The jump table of a block: its address, the size of an entry in bytes, where each entry that is kept leads, and whether the
+    file declares it."""
 
     block: Block
     jump: int
     address: int
     size: int
     targets: Tuple[int, ...]
+    is_declared: bool = False
 
     def places(self) -> Dict[int, List[int]]:
         """The numbers of the entries that lead to each address."""
@@ -134,13 +149,33 @@ class Tables:
 
     def __init__(self, code: Code) -> None:
         self.code, self.values = code, Values(code)
+        self._declared = Declared(code.elf)
         uses: Dict[int, Use] = {}
+        declared: Dict[int, Table] = {}
         for block in code.report.blocks.values():
-            use = self._use(block) if block.kind in TABLE_KINDS else None
-            if use is not None and use.address is not None:
+            table = self._of_record(block) if block.kind == "table-open" else None
+            use = self._use(block) if block.kind in TABLE_KINDS and table is None else None
+            if table is not None:
+                declared[block.start] = table
+            elif use is not None and use.address is not None:
                 uses[block.start] = use
-        self._bases = sorted({use.address for use in uses.values() if use.address is not None})
+        bases = {use.address for use in uses.values() if use.address is not None}
+        self._bases = sorted(bases.union(table.address for table in declared.values()))
         self.found = {start: self._table(code.report.blocks[start], use) for start, use in uses.items()}
+        self.found.update((start, self._cut(table)) for start, table in declared.items())
+
+    def _of_record(self, block: Block) -> Optional[Table]:
+        """The table that the file declares of a block's jump, whole."""
+        last = self.code.last(block)
+        record = self._declared.records.get(last.address) if last is not None else None
+        targets = self._declared.targets(record) if record is not None else ()
+        return Table(block, record.jump, record.base, record.size, targets, True) if record is not None and targets else None
+
+    def _cut(self, table: Table) -> Table:
+        """A declared table up to the next table inside it."""
+        after = self._bases[bisect.bisect_right(self._bases, table.address):][:1]
+        most = max((after[0] - table.address) // table.size, 1) if after else len(table.targets)
+        return table._replace(targets=table.targets[:most])
 
     def _use(self, block: Block) -> Optional[Use]:
         last = self.code.last(block)
@@ -190,9 +225,27 @@ def described_tables(elf: Elf, report: Report) -> Iterator[str]:
         if table is None:
             yield f"table of the jump at {jump:x} in {elf.place(jump)}: {block.kind}, not worked out"
             continue
-        what = f"{block.kind}, {len(table.targets)} entries of {table.size} bytes"
+        kind = f"{block.kind}, declared" if table.is_declared else block.kind
+        what = f"{kind}, {len(table.targets)} entries of {table.size} bytes"
         yield f"table {table.address:x} of the jump at {jump:x} in {elf.place(jump)}: {what}"
         outside = {edge.to for edge in report.edges_from.get(block.start, []) if unsure.is_unsure(edge)}
         for target, places in sorted(table.places().items(), key=lambda item: item[1]):
             mark = ", not sure: outside the symbol" if target in outside else ""
             yield f"    {target:x} {elf.place(target)}: {numbers(places)}{mark}"
+    yield from _described_records(elf, report, {table.jump for table in found.values() if table.is_declared})
+
+
+def _described_records(elf: Elf, report: Report, used: Set[int]) -> Iterator[str]:
+    """Lines that tell of the records of jumps whose table is not the declared one, and why."""
+    declared, code = Declared(elf), Code(elf, report)
+    kinds = {last.address: block.kind for block in report.blocks.values() for last in [code.last(block)] if last is not None}
+    for jump, record in declared.records.items():
+        if jump in used:
+            continue
+        kind = kinds.get(jump)
+        why = declared.why_not(record)
+        if why is None and kind in ("table", "table-cut"):
+            why = "a bound test before the jump shows its table"
+        elif why is None and kind is None:
+            why = "no block ends there"
+        yield f"record of the jump at {jump:x} in {elf.place(jump)}, which does not count: {why or f'the block ends with {kind}'}"

@@ -26,6 +26,8 @@ from progress import Progress
 
 MOST_KNOWN = 1 << 18
 JUMP, RETURN, OTHER = 0, 1, 2
+# How many instructions a part has at the most that qemu runs at once.
+LONGEST_PART = 512
 
 _PLAIN = re.compile(rb"\s*(?:0x)?([0-9a-fA-F]{1,16})\s*")
 _TRANSLATED = re.compile(rb"0x([0-9a-f]+):\s+((?:[0-9a-f]{4} ?)+)\s")
@@ -39,11 +41,13 @@ _BESIDE = (b"Linking ", b"Trace ", b"Stopped ", b"cpu_")
 
 class Step(NamedTuple):
     """An address that was executed. `length` is the instruction's in bytes, if the trace tells it. With `is_part` it is
-    where a part begins that runs straight on, of which the trace has no more."""
+    where a part begins that runs straight on, of which the trace has no more. A log of what was run has the number of a
+    thread."""
 
     address: int
     length: int
     is_part: bool = False
+    thread: int = 0
 
 
 def _step(line: bytes) -> Optional[Step]:
@@ -54,7 +58,7 @@ def _step(line: bytes) -> Optional[Step]:
     if found:
         return Step(int(found[1], 16), 0)
     found = _RUN.match(line)
-    return Step(int(found[2], 16), 0, True) if found else None
+    return Step(int(found[2], 16), 0, True, int(found[1])) if found else None
 
 
 class Trace:
@@ -196,29 +200,57 @@ def _begun(end: int, process: "subprocess.Popen[bytes]") -> BinaryIO:
 # ---- arrivals through registers
 
 
-def arrivals(elf: Memory, path: str) -> List[List[int]]:
-    """The addresses of code at which a run arrived by a jump or a call through a register, by a return, and by no
-    instruction at all, as in a handler; each in the order in which they came first."""
-    found: Tuple[Dict[int, None], ...] = ({}, {}, {})
+class Arrivals(NamedTuple):
+    """The addresses of code at which a run arrived by a jump or a call through a register, by a return, and by no instruction
+    at all, as in a handler; each in the order in which they came first, with where it came from. `moves` has for each jump
+    and call through a register, but for returns, all addresses to which it went, where the trace has what was run in its
+    order, and not only what was run at all."""
+
+    places: List[Dict[int, int]]
+    moves: Dict[int, Dict[int, None]]
+
+
+def arrivals(elf: Memory, path: str) -> Arrivals:
+    """Where a run arrived, by the trace in a file."""
+    found = Arrivals([{}, {}, {}], {})
     seen = set()
-    last = -1
+    before: Dict[int, Step] = {}
     with open(path, "rb") as stream:
         for step in Trace(stream, path=path).steps():
-            at = step.address
-            if (last, at) not in seen:
-                seen.add((last, at))
-                kind = _arrival(elf, last, at)
+            last, at = before.get(step.thread), step.address
+            pair = (last.address if last else -1, at)
+            if pair not in seen:
+                seen.add(pair)
+                source = _source(elf, last, at) if last else -1
+                kind = _arrival(elf, source, at)
                 if kind is not None and elf.is_code(at):
-                    found[kind][at] = None
-            last = at
-    return [list(places) for places in found]
+                    found.places[kind].setdefault(at, source)
+                    if kind == JUMP and not step.length:
+                        found.moves.setdefault(source, {})[at] = None
+            before[step.thread] = step
+    return found
+
+
+def _source(elf: Memory, last: Step, at: int) -> int:
+    """The instruction from which control came to an address: the step before, or the last one of the part that began there. A
+    part that is left before its end is left by no jump."""
+    if not last.is_part:
+        return last.address
+    place = last.address
+    for _ in range(LONGEST_PART):
+        word = elf.instruction(place)
+        insn = decode(word, elf.extensions) if word is not None else None
+        if insn is None or insn.name[0] in "?b" or insn.name in ("jal", "jalr", "ebreak") or place + insn.length == at:
+            return place
+        place += insn.length
+    return last.address
 
 
 def _arrival(elf: Memory, last: int, at: int) -> Optional[int]:
     word = elf.instruction(last) if last >= 0 else None
     if word is None:
         return OTHER
-    insn: Insn = decode(word)
+    insn: Insn = decode(word, elf.extensions)
     if insn.name == "jalr":
         return RETURN if insn.rd == 0 and insn.rs1 in (1, 5) else JUMP
     is_next = at == last + insn.length or insn.name[0] == "?" and at == last + 4

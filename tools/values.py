@@ -6,7 +6,8 @@ from typing import Callable, Dict, Iterator, List, NamedTuple, Optional, Set, Tu
 
 from cfg_report import Block, Edge, Report
 from elf_file import Elf
-from instructions import ARGUMENTS, KEPT_BY_CALLS, Instruction, decode, signed
+from extensions import decode
+from instructions import ARGUMENTS, KEPT_BY_CALLS, Instruction, signed
 from unsure import Unsure
 
 # How many blocks are looked at for one register, how many copies are followed, and how many may set one constant.
@@ -21,13 +22,13 @@ class Code:
         self._known: Dict[int, List[Instruction]] = {}
 
     def of(self, block: Block) -> List[Instruction]:
-        """The instructions of a block. What is none of RV64GC ends them."""
+        """The instructions of a block. What is none of RV64GC, or of an extension that the file names, ends them."""
         if block.start not in self._known:
             data = self.elf.bytes_at(block.start, block.end) or b""
             found: List[Instruction] = []
             at = 0
             while at < len(data):
-                one = decode(data[at:at + 4], block.start + at)
+                one = decode(data[at:at + 4], block.start + at, self.elf.extensions)
                 if one is None:
                     break
                 found.append(one)
@@ -39,6 +40,16 @@ class Code:
         """The instruction that a block ends with."""
         found = self.of(block)
         return found[-1] if found and found[-1].end == block.end else None
+
+
+def last_instruction(elf: Elf, block: Block) -> Tuple[int, int]:
+    """The address and the length of a block's last instruction. By the reckoning of `cfg` what is not decoded has two bytes."""
+    data = elf.bytes_at(block.start, block.end) or b""
+    at = last = 0
+    while at < len(data):
+        last = at
+        at += 4 if data[at] & 3 == 3 and at + 4 <= len(data) else 2
+    return block.start + last, len(data) - last
 
 
 class Place(NamedTuple):
@@ -178,9 +189,17 @@ def _word(value: int) -> int:
     return signed(value, 32)
 
 
+def _low(value: int) -> int:
+    return value & 0xFFFFFFFF
+
+
 _ACTS: Dict[str, Callable[[int, int], int]] = {
     "addi": lambda a, b: a + b, "add": lambda a, b: a + b, "sub": lambda a, b: a - b, "slli": lambda a, b: a << b,
     "addiw": lambda a, b: _word(a + b), "addw": lambda a, b: _word(a + b), "slliw": lambda a, b: _word(a << b),
+    "sh1add": lambda a, b: (a << 1) + b, "sh2add": lambda a, b: (a << 2) + b, "sh3add": lambda a, b: (a << 3) + b,
+    "sh1add.uw": lambda a, b: (_low(a) << 1) + b, "sh2add.uw": lambda a, b: (_low(a) << 2) + b,
+    "sh3add.uw": lambda a, b: (_low(a) << 3) + b, "add.uw": lambda a, b: _low(a) + b, "slli.uw": lambda a, b: _low(a) << b,
+    "sext.b": lambda a, b: signed(a, 8), "sext.h": lambda a, b: signed(a, 16), "zext.h": lambda a, b: a & 0xFFFF,
     "ori": lambda a, b: a | b, "or": lambda a, b: a | b, "andi": lambda a, b: a & b, "srli": lambda a, b: a >> b,
 }
 

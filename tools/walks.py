@@ -12,7 +12,7 @@ from typing import BinaryIO, Counter, Dict, Iterator, List, NamedTuple, NoReturn
 from cfg_report import BLOCK_KINDS, Function, Report, ReportError, function_name
 from progress import Progress
 
-TRAPS = ("Fetch", "Illegal", "Breakpoint", "Ecall", "Csr", "Float", "LoadFault", "StoreFault", "Misaligned")
+TRAPS = ("Fetch", "Illegal", "Breakpoint", "Ecall", "Csr", "Float", "Unsupported", "LoadFault", "StoreFault", "Misaligned")
 
 _LINE = re.compile("at ([0-9a-f]{16})|out (%s)|end (left|steps|trap (?:%s))" % ("|".join(BLOCK_KINDS), "|".join(TRAPS)))
 

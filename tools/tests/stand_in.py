@@ -1,6 +1,6 @@
 #!/usr/bin/env python3
-"""Stands in for `cfg` in tests: the report on an ELF file without jump tables, as docs/REPORT.md defines it, worked out
-by plain passes over what is reached. It refuses a file whose code sections overlap, and one without sections."""
+"""Stands in for `cfg` in tests: the report on an ELF file without jump tables but those that it declares, as docs/REPORT.md
+defines it, worked out by plain passes over what is reached. It refuses a file whose code sections overlap, and one without sections."""
 
 from __future__ import annotations
 
@@ -11,6 +11,7 @@ from typing import Dict, List, Set, Tuple
 sys.dont_write_bytecode = True
 sys.path.insert(0, str(Path(__file__).resolve().parent.parent))
 
+from declared_tables import Declared, jump_register
 from decoding import UNKNOWN, Insn, decode
 from elf_file import Memory
 
@@ -22,6 +23,8 @@ class Graph:
 
     def __init__(self, elf: Memory, returning: Set[int]) -> None:
         self.elf, self.returning = elf, returning
+        declared = Declared(elf)
+        self.tables = {at: declared.targets(one) for at, one in declared.records.items() if jump_register(elf, at) is not None}
         self.functions = {symbol.address for symbol in elf.symbols()} | {elf.entry}
         self.insns: Dict[int, Insn] = {}
         self.leaders: Set[int] = set()
@@ -60,7 +63,9 @@ class Graph:
             callee = at + insn.imm
             after = [(behind, "after")] if callee in self.returning and is_code(behind) else []
             return "call", [(callee, "call"), *after]
-        if insn.name == "jalr" and insn.rd == 0:
+        if insn.name == "jalr" and self.tables.get(at):
+            return "table-open", [(to, "table") for to in sorted(set(self.tables[at]))]
+        if insn.name == "jalr" and (insn.rd == 0 or insn.is_stub):
             return ("return" if insn.rs1 == 1 else "unknown"), []
         if insn.name == "jalr":
             return "icall", [(behind, "after")] if is_code(behind) else []

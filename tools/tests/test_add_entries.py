@@ -14,6 +14,7 @@ import rows
 import cfg_report
 import small_elf
 from cfg_report import ReportError
+from declared_tables import Declared, Record
 from elf_file import Memory
 from frames import Frame, frames, landing_pads
 from hostile import NOP, RETURN, Halves, add, branch, immediate, jump, short_jump, upper
@@ -54,17 +55,23 @@ class WithFile(InFolder):
         """The entries that add_entries adds, by address."""
         out = str(self.folder / "out")
         done = self.run_script("add_entries", path, "-o", out, *options, cfg=str(small_elf.STAND_IN))
-        self.assertEqual((done.returncode, done.stderr), (0, ""))
+        complaints = [line for line in done.stderr.splitlines() if not line.startswith("add_entries: round ")]
+        self.assertEqual((done.returncode, complaints), (0, []))
         self.said_last = done.stdout.splitlines()
         before = {symbol.address for symbol in Memory(path).symbols()}
         return {symbol.address: symbol.name.decode() for symbol in Memory(out).symbols() if symbol.address not in before}
+
+    def declared(self) -> Dict[int, Tuple[Record, Tuple[int, ...]]]:
+        """The records of the file that was written, and where their entries lead."""
+        found = Declared(Memory(str(self.folder / "out")))
+        return {jump: (record, found.targets(record)) for jump, record in found.records.items()}
 
     def refused(self, path: str, *options: str, why: str) -> None:
         """add_entries says why in a line, ends with status 2, and leaves no file behind."""
         there = sorted(os.listdir(self.folder))
         done = self.run_script("add_entries", path, "-o", str(self.folder / "out"), *options, cfg=str(small_elf.STAND_IN))
         self.assertEqual(done.returncode, 2, done.stderr)
-        self.assertRegex(done.stderr, f"^(cfg: .*\n)?add_entries: .*{why}.*\n$")
+        self.assertRegex(done.stderr, f"^(cfg: .*\n|add_entries: round .*\n)*add_entries: .*{why}.*\n$")
         self.assertEqual(sorted(os.listdir(self.folder)), there)
 
 
@@ -298,7 +305,7 @@ class Named(WithFile):
         path = self.elf_file([code(CALL_A5 + RETURN * 4), Part(".data", flags=ALLOC | WRITE, address=DATA_AT, data=words(0x10006))])
         self.assertIn("; try add_entries with --pointers, --trace", self.said_of("unresolved", path))
         self.assertNotIn("try add_entries", self.said_of("unresolved", self.elf_file([code(CALL_A5 + RETURN)])))
-        self.assertIn("; try add_entries with --switches, 4 cases that are not reached", self.said_of("unresolved", Switches.program(self, 4)))  # type: ignore[arg-type]
+        self.assertIn("; try add_entries with --switches, which declares its table: 4 cases, 4 of them not reached", self.said_of("unresolved", Switches.program(self, 4)))  # type: ignore[arg-type]
 
 
 class Traces(WithFile):
@@ -307,10 +314,15 @@ class Traces(WithFile):
         path = self.elf_file([code((CALL_A5 + RETURN + NOP * 13)[:8] + JUMP_A5 + ROOM[:2] + RETURN * 4)])
         run = [0x10000, 0x10010, 0x10014, 0x10018, 0x10004, 0x1001A, 0x70000]
         plain = self.file("trace.txt", "".join(f"{at:x}\n" for at in run).encode())
-        expected = {0x10010: "entry_trace_10010", 0x10014: "entry_trace_10014", 0x1001A: "entry_trace_1001a"}
+        expected = {0x10010: "entry_trace_10010", 0x1001A: "entry_trace_1001a"}
         self.assertEqual(self.added(path, "--trace", plain), expected)
+        self.assertEqual({jump: targets for jump, (_, targets) in self.declared().items()}, {0x10010: (0x10014,)})
         log = "".join(f"Trace 0: 0x7f00 [0000000000000000/{at:016x}/00000000/ff000201] \n" for at in run)
         self.assertEqual(self.added(path, "--trace", self.file("log", log.encode())), expected)
+        self.assertEqual({jump: targets for jump, (_, targets) in self.declared().items()}, {0x10010: (0x10014,)})
+        # What was translated, in the order of that, tells of no jump where it went.
+        log = "".join(f"0x{at:x}:  {memory_word:08x}  what\n" for at, memory_word in ((0x10000, 0x780E7), (0x10010, 0x78067), (0x10014, 0x1141)))
+        self.assertEqual(self.added(path, "--trace", self.file("translated", log.encode())), {at: expected.get(at, "entry_trace_10014") for at in (0x10010, 0x10014)})
         self.refused(path, "--trace", self.file("text", b"10000\nhello\n"), why="line 2: no address")
         self.refused(path, "--trace", str(self.folder / "missing"), why="No such file")
 
@@ -354,14 +366,37 @@ class Switches(WithFile):
         parts = [code(halves), *symbols(2, ["main", "next"], [CODE_AT, 0x10050]), Part(".data.rel.ro" if flags & WRITE else ".rodata", flags=flags, address=DATA_AT, data=data + bytes(8)), *more]
         return self.elf_file(parts)
 
-    CASES = {0x10044: "case_main_0", 0x10040: "case_main_1", 0x1004C: "case_main_2", 0x10048: "case_main_3"}
+    CASES, JUMP = (0x10044, 0x10040, 0x1004C, 0x10048), 0x10020
 
     def test_cases(self) -> None:
         for width in (4, 8):
             for bounded in (True, False):
                 with self.subTest(width=width, bounded=bounded):
-                    self.assertEqual(self.added(self.program(width, bounded=bounded), "--switches"), self.CASES)
-        self.assertEqual(self.added(self.program(8, flags=ALLOC | WRITE), "--switches"), self.CASES)
+                    self.assertEqual(self.added(self.program(width, bounded=bounded), "--switches"), {})
+                    record = Record(self.JUMP, DATA_AT, DATA_AT if width == 4 else 0, 4, width)
+                    self.assertEqual(self.declared(), {self.JUMP: (record, self.CASES)})
+                    self.assertEqual(self.said_last[0], "switches: 1 tables")
+
+    def test_tables_that_are_copied(self) -> None:
+        path = self.program(8, flags=ALLOC | WRITE)
+        self.assertEqual(self.added(path, "--switches"), {})
+        record, targets = self.declared()[self.JUMP]
+        self.assertEqual(targets, self.CASES)
+        self.assertEqual(self.said_last[0], "switches: 1 tables, 1 of them copied")
+        self.assertEqual((record.added, record.count, record.size), (0, 4, 8))
+        out = Memory(str(self.folder / "out"))
+        copied = [section for section in out.sections if section.name == b".cfg.targets"]
+        self.assertEqual([(one.address, one.flags, one.size) for one in copied], [(record.base, ALLOC, 32)])
+        self.assertTrue(all(one.end <= record.base for one in Memory(path).allocated))
+
+    def test_relocated_tables_are_copied_with_what_relocations_put_there(self) -> None:
+        relocations = b"".join(words(DATA_AT + 8 * number, 3, case) for number, case in enumerate(self.CASES))
+        zeros = self.program(8, flags=ALLOC | WRITE, more=[Part(".rela.dyn", RELA, ALLOC, 0x40000, relocations, 0, 24)])
+        held, table = bytearray(Path(zeros).read_bytes()), Memory(zeros).section(".data.rel.ro")
+        assert table is not None
+        held[table.offset:table.offset + 32] = bytes(32)
+        self.added(self.file("zeros", bytes(held)), "--switches")
+        self.assertEqual(self.declared()[self.JUMP][1], self.CASES)
 
     def test_what_can_be_written_is_no_table(self) -> None:
         parts = [code(NOP * 4)]

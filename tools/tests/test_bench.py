@@ -21,8 +21,7 @@ from hostile import with_names
 from made import made_with_functions
 from test_tools import script
 
-DUMP = rows.TOOLS.parent / "crates" / "dump_workers" / "out" / "dump_workers"
-DUMP_LIVES = rows.TOOLS.parent / "crates" / "dump_lives" / "out" / "dump_lives"
+DUMP = rows.TOOLS.parent / "crates" / "dump_threads" / "out" / "dump_threads"
 
 
 class Contrived(unittest.TestCase):
@@ -139,12 +138,12 @@ class Bench(unittest.TestCase):
 
 
 class WorkersOf(unittest.TestCase):
-    """The table of what workers counted, by a script in the place of dump_workers and by dump_workers itself."""
+    """The table of what workers counted, by a script in the place of dump_threads and by dump_threads itself."""
 
     def said(self, folder: str, workers: int, *, program: Optional[Path] = None) -> "subprocess.CompletedProcess[str]":
         path = Path(folder) / "made.elf"
         path.write_bytes(made_with_functions(4))
-        environment = dict(os.environ, **({"DUMP_WORKERS": str(program)} if program else {}))
+        environment = dict(os.environ, **({"DUMP_THREADS": str(program)} if program else {}))
         command = [sys.executable, "-B", str(rows.TOOLS / "bench"), "--workers-of", str(workers), str(path)]
         return subprocess.run(command, env=environment, capture_output=True, text=True)
 
@@ -168,7 +167,7 @@ class WorkersOf(unittest.TestCase):
                 done = self.said(folder, 2, program=program)
                 self.assertEqual((done.returncode, done.stdout, done.stderr.count("\n")), (2, "", 1))
 
-    @unittest.skipUnless(os.access(DUMP, os.X_OK), "dump_workers is not built")
+    @unittest.skipUnless(os.access(DUMP, os.X_OK), "dump_threads is not built")
     def test_what_workers_count(self) -> None:
         for workers in (2, 5, 64):
             with self.subTest(workers), tempfile.TemporaryDirectory() as folder:
@@ -186,12 +185,12 @@ class WorkersOf(unittest.TestCase):
 
 
 class LivesOf(unittest.TestCase):
-    """The table of what lists of live registers take, by a script in the place of dump_lives and by dump_lives itself."""
+    """The table of what lists of live registers take, by a script in the place of dump_threads and by dump_threads itself."""
 
     def said(self, folder: str, *, program: Optional[Path] = None) -> "subprocess.CompletedProcess[str]":
         path = Path(folder) / "row.elf"
         path.write_bytes(rows.elf(40))
-        environment = dict(os.environ, **({"DUMP_LIVES": str(program)} if program else {}))
+        environment = dict(os.environ, **({"DUMP_THREADS": str(program)} if program else {}))
         command = [sys.executable, "-B", str(rows.TOOLS / "bench"), "--lives-of", str(path)]
         return subprocess.run(command, env=environment, capture_output=True, text=True)
 
@@ -225,11 +224,11 @@ class LivesOf(unittest.TestCase):
                 done = self.said(folder, program=program)
                 self.assertEqual((done.returncode, done.stderr.count("\n")), (2, 1))
 
-    @unittest.skipUnless(os.access(DUMP_LIVES, os.X_OK), "dump_lives is not built")
+    @unittest.skipUnless(os.access(DUMP, os.X_OK), "dump_threads is not built")
     def test_lists_of_a_file(self) -> None:
         with tempfile.TemporaryDirectory() as folder:
             self.cells(self.said(folder))
-            done = subprocess.run([DUMP_LIVES, Path(folder) / "row.elf", "3", "2"], capture_output=True, text=True)
+            done = subprocess.run([DUMP, "lives", "3", "2", Path(folder) / "row.elf"], capture_output=True, text=True)
         self.assertEqual(done.stdout, "functions=1 blocks=1 checksum=00000000fffffbfe\n")
 
 

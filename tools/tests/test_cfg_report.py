@@ -192,5 +192,33 @@ class Problems(unittest.TestCase):
                 self.assertTrue(any(why in problem for problem in found), found)
 
 
+class Writing(unittest.TestCase):
+    def test_what_is_read_is_written(self) -> None:
+        for number in rows.ROWS:
+            for kind in ("graph", "functions", "blocks", "edges", "live"):
+                text, out = rows.report(number, kind), io.BytesIO()
+                cfg_report.write(load(text), out)
+                self.assertEqual(out.getvalue(), text)
+
+    def test_names_with_escapes(self) -> None:
+        text, out = rows.report(5).replace(b" c\n", b" a\\\\b\\x20c\n"), io.BytesIO()
+        cfg_report.write(load(text), out)
+        self.assertEqual(out.getvalue(), text)
+
+
+class Growing(unittest.TestCase):
+    def test_reports_one_after_the_other(self) -> None:
+        growing = cfg_report.Growing()
+        for number in (6, 17, 13, 10, 33, 10, 16, 41):
+            whole, found = load(rows.report(number)), growing.read(io.BytesIO(rows.report(number)))
+            self.assertEqual((found.entry, found.blocks, found.edges), (whole.entry, whole.blocks, sorted(whole.edges)), number)
+            self.assertEqual([(one.entry, one.may_return) for one in found.functions], [(one.entry, one.may_return) for one in whole.functions])
+
+    def test_what_is_wrong_is_said(self) -> None:
+        for text, why in ((rows.report(6)[:-4], "cut off"), (rows.report(6, "edges"), "kind graph is needed"), (b"", "empty")):
+            with self.assertRaisesRegex(ReportError, why):
+                cfg_report.Growing().read(io.BytesIO(text))
+
+
 if __name__ == "__main__":
     unittest.main()

@@ -80,6 +80,41 @@ class CheckTrace(InFolder):
         self.assertEqual(self.run_main("check_trace", "--report", report, "--log", path, elf)[1][1:],
                          ["             2  along an edge: fall", "             1  out of a block: return", "0 outliers"])
 
+    # main calls f, which calls g and returns; by the report g does not return, since it ends with what is not decoded.
+    RULED_OUT = (small.code("008000EF 00008067", "008000EF 00008067", "0AB56533 00008067"),
+                 "10000 no-return main: 10000, 10008 no-return f: 10008, 10010 no-return g: 10010",
+                 "10000 10004 call, 10008 1000c call, 10010 10012 stop", "10000 10008 call, 10008 10010 call")
+
+    def test_returns_that_the_report_rules_out(self) -> None:
+        code, functions, blocks, edges = self.RULED_OUT
+        self.elf = self.file("elf", small.elf([small.Part(".text", small.CODE, 0x10000, code)], [("main", 0x10000, 8), ("f", 0x10008, 8), ("g", 0x10010, 8)]))
+        self.report = self.file("report", small.report(functions, blocks, edges))
+        status, said = self.checked(0x10000, 0x10008, 0x10010, 0x10014, 0x1000C, 0x10004, 0x30000)
+        self.assertEqual(status, 1)
+        self.assertIn("             2  of these by a return that the report rules out: OUTLIER", said)
+        self.assertEqual(said[-7:], [
+            "OUTLIER: a return from 10014 (g+0x4) to 1000c (f+0x4), 1 times, first at step 5",
+            "    the call of g in the block at 10008 has no edge `after`",
+            "    g at 10010 is said not to return: MAY RETURN AFTER ALL, the instruction at 10010 is not decoded (0ab56533 max, of the extension Zbb); "
+            "stops at 10010, where the instruction at 10010 is not decoded (0ab56533 max, of the extension Zbb)",
+            "OUTLIER: a return from 1000c (f+0x4) to 10004 (main+0x4), 1 times, first at step 6",
+            "    the call of f in the block at 10000 has no edge `after`",
+            "    f at 10008 is said not to return: MAY RETURN AFTER ALL, through g: the instruction at 10010 is not decoded (0ab56533 max, of the extension "
+            "Zbb); calls g, which does not return, at 10008",
+            "2 outliers"])
+
+    def test_a_call_through_a_register_of_what_does_not_return(self) -> None:
+        # jalr a5; ret; and at 10008 the same g.
+        code = small.code("000780E7 00008067", "0AB56533 00008067")
+        self.elf = self.file("elf", small.elf([small.Part(".text", small.CODE, 0x10000, code)], [("main", 0x10000, 8), ("g", 0x10008, 8)]))
+        self.report = self.file("report", small.report("10000 may-return main: 10000 10004, 10008 no-return g: 10008",
+                                                       "10000 10004 icall, 10004 10008 return, 10008 1000a stop", "10000 10004 after"))
+        status, said = self.checked(0x10000, 0x10008, 0x1000C, 0x10004)
+        self.assertEqual((status, said[-1]), (1, "1 outliers"))
+        self.assertIn("g at 10008 is said not to return", said[-2])
+        # A jump back to the same place, as by longjmp, is a return of no call that is known.
+        self.assertEqual(self.checked(0x10004, 0x30000, 0x30004, 0x10000)[0], 0)
+
     def test_threads_and_signals(self) -> None:
         # The moves of two threads are apart. A signal leads to its handler, at any instruction, once.
         steps = (0x10000, (1, 0x10008), 0x10004, (1, 0x10010), "--- SIGURG {si_signo=SIGURG, si_code=SI_TKILL} ---", 0x10008, (1, 0x10000))

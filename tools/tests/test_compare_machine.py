@@ -10,7 +10,7 @@ import rows
 import binutils
 from test_tools import InFolder, script
 
-DUMP = rows.TOOLS.parent / "crates" / "dump_machine" / "out" / "dump_machine"
+DUMP = rows.TOOLS.parent / "crates" / "dump_instructions" / "out" / "dump_instructions"
 TOOL = script("compare_machine")
 LACKING = binutils.missing("qemu-riscv64", TOOL.AS, TOOL.LD)
 
@@ -59,7 +59,7 @@ import sys
 sys.path.insert(0, {str(rows.TOOLS)!r})
 sys.path.insert(0, {str(rows.TOOLS / 'tests')!r})
 from test_tools import script
-lines = [" ".join(f"{{one:016x}}" for one in state) for state in script("compare_machine").by_qemu(sys.argv[2])]
+lines = [" ".join(f"{{one:016x}}" for one in state) for state in script("compare_machine").by_qemu(sys.argv[3])]
 {change}
 print("\\n".join(lines) + "\\ntrap Ecall")
 """)
@@ -67,8 +67,8 @@ print("\\n".join(lines) + "\\ntrap Ecall")
         return str(path)
 
     def said_of(self, machine: str, *words: str) -> "tuple[int, list[str]]":
-        os.environ["MACHINE_DUMP"] = machine
-        self.addCleanup(os.environ.pop, "MACHINE_DUMP", None)
+        os.environ["DUMP_INSTRUCTIONS"] = machine
+        self.addCleanup(os.environ.pop, "DUMP_INSTRUCTIONS", None)
         done = self.run_process("compare_machine", "--programs", "1", "--length", "30", *words)
         self.assertEqual(done.stderr, "")
         return done.returncode, done.stdout.splitlines()
@@ -84,8 +84,8 @@ print("\\n".join(lines) + "\\ntrap Ecall")
         self.assertRegex(said[0], r"^DIFFERENT program 0: step 50, after [0-9a-f]+ .*: x31 is [0-9a-f]{16} in qemu and [0-9a-f]{16} in the machine$")
         self.assertTrue((self.folder / "kept" / "1-0" / "program.elf").exists())
 
-    @unittest.skipUnless(os.access(DUMP, os.X_OK), "dump_machine is not built")
-    def test_dump_machine(self) -> None:
+    @unittest.skipUnless(os.access(DUMP, os.X_OK), "dump_instructions is not built")
+    def test_dump_instructions(self) -> None:
         self.assertEqual(self.said_of(str(DUMP), "--length", "100")[0], 0)
 
 

@@ -17,7 +17,7 @@ from elf_file import Elf
 from test_tools import InFolder, script
 
 TABLES = script("compare_tables")
-DUMP = rows.TOOLS.parent / "crates" / "dump_tables" / "out" / "dump_tables"
+DUMP = rows.TOOLS.parent / "crates" / "dump_files" / "out" / "dump_files"
 
 
 class NoProgram(unittest.TestCase):
@@ -51,11 +51,12 @@ class WrittenTables(unittest.TestCase):
     def test_jumps_through_registers(self) -> None:
         line = {"c.jr": binutils.Line(2, 0, "c.jr", ["x15"]), "c.ret": binutils.Line(2, 0, "c.jr", ["x1"]),
                 "jalr": binutils.Line(4, 0, "jalr", ["x0", "0(x14)"]), "ret": binutils.Line(4, 0, "jalr", ["x0", "0(x1)"]),
+                "stub": binutils.Line(4, 0, "jalr", ["x6", "0(x28)"]), "other": binutils.Line(4, 0, "jalr", ["x6", "0(x5)"]),
                 "call": binutils.Line(4, 0, "jalr", ["x1", "0(x14)"]), "add": binutils.Line(4, 0, "add", ["x0", "x1", "x14"])}
         listed = dict(enumerate(line.values()))
-        self.assertEqual(list(TABLES.register_jumps(listed)), [0, 2])
+        self.assertEqual(list(TABLES.register_jumps(listed)), [0, 2, 4])
 
-    @unittest.skipUnless(DUMP.exists(), "dump_tables is not built")
+    @unittest.skipUnless(DUMP.exists(), "dump_files is not built")
     def test_a_program_of_ones_own(self) -> None:
         said = io.StringIO()
         with contextlib.redirect_stdout(said):

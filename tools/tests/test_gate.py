@@ -3,12 +3,15 @@
 from __future__ import annotations
 
 import contextlib
-import io
 import os
+import re
+import shutil
+import subprocess
 import sys
 import tempfile
 import unittest
 from pathlib import Path
+from typing import List, Tuple
 from unittest import mock
 
 import rows
@@ -18,10 +21,13 @@ assert rows.TOOLS
 
 # Does as the prover for a tenth of a second: `sleep` under the name `rattle`, with the words that say what it proves.
 RT = """#!/bin/sh
-bash -c 'exec -a rattle "$0" -c "import time; [0 for _ in range(30000000)]" --crate-name low' "$PYTHON"
-echo "2 passed, 0 failed"
+bash -c 'exec -a rattle "$0" -c "import time; [0 for _ in range(10000000)]" --crate-name low' "$PYTHON"
+echo "2 passed, 0 failed: $*"
 exit 3
 """
+# The help of a kit whose gate keeps what it proved, and of one whose gate does not.
+HELP = '[ "$1" = help ] && { echo "rt ci %s the merge gate" >&2; exit 0; }\n'
+KEEPS, FROM_NOTHING = HELP % "[--anew] [CRATE..]", HELP % ""
 
 
 class GateTimes(unittest.TestCase):
@@ -38,13 +44,17 @@ class GateTimes(unittest.TestCase):
             ([*words, "--test"], "/top/crates/low", ("low", "tests")),
             ([*words, "--incremental", "/tmp/rt-edits-1-a/seed"], "/tmp/rt-edit-1-b", ("low", "start of edits")),
             ([*words, "--incremental", "/tmp/rt-edits-1-a/3"], "/tmp/rt-edit-1-b", ("low", "edits")),
+            ([*words, "--incremental", "/tmp/rt-edits-c"], "/tmp/rt-edit-1-b", ("low", "start of edits")),
+            ([*words, "--incremental", "/tmp/rt-edits-c"], "/tmp/rt-edit-1-c", ("low", "edits")),
+            ([*words, "--incremental", "/tmp/rt-edits-d"], "/tmp/rt-edit-1-b", ("low", "start of edits")),
             (words, "/tmp/rt-edit-1-b", ("low", "edits")),
             (["python3", *words[1:]], "/top", None),
             (["/kit/bin/rattle", "--help"], "/top", None),
         ]
+        begun = set()
         for given, at, told in cases:
             with self.subTest(given=given, at=at):
-                self.assertEqual(self.gate.told_by(given, at), told)
+                self.assertEqual(self.gate.told_by(given, at, begun), told)
 
     def test_time_and_parent_of_a_process_whose_name_has_spaces(self) -> None:
         ticks = self.gate.TICKS
@@ -68,35 +78,202 @@ class GateTimes(unittest.TestCase):
         self.assertEqual(self.gate.put_into(text, ["new"]), "before\n<!-- gate -->\n\nnew\n\n<!-- end -->\nafter\n")
         self.assertIsNone(self.gate.put_into("no mark\n", ["new"]))
 
-    def test_it_runs_the_gate_and_ends_as_that_does(self) -> None:
+    def test_the_line_of_the_sum(self) -> None:
+        seen = [self.gate.Seen("a", "check", 3600.0), self.gate.Seen("b", "edits", 60.0)]
+        self.assertEqual(self.gate.told_sum(seen, 1800.0), "in all 3,660 s of processor time, 61 min, in 30 min on a clock")
+
+    def run_gate(self, script: str, *words: str) -> "Tuple[int, str]":
         rt = self.folder / "rt"
-        rt.write_text(RT)
+        rt.write_text(RT.replace("\n", "\n" + script, 1))
         rt.chmod(0o755)
         path = f"{self.folder}{os.pathsep}{os.environ['PATH']}"
-        said = io.StringIO()
-        with mock.patch.dict(os.environ, {"PATH": path, "PYTHON": sys.executable}), mock.patch.object(sys, "argv", ["gate_times"]):
-            with mock.patch.object(self.gate, "PAUSE", 0.02), contextlib.redirect_stdout(said):
-                self.assertEqual(self.gate.main(), 3)
-        self.assertIn("| `low` |", said.getvalue())
+        with tempfile.TemporaryFile("w+") as said:
+            # (what the gate prints goes past sys.stdout)
+            kept = os.dup(1)
+            os.dup2(said.fileno(), 1)
+            try:
+                with mock.patch.dict(os.environ, {"PATH": path, "PYTHON": sys.executable}), mock.patch.object(sys, "argv", ["gate_times", *words]):
+                    with mock.patch.object(self.gate, "PAUSE", 0.02), contextlib.redirect_stdout(said), contextlib.redirect_stderr(said):
+                        status = self.gate.main()
+            finally:
+                os.dup2(kept, 1)
+                os.close(kept)
+            said.seek(0)
+            return status, said.read()
+
+    def test_it_runs_the_gate_and_ends_as_that_does(self) -> None:
+        for script, words, asked in (
+            (FROM_NOTHING, [], "ci"),
+            (FROM_NOTHING, ["--anew"], "ci"),
+            (KEEPS, [], "ci"),
+            (KEEPS, ["--anew", "low"], "ci --anew low"),
+        ):
+            with self.subTest(words=words, keeps=script == KEEPS):
+                status, said = self.run_gate(script, *words)
+                self.assertEqual(status, 3)
+                self.assertIn(f"2 passed, 0 failed: {asked}\n", said)
+                self.assertIn("| `low` |", said)
+                self.assertRegex(said, r"\nin all [0-9]+ s of processor time, 0 min, in 0 min on a clock\n$")
+
+    def test_a_gate_that_takes_no_crates(self) -> None:
+        status, said = self.run_gate(FROM_NOTHING, "low")
+        self.assertEqual((status, said), (2, "gate_times: the gate of this kit takes no crates\n"))
+
+
+# Refuses each edit but one, with an edit that cannot be read, and keeps what it was asked.
+RT_EDITS = """#!/bin/sh
+top=$(dirname "$0")
+echo "$(basename "$PWD") $*" >>"$top/asked"
+case $1 in
+    version) echo "kit 1" ;;
+    must-fail)
+        for edit in crates/$2/must-fail/*; do
+            name=$(basename "$edit")
+            case $name in
+                more-weak.edit) echo "rt: must-fail $2/$name: NOT REFUSED: the crate is still proved with this edit" ;;
+                more-lost.edit) ;;
+                *) echo "rt: must-fail $2/$name: refused, as it must be: fn x" ;;
+            esac
+        done
+        ls crates >>"$top/asked"
+        exit 1 ;;
+esac
+"""
 
 
 class TryEdits(unittest.TestCase):
-    def test_the_copy_has_the_other_edits_in_the_place_of_the_gates(self) -> None:
-        edits = script("try_edits")
-        with tempfile.TemporaryDirectory() as folder:
-            top, room = Path(folder) / "top", Path(folder) / "room"
-            for name in ("a/must-fail/one.edit", "a/more-edits/two.edit", "a/out/big", "b/must-fail/three.edit"):
-                file = top / "crates" / name
-                file.parent.mkdir(parents=True)
-                file.write_text(name)
-            for name in ("crates.txt", "HANDLES"):
-                (top / name).write_text(name)
-            room.mkdir()
-            self.assertEqual(edits.crates_with_more(str(top)), ["a"])
-            edits.copy_of(str(top), str(room), ["a"])
-            found = sorted(str(it.relative_to(room)) for it in room.rglob("*") if it.is_file())
-        wanted = ["HANDLES", "crates.txt", "crates/a/must-fail/two.edit", "crates/b/must-fail/three.edit"]
-        self.assertEqual(found, wanted)
+    def setUp(self) -> None:
+        folder = tempfile.TemporaryDirectory()
+        self.addCleanup(folder.cleanup)
+        self.top = Path(folder.name)
+        shutil.copytree(rows.TOOLS, self.top / "tools", ignore=shutil.ignore_patterns("tests", "__pycache__"))
+        for name in ("low/src/lib.rt", "low/must-fail/one.edit", "low/out/rlib/stamp", "low/out/incremental/big", "high/src/lib.rt",
+                     "high/must-fail/weak.edit", "high/more-edits/weak.edit", "high/more-edits/lost.edit", "apart/src/lib.rt",
+                     "apart/more-edits/far.edit", "none/src/lib.rt"):
+            self.write(f"crates/{name}", name)
+        self.write("crates.txt", "low: clap\nhigh may_wait=1: low\napart:\nnone:\n")
+        self.write("HANDLES", "none")
+        self.write("rt", RT_EDITS)
+        (self.top / "rt").chmod(0o755)
+
+    def write(self, name: str, text: str) -> None:
+        file = self.top / name
+        file.parent.mkdir(parents=True, exist_ok=True)
+        file.write_text(text)
+
+    def edits(self, *words: str) -> "subprocess.CompletedProcess[str]":
+        command = [sys.executable, str(self.top / "tools" / "try_edits"), "--results", str(self.top / "kept"), *words]
+        path = f"{self.top}{os.pathsep}{os.environ['PATH']}"
+        return subprocess.run(command, env=dict(os.environ, PATH=path), capture_output=True, text=True)
+
+    def tried(self) -> List[str]:
+        """The crates whose edits were tried since the last call."""
+        asked = (self.top / "asked").read_text() if (self.top / "asked").exists() else ""
+        (self.top / "asked").write_text("")
+        return re.findall("must-fail (.*)", asked)
+
+    def test_all_edits_and_what_is_not_refused(self) -> None:
+        done = self.edits()
+        self.assertEqual((done.returncode, done.stderr), (1, ""))
+        self.assertEqual(done.stdout.splitlines()[-3:], [
+            "high/more-edits/lost.edit: it could not be tried",
+            "high/more-edits/weak.edit: NOT REFUSED: the crate is still proved with this edit",
+            "3 refused, 2 not",
+        ])
+        self.assertEqual(self.tried(), ["low", "high", "apart"])
+
+    def test_it_goes_on_where_it_stopped(self) -> None:
+        self.edits("low")
+        self.edits("apart")
+        self.tried()
+        self.edits()
+        self.assertEqual(self.tried(), ["high"])
+        self.assertIn("5 edits, 4 of them tried before", self.edits().stdout)
+        self.assertEqual(self.tried(), ["high"], "the one that could not be tried is tried again")
+
+    def test_a_change_below_counts(self) -> None:
+        self.edits()
+        self.tried()
+        self.write("crates/low/src/lib.rt", "changed")
+        self.edits("high", "apart")
+        self.assertEqual(self.tried(), ["high"])
+        self.write("crates/apart/more-edits/far.edit", "changed")
+        self.edits("apart", "low")
+        self.assertEqual(self.tried(), ["apart", "low"])
+
+    def test_names(self) -> None:
+        done = self.edits("high/lost", "apart/more-edits/far.edit")
+        self.assertEqual((done.returncode, done.stdout.splitlines()[-1]), (1, "1 refused, 1 not"))
+        done = self.edits("high/must-fail/weak.edit")
+        self.assertEqual((done.returncode, done.stdout.splitlines()[-1]), (0, "1 refused, 0 not"))
+        for word in ("nothing", "low/two", "none"):
+            done = self.edits(word)
+            self.assertEqual((done.returncode, done.stdout, done.stderr), (2, "", f"try_edits: there is no edit {word}\n"))
+
+    def test_the_copy(self) -> None:
+        edits, room = script("try_edits"), self.top / "room"
+        room.mkdir()
+        uses = edits.uses_of(str(self.top))
+        edits.put_copy(str(room), str(self.top), edits.edits_of(str(self.top), "high"), uses)
+        found = sorted(str(it.relative_to(room)) for it in room.rglob("*") if it.is_file())
+        self.assertEqual(found, [
+            "HANDLES", "crates.txt", "crates/high/must-fail/more-lost.edit", "crates/high/must-fail/more-weak.edit",
+            "crates/high/must-fail/weak.edit", "crates/high/src/lib.rt", "crates/low/out/rlib/stamp", "crates/low/src/lib.rt"])
+        self.assertEqual((room / "crates.txt").read_text(), "low: clap\nhigh may_wait=1: low\n")
+
+
+# Makes the program cfg, as the gate does, and ends with the status that is asked for.
+RT_CI = """#!/bin/sh
+case $1 in
+    version) echo "kit 1" ;;
+    ci)
+        mkdir crates/cfg/out
+        printf '#!/bin/sh\\necho ran\\n' >crates/cfg/out/cfg
+        chmod 755 crates/cfg/out/cfg
+        echo "1 passed, 0 failed"
+        exit "$STATUS" ;;
+    *) exit 9 ;;
+esac
+"""
+OWN_TEST = "import unittest\n\nclass One(unittest.TestCase):\n    def test_one(self):\n        self.assertTrue({})\n"
+
+
+class CiRun(unittest.TestCase):
+    """.ci/run, with a command instead of rt."""
+
+    def run_ci(self, status: int, passes: bool) -> "subprocess.CompletedProcess[str]":
+        folder = tempfile.TemporaryDirectory()
+        self.addCleanup(folder.cleanup)
+        self.top = Path(folder.name)
+        for name in (".ci", "bin"):
+            shutil.copytree(rows.TOOLS.parent / name, self.top / name)
+        (self.top / "tools" / "tests").mkdir(parents=True)
+        shutil.copy(rows.TOOLS / "sources.py", self.top / "tools")
+        (self.top / "tools" / "tests" / "test_one.py").write_text(OWN_TEST.format(passes))
+        for name in ("cfg", "cfg_walk", "cfg_check"):
+            (self.top / "crates" / name / "src").mkdir(parents=True)
+            (self.top / "crates" / name / "src" / "main.rt").write_text("")
+        (self.top / "crates.txt").write_text("cfg:\ncfg_walk:\ncfg_check:\n")
+        (self.top / "path").mkdir()
+        (self.top / "path" / "rt").write_text(RT_CI)
+        (self.top / "path" / "rt").chmod(0o755)
+        self.environment = dict(os.environ, PATH=f"{self.top / 'path'}{os.pathsep}{os.environ['PATH']}", STATUS=str(status))
+        return subprocess.run([str(self.top / ".ci" / "run")], cwd="/", env=self.environment, capture_output=True, text=True)
+
+    def test_it_ends_as_the_gate_or_the_tests_do(self) -> None:
+        for status, passes, wanted in ((0, True, 0), (0, False, 1), (1, True, 1), (2, False, 2)):
+            with self.subTest(status=status, passes=passes):
+                done = self.run_ci(status, passes)
+                self.assertEqual(done.returncode, wanted)
+                self.assertEqual(done.stdout, "1 passed, 0 failed\n" + "the tests of tools/ failed\n" * (not passes))
+
+    def test_the_programs_of_the_gate_run_without_a_build(self) -> None:
+        done = self.run_ci(0, True)
+        left_out = [line for line in done.stderr.splitlines() if line.startswith("the gate left no program ")]
+        names = [line.split()[5].rstrip(":") for line in left_out]
+        self.assertEqual(names, ["cfg_walk", "cfg_check", "dump_instructions", "dump_files", "dump_threads"])
+        ran = subprocess.run([str(self.top / "bin" / "cfg")], env=self.environment, capture_output=True, text=True)
+        self.assertEqual((ran.returncode, ran.stdout, ran.stderr), (0, "ran\n", ""))
 
 
 if __name__ == "__main__":

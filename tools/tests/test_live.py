@@ -79,13 +79,15 @@ class Readers(InFolder):
         self.assertEqual(len(found[3]["live"]), 29)
 
     def test_what_cfg_is_asked_for(self) -> None:
-        asked, elf = self.folder / "asked", self.elf(6)
-        program = Path(self.answering(0, rows.report(6, "live")))
-        program.write_text(program.read_text().replace("\n", f"\necho \"$@\" >>'{asked}'\n", 1))
+        asked, elf, program = self.folder / "asked", self.elf(6), self.folder / "cfg"
+        program.write_text(f"#!/bin/sh\necho \"$@\" >>'{asked}'\n[ \"$1\" = --report ] && exec cat '{self.row(6, 'live')}'\nexec cat '{self.row(6)}'\n")
+        program.chmod(0o755)
         self.assertIn("report live, entry 0000000000010000", self.said("summary", "--live", elf, cfg=str(program)))
         self.assertIn('"record":"live"', "".join(self.said("to_json", "--live", elf, cfg=str(program))))
         self.said("free_registers", elf, cfg=str(program))
-        self.assertEqual(asked.read_text(), f"--report live -- {elf}\n" * 3)
+        live, graph = f"--report live -- {elf}\n", f"-- {elf}\n"
+        # The graph tells which masks are not to be relied on.
+        self.assertEqual(asked.read_text(), live + graph + live + graph + live)
 
     def test_summary(self) -> None:
         said = self.said("summary", self.row(13, "live"))
@@ -134,6 +136,42 @@ class FreeRegisters(InFolder):
         self.assertIn("this is a report of kind graph, and one of kind live is needed", self.run_main("free_registers", self.row(6))[2])
         self.assertIn("no function has the name", self.run_main("free_registers", self.row(6, "live"), "main")[2])
         self.assertEqual(self.run_main("free_registers", "--at-least", "0", self.row(6, "live"))[0], 2)
+
+
+class NotReliedOn(InFolder):
+    """beqz a0, to `max a0,a0,a1`, which is not decoded; jump behind it; that instruction; ret: by the report a1 and the rest
+    are free at it, and at the block before."""
+
+    CODE = small.code("00050463 00C0006F 0AB56533 00008067 00000013 00008067")
+    GRAPH = small.report("10000 may-return f: 10000 10004 10008 10010", "10000 10004 branch, 10004 10008 jump, 10008 1000a stop, 10010 10018 return",
+                         "10000 10004 fall, 10000 10008 taken, 10004 10010 jump")
+    LIVE = (b"cfg-report 2\nentry 0000000000010000\nlives 1\nfunction 0000000000010000 may-return 4 f\nlive 0000000000010000 7ffffffe\n"
+            b"live 0000000000010004 7ffffffe\nlive 0000000000010008 00000000\nlive 0000000000010010 7ffffffe\nend\n")
+
+    def setUp(self) -> None:
+        super().setUp()
+        self.path = self.file("elf", small.elf([small.Part(".text", small.CODE, 0x10000, self.CODE)], [("f", 0x10000, 24)]))
+        graph, live = self.file("graph", self.GRAPH), self.file("live", self.LIVE)
+        self.cfg = self.file("cfg", f'#!/bin/sh\n[ "$1" = --report ] && exec cat {live}\nexec cat {graph}\n'.encode())
+        Path(self.cfg).chmod(0o755)
+
+    def test_free_registers(self) -> None:
+        said = self.said("free_registers", self.path, "f", cfg=self.cfg)
+        self.assertEqual(said, [
+            "f at 10000, 4 blocks; free at all of them: none", "    10004   1  t6", "    10010   1  t6", "at 2 blocks no register is free:", "    10000 10008",
+            "of these, the masks of 2 blocks are not to be relied on, since an instruction that is not decoded is reached from them:", "    10000 10008"])
+        said = self.said("free_registers", "--elf", self.path, self.file("live", self.LIVE), cfg=self.cfg)
+        self.assertIn("of the others, the masks of 2 blocks are not to be relied on, since an instruction that is not decoded is reached from them", said)
+        # Without the file nothing is told apart.
+        self.assertIn("    10008  28  t0-t6 a0-a7 s0-s11 ra", self.said("free_registers", self.file("live", self.LIVE), "f"))
+
+    def test_summary_and_picture(self) -> None:
+        said = self.said("summary", "--live", self.path, cfg=self.cfg)
+        self.assertIn("    and 2 that are not to be relied on, since an instruction that is not decoded is reached from them", said)
+        self.assertIn("    1 or more free: 2 (100.0 %)", said)
+        said = "\n".join(self.said("draw", "--live", self.path, "f", cfg=self.cfg))
+        self.assertEqual(said.count("not to be relied on:"), 2)
+        self.assertEqual(said.count("free:"), 2)
 
 
 class Pictures(InFolder):

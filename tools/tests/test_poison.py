@@ -7,9 +7,12 @@ import shutil
 import subprocess
 import sys
 import unittest
+from pathlib import Path
 
 import rows
 import binutils
+import small
+from elf_file import Elf
 from hostile import code_bytes
 from instructions import Instruction, decode
 from test_tools import InFolder, script
@@ -120,6 +123,23 @@ class Runs(InFolder):
         self.assertEqual(status, 1)
         self.assertEqual(said[-2], "DIFFERENT: standard output")
         self.assertRegex(said[-1], rf"^the block at {int(block, 16):x} \([a-z]+\), with .*a0.*, makes it by itself$")
+
+
+class Illegal(InFolder):
+    SOURCE = "void _start(void) { __asm__ volatile(\".4byte 0x0AB56533\"); for (;;) { } }"
+
+    @unittest.skipIf(LACKING, f"{LACKING} is not installed")
+    def test_both_runs_end_by_an_illegal_instruction(self) -> None:
+        path = binutils.compile_c(str(self.folder / "program.elf"), self.SOURCE, "-O2", "-march=rv64imac", "-mabi=lp64", "-nostdlib", "-static")
+        assert path is not None
+        entry = Elf(path).entry
+        graph = self.file("graph", small.report(f"{entry:x} no-return _start: {entry:x}", f"{entry:x} {entry + 2:x} stop", entry=f"{entry:x}"))
+        live = self.file("live", f"cfg-report 2\nentry {entry:016x}\nlives 1\nfunction {entry:016x} no-return 1 _start\nlive {entry:016x} 00000000\nend\n".encode())
+        qemu = self.file("qemu", b"#!/bin/sh\nexit 132\n")
+        Path(qemu).chmod(0o755)
+        done = self.run_process("poison", "--report", graph, "--live", live, "--qemu", qemu, path)
+        self.assertEqual(done.returncode, 1)
+        self.assertIn("NOT SHOWN: an illegal instruction ends both runs", done.stdout)
 
 
 class Refused(InFolder):

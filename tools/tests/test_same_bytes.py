@@ -36,7 +36,7 @@ class SameBytes(unittest.TestCase):
         return str(path)
 
     def run_script(self, cfg: str, *words: str, thief: str = "/nowhere") -> "subprocess.CompletedProcess[str]":
-        environment = dict(os.environ, CFG=cfg, DUMP_WORKERS=thief)
+        environment = dict(os.environ, CFG=cfg, DUMP_THREADS=thief)
         command = [sys.executable, "-B", str(rows.TOOLS / "same_bytes"), *words]
         return subprocess.run(command, capture_output=True, text=True, env=environment)
 

@@ -21,6 +21,8 @@ from unittest import mock
 import rows
 import cfg_report
 import names
+import progress
+from cfg_report import ReportError
 from elf_file import Code, Elf, gaps, joined
 
 SCRIPTS = {
@@ -78,6 +80,8 @@ class InFolder(unittest.TestCase):
         environment = {"CFG": cfg or "/nowhere/cfg", "PATH": path or os.environ["PATH"]}
         with contextlib.ExitStack() as changed:
             changed.enter_context(mock.patch.object(sys, "argv", [name, *words]))
+            # How far a script is may be said on a busy machine, and is no part of its answer.
+            changed.enter_context(mock.patch.object(progress, "FIRST", 3600.0))
             changed.enter_context(mock.patch.object(sys, "stdin", io.TextIOWrapper(io.BytesIO(given))))
             changed.enter_context(mock.patch.dict(os.environ, environment))
             changed.enter_context(contextlib.redirect_stdout(out))
@@ -154,6 +158,24 @@ class Errors(InFolder):
         self.refused("summary", elf, why="No such file", cfg=str(self.folder / "nothing"))
         self.refused("summary", "--elf", self.row(1), self.row(1), why="no ELF file")
         self.refused("unresolved", self.file("cut.elf", rows.elf(1)[:100]), self.row(1), why="broken ELF file")
+
+    def test_a_program_that_is_not_built(self) -> None:
+        """What takes hours is not begun unasked."""
+        with mock.patch.object(cfg_report, "TOP", str(self.folder)), mock.patch.dict(os.environ):
+            os.environ.pop("CFG", None)
+            with self.assertRaisesRegex(ReportError, "^cfg is not built: .*/bin/cfg, run once, proves and builds it, in one to two hours.*--build"):
+                cfg_report.program_of("cfg")
+            with mock.patch.object(cfg_report, "may_build", True):
+                self.assertEqual(cfg_report.program_of("cfg"), str(self.folder / "bin" / "cfg"))
+            os.environ["CFG"] = "/another"
+            self.assertEqual(cfg_report.program_of("cfg"), "/another")
+
+    def test_the_first_word_build_and_the_installed_name(self) -> None:
+        with mock.patch.object(cfg_report, "may_build", False), mock.patch.dict(os.environ, {"CFG_SCRIPT": "cfg-summary"}):
+            done = self.run_script("summary", "--build", self.row(1))
+            self.assertTrue(cfg_report.may_build)
+            self.assertEqual((done.returncode, done.stderr), (0, ""))
+            self.assertIn("usage: cfg-summary ", self.run_script("summary", "--help").stdout)
 
     def test_functions_and_pictures(self) -> None:
         self.refused("draw", self.row(1), "main", why="no function has the name or the address main")

@@ -14,6 +14,9 @@ ADDRESS, INDEX, JUMP, CALL = "00020737", "00351513 00E50533 00053783", "00078067
 NOP, RET = "00000013", "00008067"
 CASES = small.doublewords(0x10000, 0x10004)
 
+# What is said of a jump of which a table can be declared.
+BY_RUN = "; try add_entries with --trace or --tables, which declare its targets"
+
 
 class Files(InFolder):
     def unresolved(self, code: bytes, report: bytes, parts: Sequence[Part] = (), size: int = 0) -> "list[str]":
@@ -77,14 +80,14 @@ class Reasons(Files):
         report = small.report("10000 may-return f: 10000 10004, 10008 may-return g: 10008", "10000 10004 call, 10004 10008 unknown, 10008 1000c return",
                               "10000 10004 after, 10000 10008 call")
         for word, why in (("008000EF", "through the result of a call (a1, the call at 10000)"), ("008002EF", "through an argument of the function (a1)")):
-            self.assertEqual(self.unresolved(small.code(word, "00058067 00008067"), report)[0], f"10004 unknown in f+0x4: {why}")
+            self.assertEqual(self.unresolved(small.code(word, "00058067 00008067"), report)[0], f"10004 unknown in f+0x4: {why}{BY_RUN}")
 
     def test_several_ways(self) -> None:
         # mv a5,a1 ; beqz a0,+8 ; ld a5,0(a0) ; jr a5
         report = small.report("10000 may-return f: 10000 10008 1000c", "10000 10008 branch, 10008 1000c fall, 1000c 10010 unknown",
                               "10000 10008 fall, 10000 1000c taken, 10008 1000c fall")
         said = self.unresolved(small.code("00058793 00050463 00053783", JUMP), report)
-        self.assertEqual(said[0], "1000c unknown in f+0xc: through a register that is set in several ways (a5: a pointer in memory; an argument of the function)")
+        self.assertEqual(said[0], "1000c unknown in f+0xc: through a register that is set in several ways (a5: a pointer in memory; an argument of the function)" + BY_RUN)
 
 
 class Lost(Files):
@@ -96,7 +99,7 @@ class Lost(Files):
         report = self.file("report", small.report("10000 may-return f: 10000, 10028 may-return g: 10028",
                                                   "10000 10014 unknown, 10028 1002c return"))
         said = self.said("unresolved", elf, report)
-        self.assertIn("; not reached: 20 of 40 bytes of f | ", said[0])
+        self.assertIn("; not reached: 20 of 40 bytes of f; try add_entries with --switches, which declares its table: 2 cases | ", said[0])
         self.assertEqual(said[-4:], [
             "code 52 bytes, not reached 28 in 2 ranges, by functions:", "    20 of 40 bytes of f at 10000, by the jump at 10010",
             "    4 of 8 bytes of g at 10028, by no jump of it that may lead there", "    4 bytes in 1 ranges that belong to no function symbol"])

@@ -2,6 +2,8 @@
 
 from __future__ import annotations
 
+import importlib
+import io
 import json
 import os
 import re
@@ -13,6 +15,7 @@ from pathlib import Path
 from typing import Dict, List
 
 import rows
+import cfg_report
 
 PAGE = (rows.TOOLS.parent / "docs" / "USING.md").read_text(encoding="utf-8")
 
@@ -46,6 +49,28 @@ class Recipes(unittest.TestCase):
             word = next(word for word in self.SAID if word in code)
             with self.subTest(recipe=word):
                 self.assertEqual(self.run_recipe(code), self.SAID[word])
+
+
+class Calls(unittest.TestCase):
+    """docs/PYTHON.md: its example runs, and the calls that it names are there."""
+
+    PAGE = (rows.TOOLS.parent / "docs" / "PYTHON.md").read_text(encoding="utf-8")
+
+    def test_example(self) -> None:
+        code, = re.findall(r"^```python\n(.*?)^```$", self.PAGE, re.DOTALL | re.MULTILINE)
+        with tempfile.TemporaryDirectory() as folder:
+            text = rows.report(17).replace(b"3 -\n", b"3 _start\n").replace(b"1000c return", b"1000c unknown")
+            Path(folder, "program.report").write_bytes(text)
+            environment = dict(os.environ, PYTHONPATH=str(rows.TOOLS))
+            done = subprocess.run([sys.executable, "-B", "-c", code], cwd=folder, env=environment, capture_output=True, text=True)
+            self.assertEqual((done.returncode, done.stderr), (0, ""))
+            self.assertEqual(done.stdout.splitlines(), ["_start at 10000, tail from the block at 10008", "g at 1000c"])
+            self.assertIn(b"edge 0000000000010008 000000000001000c tail\n", Path(folder, "more.report").read_bytes())
+
+    def test_names(self) -> None:
+        for module, name in re.findall(r"^\| `(?:(\w+)\.)?(\w+)[(`]", self.PAGE, re.MULTILINE):
+            found = cfg_report.load(io.BytesIO(rows.report(17))) if module == "report" else importlib.import_module(module or "cfg_report")
+            self.assertTrue(hasattr(found, name), f"{module}.{name}")
 
 
 class Sources(unittest.TestCase):
