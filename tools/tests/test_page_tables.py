@@ -134,11 +134,11 @@ class Made(unittest.TestCase):
 
     def test_gate(self) -> None:
         page = self.tables.remade(self.top, GATE)
-        self.assertIn("It has no row of `middle`. The number of edits is another one today of `cfg`.", page)
+        self.assertIn("It has no row of `middle`. The number of edits is another one today in 1 of its rows.", page)
         self.assertEqual(self.tables.gate_problems(page), [])
         self.write({"crates/cfg/must-fail/a.edit": ""})
         without = GATE.replace("| `low` |", "| `gone` |")
-        self.assertIn("It has no row of `low`, `middle`. It has a row of these, which are no more: `gone`.\n", self.tables.remade(self.top, without))
+        self.assertIn("It has no row of `low`, `middle`. It has rows of crates that are no more: `gone`.\n", self.tables.remade(self.top, without))
 
     def test_gate_that_is_wrong(self) -> None:
         for old, new in (("| 1,210 |", "| 1,310 |"), ("| `cfg` |", "| `low` |")):
