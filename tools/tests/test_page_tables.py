@@ -125,7 +125,7 @@ class Made(unittest.TestCase):
         self.assertEqual(self.tables.without_table(self.top, self.tables.uses_of(str(self.top)), PAGE), ["no table has the definitions of middle"])
 
     def test_words_that_people_wrote(self) -> None:
-        self.assertEqual(len(self.tables.written(self.top, self.tables.remade(self.top, PAGE)).split()), len("# A page".split()) + 5)
+        self.assertEqual(len(self.tables.written(self.top, self.tables.remade(self.top, PAGE)).split()), len("# A page kept notion ISA 2.2".split()))
 
     def test_marks_that_mean_nothing(self) -> None:
         for mark in ("unknown", "definitions nothing", ""):
