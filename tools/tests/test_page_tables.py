@@ -4,13 +4,14 @@ from __future__ import annotations
 
 import importlib.machinery
 import importlib.util
+import re
 import subprocess
 import sys
 import tempfile
 import unittest
 from pathlib import Path
 from types import ModuleType
-from typing import Dict
+from typing import Dict, Set
 
 import rows
 
@@ -34,6 +35,29 @@ FILES = {
     "crates/low/specs/Inner/Hidden.antt": "-- Hidden.\nabbrev pub X : ℕ\nX = 1\n",
     "crates/middle/proofs/A.antt": "use Rattle.low.proofs.Lemmas.Some.{one}\nuse Rattle.std.proofs.Common.{two}\n",
     "crates/cfg/src/main.rt": "//! The program.\nfn main() {}\n",
+    "crates/check_rows/data/code": """row 7, file 1: two functions
+file row 7 0
+run cfg --workers @ F
+> cfg-report 2
+> entry 0000000000010000
+> functions 2
+> function 0000000000010000 may-return 1 -
+> in 0000000000010000
+> function 0000000000010004 no-return 1 c
+> in 0000000000010004
+> blocks 2
+> block 0000000000010000 0000000000010004 return
+> block 0000000000010004 0000000000010008 jump
+> edges 1
+> edge 0000000000010004 0000000000010004 jump
+> end
+
+row 8: a byte is another one
+file row 7 0
+bytes 64 00
+run cfg --workers @ F
+> cfg-report 2
+""",
 }
 PAGE = """# A page
 
@@ -49,6 +73,14 @@ stale
 |---|---|---|---|
 | kept notion | `low/FewWords` | ISA 2.2 | stale |
 | gone | `low/Gone` | none | stale |
+<!-- end -->
+"""
+ROWS = """<!-- made: rows -->
+| Row | File | Answer | Graph |
+|---|---|---|---|
+| 7 | two words | | |
+| | the same | status 2 | stale |
+| 8 | another byte | status 0 | stale |
 <!-- end -->
 """
 GATE = """<!-- gate -->
@@ -80,6 +112,24 @@ class Pages(unittest.TestCase):
         self.assertEqual((done.returncode, done.stdout, done.stderr), (0, "", ""))
 
 
+class Links(unittest.TestCase):
+    """Every link of a page leads to a file that is there, and to a heading in it."""
+
+    @staticmethod
+    def anchors(page: Path) -> Set[str]:
+        text = re.sub(r"(?ms)^```.*?^```$", "", page.read_text(encoding="utf-8"))
+        return {re.sub(r"[^\w\- ]", "", it.lower()).replace(" ", "-") for it in re.findall(r"(?m)^#+ (.*)$", text)}
+
+    def test_links(self) -> None:
+        for page in module().pages(rows.TOOLS.parent):
+            for link in re.findall(r"\]\(([^)\s]+)\)", page.read_text(encoding="utf-8")):
+                path, _, anchor = link.partition("#")
+                target = page.parent / path if path else page
+                with self.subTest(page=page.name, link=link):
+                    self.assertTrue(target.exists())
+                    self.assertTrue(not anchor or anchor in self.anchors(target))
+
+
 class Made(unittest.TestCase):
     def setUp(self) -> None:
         folder = tempfile.TemporaryDirectory()
@@ -107,6 +157,13 @@ class Made(unittest.TestCase):
         page = self.tables.remade(self.top, PAGE)
         self.assertIn("|---|---|---|---|\n| kept notion | `low/FewWords` | ISA 2.2 | Few words: a number |\n"
                       "| bytes | `low/Bytes` | ELF, \"Data Encoding\" | The bytes of a file, as numbers from 0 to 255 |\n\n<!-- end -->", page)
+
+    def test_worked_rows(self) -> None:
+        page = self.tables.remade(self.top, ROWS)
+        self.assertIn("| 7 | two words |  | blocks 10000 10004 return, 10004 10008 jump; edges 10004 10004 jump; "
+                      "functions 10000 may-return 1 -, in 10000; 10004 no-return 1 c, in 10004 |\n"
+                      "|  | the same | status 2 |  |\n| 8 | another byte | status 0 |  |\n", page)
+        self.assertEqual(self.tables.written(self.top, page).split(), "Row File Answer 7 two words the same status 2 8 another byte status 0".split())
 
     def test_made_again_it_is_the_same(self) -> None:
         page = self.tables.remade(self.top, PAGE)
