@@ -88,7 +88,7 @@ class Page(unittest.TestCase):
         heading = b"cfg-report 2\nentry 0000000000010000\n"
         reports = [part for part in shown if part.startswith(b"cfg-report")]
         reports += [heading + part + b"end\n" for part in shown if part.startswith(b"functions")]
-        self.assertEqual(reports, [rows.report(number) for number in (1, 6, 12, 15)])
+        self.assertEqual(reports, [rows.report(number) for number in (1, 6, 15)])
 
 
 class Names(unittest.TestCase):
