@@ -100,9 +100,11 @@ GATE = """<!-- gate -->
 
 
 def module() -> ModuleType:
-    spec = importlib.util.spec_from_loader("page_tables", importlib.machinery.SourceFileLoader("page_tables", str(SCRIPT)))
+    loader = importlib.machinery.SourceFileLoader("page_tables", str(SCRIPT))
+    spec = importlib.util.spec_from_loader("page_tables", loader)
+    assert spec
     found = importlib.util.module_from_spec(spec)
-    spec.loader.exec_module(found)
+    loader.exec_module(found)
     return found
 
 
