@@ -65,12 +65,12 @@ impl Leaders {
             → AreLeaders (C.map code.now) seeds leaders) }
     {
         know_laws(code);
-        let leaders = Leaders::cut(alloc, code, reached.sent())?;
+        let leaders = Leaders::cut(alloc, code, reached.starts())?;
         let mixed = mixed_starts(alloc, &leaders.starts, &leaders.lasts)?;
         if mixed.is_empty() {
             return Ok(leaders);
         }
-        let walks = Walks::of(alloc, code, reached.sent(), &mixed)?;
+        let walks = Walks::of(alloc, code, reached.starts(), &mixed)?;
         Ok(Leaders::cut(alloc, code, &walks.starts)?)
     }
 

@@ -1,4 +1,4 @@
-//! The graph of a program, from what is reached from its seeds, on one thread.
+//! The graph of a program, from what is reached from its seeds.
 //!
 //! What is known of each address is kept in arrays, by the number of the address. The addresses
 //! that control is sent to start blocks. Only where two of these blocks overlap can two streams
@@ -12,6 +12,7 @@
 //! - `outline`: the blocks and edges of these leaders.
 //! - `blocks`: one block, up to its last instruction.
 //! - `edges`: the edges of one block, and all edges in order.
+//! - [`sharing`]: blocks and edges, made by several threads.
 #![tactic(auto)]
 
 mod blocks;
@@ -19,8 +20,10 @@ mod edges;
 pub mod graph;
 pub mod leaders;
 mod outline;
+pub mod sharing;
 mod walks;
 
 pub use cfg_model::Memory;
 pub use graph::{graph_from, graph_of};
 pub use leaders::leaders_of;
+pub use sharing::outline_by;

@@ -1,5 +1,5 @@
 //! Which instructions that end a chain a program reaches from its seeds, which of them return, and
-//! to which addresses control is sent.
+//! where blocks are known to start: at least where control is sent.
 //!
 //! An instruction of a chain is reached if and only if control comes to the chain's end, and returns
 //! if the end does. So the closure of a program is found over its terminators alone: what is known

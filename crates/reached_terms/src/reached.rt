@@ -18,13 +18,13 @@ use std::alloc::Global;
 use std::marker::Model;
 
 /// What a program reaches from its seeds: of each terminator whether it is reached, of each reached
-/// one whether it returns, and of each address whether control is sent there. To a contract it is
-/// these marks, by number.
+/// one whether it returns, and of each address whether a block is known to start there. Blocks are
+/// known to start at least where control is sent. To a contract it is these marks, by number.
 #[derive(Drop)]
 pub struct ReachedTerms {
     reached: Vec<bool>,
     returns: Vec<bool>,
-    sent: Vec<bool>,
+    starts: Vec<bool>,
 }
 
 impl Model for ReachedTerms {
@@ -35,11 +35,28 @@ impl Model for ReachedTerms {
     ghost view = { λ terms. record {
       reached = terms.reached.items;
       returns = terms.returns.items;
-      sent = terms.sent.items;
+      starts = terms.starts.items;
     } };
 }
 
 impl ReachedTerms {
+    /// These marks, by number: of each terminator whether it is reached, and whether it returns, and
+    /// of each address whether a block starts there. They are taken as they are. Whoever made them
+    /// says of which program they are.
+    pub fn from_marks(reached: Vec<bool>, returns: Vec<bool>, starts: Vec<bool>) -> ReachedTerms
+        ensures { result ≡ record {
+          reached = reached.items;
+          returns = returns.items;
+          starts = starts.items;
+        } }
+    {
+        ReachedTerms {
+            reached,
+            returns,
+            starts,
+        }
+    }
+
     /// What the program `code` reaches from `seeds`. The only error is that memory ran out.
     ///
     /// Each reached terminator is looked at once, and whoever waits for another is told once. Time:
@@ -64,7 +81,7 @@ impl ReachedTerms {
         Ok(ReachedTerms {
             reached: marks.reached,
             returns: marks.returns,
-            sent: marks.sent,
+            starts: marks.sent,
         })
     }
 
@@ -91,11 +108,11 @@ impl ReachedTerms {
         self.returns[code.number(code.term(a)) as usize]
     }
 
-    /// Of each address, by its number, whether control is sent there.
-    pub fn sent(&self) -> &[bool]
-        ensures { result.now ≡ self.now.sent }
+    /// Of each address, by its number, whether a block is known to start there.
+    pub fn starts(&self) -> &[bool]
+        ensures { result.now ≡ self.now.starts }
     {
-        &self.sent
+        &self.starts
     }
 
     /// The reached terminators that return, rising. [`Memory`] if memory ran out. Time: linear in
