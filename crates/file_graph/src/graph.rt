@@ -44,8 +44,8 @@ pub fn graph_of<B: Builder>(
     let likely = likely_cuts(alloc, &tables)?;
     let code = uncut.under(&likely);
     let reached = by.follow(&code, seeds.addresses())?;
-    let jumps = reached_jumps(alloc, &code, &reached, tables.jumps())?;
-    match other_cuts(alloc, &uncut, seeds, &tables, &likely, &jumps)? {
+    let counted = reached_jumps(alloc, &code, &reached, tables.jumps())?;
+    match other_cuts(alloc, &uncut, seeds, &tables, &likely, &counted)? {
         None => by.graph(&code, seeds.addresses(), image.entry(), &reached),
         Some(cuts) => {
             drop(reached);

@@ -10,8 +10,8 @@ use cert_text::Part;
 use certify::part_reached;
 use core_state::State;
 use reached_terms::Numbered;
-pub use std::alloc::AllocError as Memory;
 use state_marks::marks_of;
+pub use std::alloc::AllocError as Memory;
 use std::alloc::Global;
 
 /// The canonical part of a certificate of the program `code` from its seeds, read off the closed
