@@ -1,6 +1,13 @@
+use Rattle.std.proofs.Common.{ℕ, List}
+use Rattle.cfg_model.specs.Program.Instructions.{InstructionMap}
+use Rattle.cfg_model.specs.Program.Reach.{Reached}
+use Rattle.cfg_model.specs.Graph.Function.{IsEntry}
 use Rattle.code_view.specs.FileCode.{program_of}
-use Rattle.reached_graph.proofs.Sending.{entry_reached}
 use Rattle.file_crew.proofs.sharing.graph_with.Goals as goal
+
+entry_reached : (map : InstructionMap) (seeds : List ℕ) (a : ℕ) → IsEntry map seeds a → Reached map seeds a
+entry_reached map seeds a (IsEntry.seed c) = Reached.seed c
+entry_reached map seeds a (IsEntry.called r call) = Reached.called r call
 
 pub functions_among_by-requires-clause-returns : goal.functions_among_by-requires-clause-returns
 functions_among_by-requires-clause-returns g c κs within =
