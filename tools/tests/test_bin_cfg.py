@@ -170,14 +170,14 @@ class BinCfg(unittest.TestCase):
         source = self.top / "crates" / "high" / "src"
         for change in ((source / "more.rt").touch, (source / "more.rt").unlink):
             self.run_cfg("a")
-            time.sleep(0.01)
+            time.sleep(0.1)
             change()
             self.assertIn("made from other sources (high)", self.run_cfg("a").stderr)
             self.assert_runs_at_once()
 
     def test_other_crates_and_another_kit(self) -> None:
         self.run_cfg("a")
-        time.sleep(0.01)
+        time.sleep(0.1)
         (self.top / "crates.txt").write_text(CRATES.replace("high low clap", "high low other"))
         self.assertIn("made from other crates", self.run_cfg("a").stderr)
         rt = self.top / "path" / "rt"
@@ -268,7 +268,7 @@ class BinCfg(unittest.TestCase):
 
     def test_programs_that_the_gate_has_made(self) -> None:
         (self.top / "gate").touch()
-        time.sleep(0.01)
+        time.sleep(0.1)
         program = self.top / "crates" / "cfg" / "out" / "cfg"
         program.parent.mkdir()
         program.write_text("#!/bin/sh\necho \"ran:$1:$2\"; exit 3\n")
