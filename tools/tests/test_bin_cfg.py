@@ -121,6 +121,23 @@ class BinCfg(unittest.TestCase):
         self.assertRegex(self.asked(), r"^high all check --jobs \d+\ncfg run -- data/one\.elf\n")
         self.assert_runs_at_once()
 
+    def test_for_one_worker(self) -> None:
+        shutil.copytree(self.top / "crates" / "cfg", self.top / "crates" / "cfg_one")
+        with (self.top / "crates.txt").open("a") as it:
+            it.write("cfg_one: low\n")
+        done = self.run_cfg("a", "--", "--workers")
+        self.assertEqual((done.returncode, done.stdout), (3, "ran:a:--\n"))
+        self.assertIn("bin/cfg_one: low is proved; 1 left, ", done.stderr)
+        self.assertFalse((self.top / "crates" / "cfg" / "out").exists())
+        self.assertEqual(self.run_cfg("a").stderr, "")
+        # The first use with --workers builds the whole one, which all later uses run.
+        for words in (("--workers", "2", "a"), ("--workers=2", "a")):
+            done = self.run_cfg(*words)
+            self.assertEqual((done.returncode, done.stdout), (3, f"ran:{words[0]}:{words[1]}\n"))
+            self.assertTrue((self.top / "crates" / "cfg" / "out" / "cfg").exists())
+        self.assert_runs_at_once()
+        self.assertIn("ran:a:", self.run_cfg("a", name="cfg_one").stdout)
+
     def test_another_program(self) -> None:
         done = self.run_cfg("10", "b c", name="cfg_walk")
         self.assertEqual((done.returncode, done.stdout), (3, "ran:10:b c\n"))
