@@ -1,6 +1,6 @@
 -- What a closed state tells of a program, by the marks of what it shows.
 use Rattle.std.proofs.Common.{◌≡◌, ℕ, ◌<◌, ◌↔◌, Bool, true, false, List, get_or, Option, Some, None, IsSome, IsTrue, refl, sym, ◌∙◌, subst, arith}
-use Rattle.std.specs.Prelude.{length, All, Contains}
+use Rattle.std.specs.Prelude.{length, All, Contains, Result, Ok, Err, IfOk}
 use Rattle.std.specs.Option.{option_eq, option_map, option_map_or}
 use mathlib.Core.Bool.{beq}
 use Rattle.std.proofs.lemmas.List.Elements.{Contains-get_or}
@@ -137,3 +137,11 @@ module _ (map : InstructionMap) (seeds : List ℕ) (state : BuilderState) (close
         sent = λ a sent. let leads = sent_leads map seeds a sent in let has = stands a leads.reached in (has, (started a has).1 ((shows.starts a).1 leads));
         leads = λ a on. (shows.starts a).0 ((started a on.0).0 on.1);
       }
+
+-- ---- where they were made
+
+pub told_if_made : {E : Type 0} (map : InstructionMap) (state : BuilderState) → IsLawful map → (number : ℕ → ℕ) (count : ℕ) → IsNumbering map number count → (seen : Seen) → IsSeen number state seen → (result : Result Reach E)
+    → IfOk result (λ terms. AreMarksAt count seen.reached.items terms.reached) → IfOk result (λ terms. AreMarksAt count seen.returns.items terms.returns) → IfOk result (λ terms. AreMarksAt count seen.starts.items terms.starts)
+    → IfOk result (λ terms. (seeds : List ℕ) → IsClosed map seeds state → AreReachedTerms map number seeds terms)
+told_if_made map state lawful number count numbering seen are (Ok terms) reached returns starts = λ seeds closed. terms_told map seeds state closed number count numbering seen are lawful terms reached returns starts
+told_if_made map state lawful number count numbering seen are (Err e) reached returns starts = tt

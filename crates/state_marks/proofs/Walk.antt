@@ -36,10 +36,6 @@ passed_or_above : (at : Option ℕ) (a : ℕ) → IsPassed at a ⊎ IsAbove at a
 passed_or_above None a = inr tt
 passed_or_above (Some at) a = ⊎_elim (λ lt. inr lt) (λ ge. inl ge) (cases_lt at a)
 
-not_both : (at : Option ℕ) (a : ℕ) → IsAbove at a → IsPassed at a → ⊥
-not_both None a above was = was
-not_both (Some at) a above was = let low : a ≤ at = was in let high : at < a = above in absurd (omega arith)
-
 passed_less : (at : Option ℕ) (a k : ℕ) → IsPassed at a → IsAbove at k → a < k
 passed_less None a k was above = absurd was
 passed_less (Some at) a k was above = let low : a ≤ at = was in let high : at < k = above in omega arith
@@ -51,17 +47,6 @@ up_to_less (Some last) a k low up = let within : k ≤ last = up in omega arith
 above_more : (at : Option ℕ) (k a : ℕ) → k < a → IsAbove at k → IsAbove at a
 above_more None k a more above = tt
 above_more (Some at) k a more above = let less : at < k = above in omega arith
-
--- the walk begins
-pub walk_begins : (number : ℕ → ℕ) (Such : ℕ → Type 0) (range : AddressRange) (numbers : List ℕ) → numbers ≡ [] → IsWalking number Such range range.after numbers
-walk_begins number Such range numbers none = subst (IsWalking number Such range range.after) (sym none) (record {
-  from = λ a above. above;
-  within = λ a behind. absurd (not_both range.after a behind.0 behind.1);
-  exact = λ n. (
-    λ there. absurd (omega (arith, there.1)),
-    λ is. absurd (not_both range.after is.0 is.1.0 is.1.1),
-  );
-})
 
 module _ (number : ℕ → ℕ) (Asked Such : ℕ → Type 0) (asked : (a : ℕ) → Such a → Asked a) (range : AddressRange) (at : Option ℕ) (old : List ℕ) (before : IsWalking number Such range at old) where
   module _ (k : ℕ) (next : IsNext Asked range at (Some k)) where

@@ -20,11 +20,7 @@ use std::alloc::Global;
 /// Time: one pass over the starts and two over the terminators of the state. Memory: three bytes
 /// for each number, and meanwhile four for each start, for each terminator, and again for each that
 /// returns.
-pub fn marks_of<C: Numbered>(
-    alloc: Global,
-    code: &C,
-    state: &State,
-) -> Result<ReachedTerms, Memory>
+pub fn marks_of<C: Numbered>(alloc: Global, code: &C, state: &State) -> Result<ReachedTerms, Memory>
     requires { (seeds : List ℕ) × IsClosed (C.map code.now) seeds state.now.maps }
     ensures { IfOk result (λ terms. (seeds : List ℕ)
         → IsClosed (C.map code.now) seeds state.now.maps
