@@ -12,7 +12,7 @@ use Rattle.reached_terms.specs.Reached.{AreReachedTerms}
 use Rattle.reached_terms.specs.Sent.{IsSent}
 use Rattle.reached_terms.specs.Inner.Marks.{IsOn, AreKept, AreRight, AreTold, IsVisited}
 use Rattle.reached_terms.specs.Inner.Steps.{Grow, Step, IsArrived}
-use Rattle.reached_terms.proofs.Complete.{ends_stand, exact, returns_exact, sent_exact}
+use Rattle.reached_terms.proofs.Complete.{ends_stand, exact, returns_exact, starts_hold, starts_lead}
 use Rattle.reached_terms.proofs.Growth.{visited-grow}
 use Rattle.reached_terms.proofs.Sending.{reached_stands}
 
@@ -110,17 +110,18 @@ module _ (map : InstructionMap) (number : ℕ → ℕ) (seeds : List ℕ) where
         let is : get_or m.order.items at 0 ≡ k = get_or_default m.order.items at 0 k there.1 ∙ there.2 in
         subst (IsVisited map number m) is (closing.visited at (omega (arith, there.1, past)) there.1)
 
-    pub closed : All (λ s. IsSome (map s)) seeds → AreReachedTerms map number seeds (record { reached = m.reached.items; returns = m.returns.items; sent = m.sent.items })
+    pub closed : All (λ s. IsSome (map s)) seeds → AreReachedTerms map number seeds (record { reached = m.reached.items; returns = m.returns.items; starts = m.sent.items })
     unfolding IsFrom
     closed known =
         let so_far = closing.seeded in
         record {
           below = so_far.kept.numbering.below;
           sizes = so_far.kept.returns;
-          sent_size = so_far.kept.sent;
+          starts_size = so_far.kept.sent;
           known = λ a reached. reached_stands so_far.kept.lawful known reached;
           reached = exact map number seeds known m so_far.kept so_far.right (so_far.told 0) so_far.none all_visited so_far.from;
           ends = λ a on. (All-contains (λ k. IsTerminator map k × IsOn m.reached.items (number k)) m.order.items a so_far.kept.order (so_far.kept.listed a on.0 on.1)).0;
           returns = returns_exact map number seeds known m so_far.kept so_far.right (so_far.told 0) so_far.none all_visited so_far.from;
-          sent = sent_exact map number seeds known m so_far.kept so_far.right (so_far.told 0) so_far.none all_visited so_far.from;
+          sent = starts_hold map number seeds known m so_far.kept so_far.right (so_far.told 0) so_far.none all_visited so_far.from;
+          leads = starts_lead map number seeds known m so_far.kept so_far.right (so_far.told 0) so_far.none all_visited so_far.from;
         }

@@ -9,13 +9,14 @@ use Rattle.cfg_model.specs.Program.Chain.{IsTerminator, IsTerminatorOf, OnChain,
 use Rattle.cfg_model.specs.Program.Successors.{IsCall, LeavesFunction, successors_of_flow}
 use Rattle.cfg_model.specs.Program.Reach.{Reached}
 use Rattle.cfg_model.specs.Program.Status.{Returns}
+use Rattle.cfg_model.specs.Graph.Leader.{IsLeader}
 use Rattle.cfg_model.proofs.Program.ChainEnds.{end_from, one_end}
 use Rattle.cfg_model.proofs.Program.ChainPlaces.{ends_at}
 use Rattle.cfg_model.proofs.Program.Listed.{none_in, in_cases}
 use Rattle.reached_terms.specs.declared.marks.Way.{Way}
 use Rattle.reached_terms.specs.declared.marks.Marks.{Marks}
 use Rattle.reached_terms.specs.Sent.{IsSent}
-use Rattle.reached_terms.proofs.Sending.{sends, falls, sent_reached, reached_stands}
+use Rattle.reached_terms.proofs.Sending.{sends, falls, sent_leads, sent_reached, reached_stands}
 use Rattle.reached_terms.specs.Inner.Marks.{IsOn, HasWay, AreKept, AreRight, AreTold, IsVisited, IsDoneBy, IsLed}
 
 -- ---- terminators
@@ -164,5 +165,8 @@ module _ (map : InstructionMap) (number : ℕ → ℕ) (seeds : List ℕ) (known
         returns_marked returns k here (reached_marked reached k here),
   )
 
-  pub sent_exact : (a : ℕ) → (IsSome (map a) × IsOn m.sent.items (number a)) ↔ IsSent map seeds a
-  sent_exact a = (λ on. right.sent a on.0 on.1, λ sent. (reached_stands kept.lawful known (sent_reached map seeds a sent), sent_marked a sent))
+  pub starts_hold : (a : ℕ) → IsSent map seeds a → IsSome (map a) × IsOn m.sent.items (number a)
+  starts_hold a sent = (reached_stands kept.lawful known (sent_reached map seeds a sent), sent_marked a sent)
+
+  pub starts_lead : (a : ℕ) → IsSome (map a) × IsOn m.sent.items (number a) → IsLeader map seeds a
+  starts_lead a on = sent_leads map seeds a (right.sent a on.0 on.1)

@@ -10,7 +10,7 @@ use Rattle.cfg_model.specs.Program.Instructions.{InstructionMap, IsLawful, flow_
 use Rattle.cfg_model.specs.Program.Chain.{IsTerminator, EndsChain}
 use Rattle.cfg_model.specs.Program.Successors.{IsSuccessor, IsCall}
 use Rattle.cfg_model.specs.Program.Reach.{Reached}
-use Rattle.cfg_model.specs.Graph.Leader.{targets_by, fall_by}
+use Rattle.cfg_model.specs.Graph.Leader.{IsLeader, StartsBlock, targets_by, fall_by}
 use Rattle.cfg_model.proofs.Program.Known.{successor_from_flow, successor_known, target_known, fall_known}
 use Rattle.cfg_model.proofs.Program.Listed.{none_in, in_cases}
 use Rattle.reached_terms.specs.declared.marks.Way.{Way}
@@ -64,6 +64,16 @@ sent_reached map seeds a (IsSent.target {k = k} {flow = flow} reached at there) 
 ]
 sent_reached map seeds a (IsSent.fall {k = k} {flow = flow} reached at is) = Reached.onward reached (falls map k a flow at is).1
 sent_reached map seeds a (IsSent.past_call reached call returns) = Reached.past_call reached call returns
+
+-- a block starts where control is sent
+sent_starts : {map : InstructionMap} {seeds : List ℕ} {a : ℕ} → IsSent map seeds a → StartsBlock map seeds a
+sent_starts (IsSent.seed there) = StartsBlock.seed there
+sent_starts (IsSent.target reached at there) = StartsBlock.target reached at there
+sent_starts (IsSent.fall reached at is) = StartsBlock.fall reached at is
+sent_starts (IsSent.past_call reached call returns) = StartsBlock.past_call reached call returns
+
+pub sent_leads : (map : InstructionMap) (seeds : List ℕ) (a : ℕ) → IsSent map seeds a → IsLeader map seeds a
+sent_leads map seeds a sent = record { reached = sent_reached map seeds a sent; starts = sent_starts sent }
 
 -- what is reached from seeds that stand there does too
 pub reached_stands : {map : InstructionMap} {seeds : List ℕ} {a : ℕ} → IsLawful map → All (λ s. IsSome (map s)) seeds → Reached map seeds a → IsSome (map a)

@@ -44,8 +44,11 @@ impl ReachedTerms {
     /// of each address whether a block starts there. They are taken as they are. Whoever made them
     /// says of which program they are.
     pub fn from_marks(reached: Vec<bool>, returns: Vec<bool>, starts: Vec<bool>) -> ReachedTerms
-        ensures { result ≡ record { reached = reached.items; returns = returns.items;
-            starts = starts.items } }
+        ensures { result ≡ record {
+          reached = reached.items;
+          returns = returns.items;
+          starts = starts.items;
+        } }
     {
         ReachedTerms {
             reached,
