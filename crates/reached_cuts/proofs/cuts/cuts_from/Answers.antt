@@ -1,4 +1,4 @@
-use Rattle.std.proofs.Common.{◌≡◌, List, ℕ, sym, subst}
+use Rattle.std.proofs.Common.{◌≡◌, List, sym, subst}
 use Rattle.std.specs.Prelude.{Contains}
 use Rattle.cfg_model.specs.Program.Cuts.{AreCuts}
 use Rattle.code_view.specs.Cuts.{cut_of}
