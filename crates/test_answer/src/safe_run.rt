@@ -1,5 +1,6 @@
 //! A run in which nothing can fail.
 
+use crate::asserts::same;
 use crate::one_run::left_by;
 use crate::row_files::file_of;
 use cfg_io::{CountSink, MemSink, SafeInput};
@@ -7,7 +8,6 @@ use cfg_run::Status;
 use crew::OpenGate;
 use run_crew::run_safely;
 use std::test::Fail;
-use test_asserts::same;
 
 /// A run that cannot fail writes the same number of bytes as one that can.
 #[test]
