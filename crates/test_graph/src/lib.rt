@@ -21,6 +21,8 @@
 #[cfg(test)]
 mod address_maps;
 #[cfg(test)]
+mod asserts;
+#[cfg(test)]
 mod closed_states;
 #[cfg(test)]
 mod file_code;

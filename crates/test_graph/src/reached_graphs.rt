@@ -2,6 +2,7 @@
 
 ghost use Rattle.std.specs.Prelude.{◌≤◌};
 
+use crate::asserts::{holds_at, same};
 use cfg_model::{Chains, Function, Graph};
 use cfg_vectors::row_file;
 use chain_index::ChainIndex;
@@ -11,7 +12,6 @@ use reached_graph::{graph_of, leaders_of};
 use reached_terms::ReachedTerms;
 use std::alloc::Global;
 use std::test::Fail;
-use test_asserts::{holds_at, same};
 use test_yardstick::plain_graph;
 
 // Where the code of a row's file begins, and the program starts.
