@@ -1,0 +1,4 @@
+pub mod Walk
+pub mod Marking
+pub mod Joined
+pub mod Told

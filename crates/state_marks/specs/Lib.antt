@@ -1,0 +1,2 @@
+-- Words of private functions; no public contract cites them.
+pub mod Inner
