@@ -166,9 +166,19 @@ class Instruction(NamedTuple):
 
     @property
     def read(self) -> Tuple[int, ...]:
-        """The registers for integers that it reads."""
+        """The registers for integers that it reads. AMOCAS reads its destination too, and AMOCAS.Q two pairs, of which that of
+        x0 is x0 alone."""
         operands = self.row.operands
-        return ((self.rs1,) if "s" in operands else ()) + ((self.rs2,) if "t" in operands else ())
+        named = ((self.rs1,) if "s" in operands else ()) + ((self.rs2,) if "t" in operands else ())
+        if self.name == "amocas.q":
+            pairs = ((first, first + 1) if first else (0,) for first in (self.rd, self.rs2))
+            return (*(register for pair in pairs for register in pair), self.rs1)
+        return (self.rd, *named) if self.name.startswith("amocas") else named
+
+    @property
+    def pair(self) -> Optional[int]:
+        """The other register for integers that it writes: AMOCAS.Q writes a pair."""
+        return self.rd + 1 if self.name == "amocas.q" and self.rd else None
 
     @property
     def is_load(self) -> bool:
