@@ -117,8 +117,14 @@ class Blocks(unittest.TestCase):
                 continue
             if "first.example" in text:
                 text = text.replace(",8/first.example,8/second.example", "")
+            if "tools/draw" in text and not shutil.which("dot"):
+                # The other lines of a block make what later blocks read.
+                left_out.append(text)
+                text = "".join(line for line in text.splitlines(keepends=True) if "tools/draw" not in line)
             # The address is one of `choose`, by the compiler that the page was written with.
             text = text.replace("WORD..", "").replace("10150", self.address_of_choose())
+            if not text.strip():
+                continue
             if self.can_run(text):
                 # Two builds that differ make the status 1, and a refused file among several the one of xargs.
                 status = next((number for word, number in (("diff_reports", 1), ("xargs", 123)) if word in text), 0)
