@@ -81,10 +81,11 @@ pub fn run_one<I: Input, O: Sink, E: Sink>(
         (I.tells_path input.old) (I.opened input.new) (I.rest input.old) (I.rest input.new)
         (I.faults input.old) (I.faults input.new) }
 {
-    match request(alloc, words) {
-        Ok(request) => run_by(alloc, &Alone { alloc }, &request, input, out, err),
-        Err(e) => refuse(Refusal::from(e), err),
-    }
+    let request = match request(alloc, words) {
+        Ok(request) => request,
+        Err(e) => return refuse(Refusal::from(e), err),
+    };
+    run_by(alloc, &Alone { alloc }, &request, input, out, err)
 }
 
 /// Answers a request with the parts that `by` makes. Its clauses are those of [`run_one`], with the

@@ -1,6 +1,6 @@
 use Rattle.cfg_run.specs.Words.{asked_by}
 use Rattle.cfg_run.proofs.Endings.{told-count}
-use Rattle.cfg_run.proofs.safe.run_safely.Goals as goal
+use Rattle.run_crew.proofs.safe.run_safely.Goals as goal
 
 pub returns-clause-answer : goal.returns-clause-answer
 returns-clause-answer g c = λ decided.

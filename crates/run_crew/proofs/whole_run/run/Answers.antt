@@ -12,7 +12,7 @@ use Rattle.run_ends.specs.Inputs.{OverInput, FileReadFor}
 use Rattle.run_ends.proofs.Inputs.{nothing-read}
 use Rattle.cfg_run.specs.Run.{IsDecided, HasRead, Gives}
 use Rattle.cfg_run.proofs.Endings.{decided-true, words-true, words-unread, can-be-made}
-use Rattle.cfg_run.proofs.whole_run.run.Goals as goal
+use Rattle.run_crew.proofs.whole_run.run.Goals as goal
 
 pub returns-in-Err-clause-answer : goal.returns-in-Err-clause-answer
 returns-in-Err-clause-answer g c =
