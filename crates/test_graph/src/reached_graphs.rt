@@ -85,12 +85,12 @@ fn outline_agrees<R: Threads + Sync + AllocGlobal>(
     let graph = graph_of(alloc, &code, CODE, &[CODE])?;
     let edges = graph.edges.as_slice();
     let others = outline.edges.as_slice();
-    Ok(graph.blocks.as_slice() == outline.blocks.as_slice()
-        && edges.len() == others.len()
-        && edges
-            .iter()
-            .zip(others)
-            .all(|(one, other)| (one.from, one.to) == (other.from, other.to)))
+    Ok(
+        graph.blocks.as_slice() == outline.blocks.as_slice()
+            && edges.len() == others.len()
+            && edges.iter().zip(others).all(|(one, other)| (one.from, one.to)
+                == (other.from, other.to)),
+    )
 }
 
 #[test]
