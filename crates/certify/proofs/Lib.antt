@@ -1,5 +1,4 @@
-pub mod Walk
-pub mod Shown
+pub mod Listed
 pub mod SeedsOfFile
 pub mod FileLaws
 pub mod Parts

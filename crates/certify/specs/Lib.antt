@@ -1,3 +1,2 @@
 pub mod FileCanonical
 pub mod Laws
-pub mod Inner

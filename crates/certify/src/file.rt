@@ -19,14 +19,13 @@ use crate::Memory;
 use crate::part::part_reached;
 use cert_text::{Certificate, Part};
 use chain_index::ChainIndex;
+use code_tables::all_tables;
 use code_view::{AllTables, Code, Cuts};
 use elf_image::Image;
 use elf_symbols::Seeds;
-use reached_cuts::{Followed, reached_jumps};
+use reached_cuts::cuts_from;
 use reached_terms::ReachedTerms;
 use std::alloc::Global;
-use table_cuts::cuts_of;
-use table_trim::all_tables;
 
 /// The canonical certificate of a file. The seeds have to be those of the image. [`Memory`] if
 /// memory ran out, and no other error.
@@ -77,9 +76,7 @@ fn first_part(
 {
     let reached = ReachedTerms::of(alloc, uncut, seeds)?;
     let part = part_reached(alloc, uncut, seeds, &reached)?;
-    let followed = Followed::Terms(reached);
-    let counted = reached_jumps(alloc, uncut, &followed, tables.jumps())?;
-    let cuts = cuts_of(alloc, &counted)?;
+    let cuts = cuts_from(alloc, uncut, &reached, tables)?;
     Ok(First { part, cuts })
 }
 

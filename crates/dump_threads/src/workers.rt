@@ -10,7 +10,7 @@ ghost use Rattle.std.specs.Prelude.{◌≤◌};
 use crate::tallies::Tallies;
 use anyhow::{Result, bail};
 use elf_image::ElfError;
-use file_graph::file_graph_by;
+use file_crew::file_graph_by;
 use std::alloc::Global;
 use std::io::Write;
 use std::marker::Sync;

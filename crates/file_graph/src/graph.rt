@@ -11,7 +11,7 @@ ghost use Rattle.file_program.specs.FileSeeds.{AreSeedsOf};
 use crate::Memory;
 use crate::builder::Builder;
 use crate::cuts::{likely_cuts, other_cuts};
-use crate::shown::Shown;
+use cfg_model::Graph;
 use chain_index::{ChainIndex, ChainReaches};
 use code_view::{Code, Cuts};
 use elf_image::Image;
@@ -30,11 +30,11 @@ pub fn graph_of<B: Builder>(
     image: &Image,
     reaches: ChainReaches,
     seeds: &Seeds,
-) -> Result<Shown, Memory>
+) -> Result<Graph, Memory>
     requires build { B.ready by.now }
     requires reaches { AreReachesOf image.now reaches }
     requires seeds { AreSeedsOf image.now seeds.now }
-    ensures { IfOk result (λ shown. IsGraphOf image.now shown.graph) }
+    ensures { IfOk result (IsGraphOf image.now) }
 {
     let index = ChainIndex::of(image, reaches);
     let none = Cuts::none(alloc);
@@ -43,23 +43,23 @@ pub fn graph_of<B: Builder>(
     let uncut = uncut.with_tables(&tables);
     let likely = likely_cuts(alloc, &tables)?;
     let code = uncut.under(&likely);
-    let followed = by.follow(&code, seeds.addresses())?;
-    let reached = reached_jumps(alloc, &code, &followed, tables.jumps())?;
-    match other_cuts(alloc, &uncut, seeds, &tables, &likely, &reached)? {
-        None => by.graph(&code, seeds.addresses(), image.entry(), followed),
+    let reached = by.follow(&code, seeds.addresses())?;
+    let counted = reached_jumps(alloc, &code, &reached, tables.jumps())?;
+    match other_cuts(alloc, &uncut, seeds, &tables, &likely, &counted)? {
+        None => by.graph(&code, seeds.addresses(), image.entry(), &reached),
         Some(cuts) => {
-            drop(followed);
+            drop(reached);
             graph_anew(by, &uncut.under(&cuts), seeds.addresses(), image.entry())
         }
     }
 }
 
 /// The graph of the program `code` with this entry, which is followed from its seeds first.
-fn graph_anew<B: Builder>(by: &B, code: &Code, seeds: &[u64], entry: u64) -> Result<Shown, Memory>
+fn graph_anew<B: Builder>(by: &B, code: &Code, seeds: &[u64], entry: u64) -> Result<Graph, Memory>
     requires build { B.ready by.now }
     requires seeds { AreSeeds (program_of code.now) seeds.now }
-    ensures { IfOk result (λ shown. IsGraph (program_of code.now) seeds.now entry shown.graph) }
+    ensures { IfOk result (IsGraph (program_of code.now) seeds.now entry) }
 {
-    let followed = by.follow(code, seeds)?;
-    by.graph(code, seeds, entry, followed)
+    let reached = by.follow(code, seeds)?;
+    by.graph(code, seeds, entry, &reached)
 }

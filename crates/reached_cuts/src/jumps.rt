@@ -4,11 +4,11 @@ ghost use Rattle.std.specs.Prelude.{◌≡◌, ◌↔◌, ℕ, List, All, IfOk, 
 ghost use Rattle.code_view.specs.Cuts.{cut_of};
 ghost use Rattle.code_view.specs.Tables.{AreTablesOf};
 ghost use Rattle.reached_cuts.specs.Counted.{AreReachedAmong};
-ghost use Rattle.reached_cuts.specs.Followed.{IsFollowed};
+ghost use Rattle.reached_cuts.specs.Reach.{IsReachOf};
 
 use crate::Memory;
-use crate::followed::Followed;
 use code_view::{Code, Cuts, TableJump};
+use reached_terms::ReachedTerms;
 use std::alloc::Global;
 
 /// Those of these jumps that the program reaches from its seeds, by what was found of that. The only
@@ -16,17 +16,17 @@ use std::alloc::Global;
 pub fn reached_jumps(
     alloc: Global,
     code: &Code,
-    followed: &Followed,
+    reached: &ReachedTerms,
     tables: &[TableJump],
 ) -> Result<Vec<TableJump>, Memory>
-    requires followed { (seeds : List ℕ) × IsFollowed code.now seeds followed.now }
+    requires reached { (seeds : List ℕ) × IsReachOf code.now seeds reached.now }
     requires tables { AreTablesOf code.now.bytes tables.now }
-    ensures { IfOk result (λ jumps. (seeds : List ℕ) → IsFollowed code.now seeds followed.now
+    ensures { IfOk result (λ jumps. (seeds : List ℕ) → IsReachOf code.now seeds reached.now
         → AreReachedAmong code.now seeds tables.now jumps.items) }
 {
     let mut jumps = Vec::new(alloc);
     for found in tables {
-        if followed.has(code, found.jump) {
+        if reached.has(code, found.jump) {
             jumps.push(*found)?;
         }
     }

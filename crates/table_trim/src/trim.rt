@@ -9,19 +9,19 @@ ghost use Rattle.code_view.specs.Cuts.{cut_of, CutsFit};
 ghost use Rattle.code_view.specs.FileCode.{program_of};
 ghost use Rattle.table_cuts.specs.Extents.{extent_at};
 
-use crate::jumps::table_jumps;
+use code_tables::all_tables;
 use code_view::{Code, Cuts, Memory};
 use core_state::State;
-use parallel::AddressRange;
+use reached_cuts::cuts_from;
+use state_marks::marks_of;
 use std::alloc::Global;
-use table_cuts::cuts_of;
 
 /// The cuts of the jump tables of `code`, which has no cuts yet, from its closed state: a table is
 /// cut where the next one begins inside it. The tables that count are those whose jumps are
 /// reached.
 ///
-/// [`Memory`] if memory ran out. It goes once over the terminators of the state; the rest of the
-/// time goes into sorting the bases of the tables and a search among them for each.
+/// [`Memory`] if memory ran out. Time and memory: those of [`all_tables`], [`marks_of`] and
+/// [`cuts_from`].
 pub fn cuts(alloc: Global, code: &Code<'_>, state: &State) -> Result<Cuts, Memory>
     requires uncut { code.now.cuts ≡ map.empty }
     requires closed { (seeds : List ℕ) × IsClosed (program_of code.now) seeds state.now.maps }
@@ -30,6 +30,7 @@ pub fn cuts(alloc: Global, code: &Code<'_>, state: &State) -> Result<Cuts, Memor
         → AreCuts (extent_at code.now.bytes) (Reached (program_of code.now) seeds) (cut_of cuts)) }
     ensures fits { IfOk result (λ cuts. CutsFit code.now.bytes (cut_of cuts)) }
 {
-    let jumps = table_jumps(alloc, code, state, AddressRange::all())?;
-    cuts_of(alloc, &jumps)
+    let tables = all_tables(alloc, code)?;
+    let reached = marks_of(alloc, code, state)?;
+    cuts_from(alloc, code, &reached, &tables)
 }

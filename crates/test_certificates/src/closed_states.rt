@@ -7,12 +7,13 @@ ghost use Rattle.elf_image.specs.Code.{is_code};
 
 use alone::build_alone;
 use cert_text::{Certificate, Part};
-use certify::{certificate, file_certificate};
+use certify::file_certificate;
 use cfg_vectors::row_file;
 use chain_index::ChainIndex;
 use code_view::{Code, Cuts};
 use elf_image::Image;
 use elf_symbols::seeds;
+use state_certificate::certificate;
 use std::alloc::Global;
 use std::process::Abort;
 use std::test::Fail;

@@ -10,6 +10,7 @@ use alone::build_alone;
 use cfg_model::{Chains, Flow};
 use cfg_vectors::row_file;
 use chain_index::ChainIndex;
+use code_tables::{all_tables, all_tables_by};
 use code_view::{AllTables, Code, Cuts};
 use core_state::{Memory, State};
 use elf_image::Image;
@@ -19,7 +20,7 @@ use std::process::Abort;
 use std::test::Fail;
 use std::thread::Threads;
 use table_cuts::cuts_of;
-use table_trim::{all_tables, all_tables_by, cuts, cuts_by};
+use table_trim::{cuts, cuts_by};
 use test_asserts::{holds, same};
 
 /// The jumps of row 15: one through a table of four entries, and one through a table of two that

@@ -4,7 +4,8 @@
 //! They show what no contract says. The definitions agree with worked examples, each call succeeds
 //! with ample memory, and several threads give what one gives.
 //!
-//! - `cut_tables`: the tables of all code, and how many entries are kept of each (`table_trim`).
+//! - `cut_tables`: the tables of all code (`code_tables`), and how many entries are kept of each
+//!   (`table_trim`).
 //! - `outlines`: blocks and edges (`finaliser`). `function_lists`: functions (`func_bodies`).
 //! - `outline_rows`: what worked programs consist of.
 #![tactic(auto)]

@@ -2,7 +2,7 @@ use Rattle.std.proofs.Common.{ℕ, List, sym, subst}
 use Rattle.std.specs.Prelude.{◌↔◌, Contains}
 use Rattle.cfg_model.specs.Graph.Leader.{IsLeader}
 use Rattle.cert_make.specs.Canonical.{ReturnsReached}
-use Rattle.certify.proofs.Shown.{reached_listed}
+use Rattle.certify.proofs.Listed.{reached_listed}
 use Rattle.certify.proofs.part.part_reached.Goals as goal
 
 pub canonical_part-requires-clause-leaders : goal.canonical_part-requires-clause-leaders

@@ -34,8 +34,8 @@ other_cuts-requires-clause-reached g c =
     let all : AreAllTables bytes c.in_ok-tables.tables = subst (λ (f : FileCode). AreAllTables f.bytes c.in_ok-tables.tables) (sym c.with_tables-uncut.ensures) c.in_ok-tables.ensures.tables in
     let listed : AreAllTables bytes c.jumps.result.now = subst (AreAllTables bytes) (sym c.jumps.ensures) all in
     subst (AreReachedUnder bytes c.in_ok-likely.likely) (sym c.deref.ensures.value)
-    (reached-under bytes from c.in_ok-likely.likely c.under-code.result c.jumps.result.now c.in_ok-reached.reached.items c.under-code.ensures.bytes c.under-code.ensures.cuts seeds-are listed
-    (c.in_ok-reached.ensures from c.in_ok-followed.ensures))
+    (reached-under bytes from c.in_ok-likely.likely c.under-code.result c.jumps.result.now c.in_ok-counted.counted.items c.under-code.ensures.bytes c.under-code.ensures.cuts seeds-are listed
+    (c.in_ok-counted.ensures from c.in_ok-reached.ensures))
 
 pub returns : goal.returns
 returns g c =
@@ -44,11 +44,11 @@ returns g c =
     let same : uncut.bytes ≡ bytes = ap (λ (f : FileCode). f.bytes) c.with_tables-uncut.ensures ∙ c.new-uncut.ensures.bytes in
     let cuts : Counts = c.in-Some.cuts in
     let own = subst (OwnOrShown uncut.bytes c.in_ok-likely.likely) c.in-Some.is c.in_ok-other_cuts.ensures in
-    IfOk-weaker c.graph_anew.result _ (λ shown. IsGraphOf bytes shown.graph)
-    (λ shown is. record {
+    IfOk-weaker c.graph_anew.result _ (IsGraphOf bytes)
+    (λ graph is. record {
       cuts = cuts;
       are_cuts = subst (λ (b : List ℕ). AreCutsOf b cuts) same own.0;
-      is_graph = graph-under bytes _ c.entry-in-Some.result _ cuts shown.graph
+      is_graph = graph-under bytes _ c.entry-in-Some.result _ cuts graph
           (program-is bytes cuts c.under.result (c.under.ensures.bytes ∙ same) c.under.ensures.cuts)
           (c.addresses-in-Some.ensures.addresses ∙ c.requires.seeds.addresses) c.entry-in-Some.ensures.entry is;
     }) c.graph_anew.ensures
@@ -60,11 +60,11 @@ returns-in-None g c =
     let same : bytes ≡ c.args.image.now = ap (λ (f : FileCode). f.bytes) c.with_tables-uncut.ensures ∙ c.new-uncut.ensures.bytes in
     let likely : Counts = c.in_ok-likely.likely in
     let shows = subst (OwnOrShown bytes likely) c.in-None.is c.in_ok-other_cuts.ensures in
-    IfOk-weaker c.graph.result _ (λ shown. IsGraphOf c.args.image.now shown.graph)
-    (λ shown is.
-    subst (λ (b : List ℕ). IsGraphOf b shown.graph) same
-    (shows shown.graph
-    (graph-under bytes _ c.entry.result _ likely shown.graph
+    IfOk-weaker c.graph.result _ (IsGraphOf c.args.image.now)
+    (λ graph is.
+    subst (λ (b : List ℕ). IsGraphOf b graph) same
+    (shows graph
+    (graph-under bytes _ c.entry.result _ likely graph
     (program-is bytes likely c.under-code.result c.under-code.ensures.bytes c.under-code.ensures.cuts)
     (c.addresses-in-None.ensures.addresses ∙ c.requires.seeds.addresses ∙ ap (λ (b : List ℕ). seeds b) (sym same))
     (c.entry.ensures.entry ∙ ap (λ (b : List ℕ). entry b) (sym same)) is))) c.graph.ensures

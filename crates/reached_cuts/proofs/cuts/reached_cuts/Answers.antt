@@ -1,33 +1,14 @@
-use Rattle.std.proofs.Common.{◌≡◌, List, sym, subst}
-use Rattle.std.specs.Prelude.{Contains}
+use Rattle.std.proofs.lemmas.Result.{IfOk-weaker}
 use Rattle.cfg_model.specs.Program.Cuts.{AreCuts}
+use Rattle.cfg_model.specs.Program.Reach.{Reached}
 use Rattle.code_view.specs.Cuts.{cut_of}
-use Rattle.code_view.specs.declared.table_jump.TableJump.{TableJump}
+use Rattle.code_view.specs.FileCode.{program_of}
 use Rattle.table_cuts.specs.Extents.{extent_at}
-use Rattle.code_view.specs.Tables.{AreTablesOf, AreAllTables, addresses_of}
-use Rattle.reached_cuts.proofs.Counting.{counted-cuts}
 use Rattle.reached_cuts.proofs.cuts.reached_cuts.Goals as goal
-
-pub cuts_of-requires : goal.cuts_of-requires
-cuts_of-requires c =
-    let bytes = c.args.code.now.bytes in
-    let among = c.in_ok-counted.ensures c.args.seeds.now c.in_ok-followed.ensures in
-    (bytes, subst (AreTablesOf bytes) (sym c.deref.ensures.value) among.tables_of)
 
 pub returns-clause-cuts : goal.returns-clause-cuts
 returns-clause-cuts c =
     let code = c.args.code.now in
-    let counted : List TableJump = c.in_ok-counted.counted.items in
-    let given : List TableJump = c.deref.result.now in
-    let same : given ≡ counted = c.deref.ensures.value in
-    let all = subst (AreAllTables code.bytes) (sym c.jumps.ensures) c.requires.tables in
-    let among = c.in_ok-counted.ensures c.args.seeds.now c.in_ok-followed.ensures in
-    counted-cuts code c.args.seeds.now c.jumps.result.now counted (cut_of c.in_ok-cuts_of.field-0) all among
-    (subst (λ (xs : List TableJump). AreCuts (extent_at code.bytes) (λ j. Contains (addresses_of xs) j) (cut_of c.in_ok-cuts_of.field-0)) same
-    (c.in_ok-cuts_of.ensures.cuts code.bytes (subst (AreTablesOf code.bytes) (sym same) among.tables_of)))
-
-pub returns-clause-fits : goal.returns-clause-fits
-returns-clause-fits c =
-    let bytes = c.args.code.now.bytes in
-    let among = c.in_ok-counted.ensures c.args.seeds.now c.in_ok-followed.ensures in
-    c.in_ok-cuts_of.ensures.fits bytes (subst (AreTablesOf bytes) (sym c.deref.ensures.value) among.tables_of)
+    let seeds = c.args.seeds.now in
+    IfOk-weaker c.cuts_from.result _ (λ cuts. AreCuts (extent_at code.bytes) (Reached (program_of code) seeds) (cut_of cuts))
+    (λ cuts are. are seeds c.in_ok-reached.ensures) c.cuts_from.ensures.cuts

@@ -17,7 +17,7 @@ loop-found-init c = λ seeds is. subst (AreReachedAmong c.args.code.now seeds []
 
 pub has-requires-clause-ends : goal.has-requires-clause-ends
 unfolding past
-has-requires-clause-ends c =
+has-requires-clause-ends c κs =
     let code = c.args.code.now in
     let f : TableJump = get_or c.args.tables.now c.loop-found.found-index past in
     table-ends code.bytes (cut_of code.cuts) f.jump (record { table = f.table; at_jump = c.requires.tables c.loop-found.found-index past c.loop-found-test.true })

@@ -1,4 +1,0 @@
-pub mod Walk
-pub mod Reached
-pub mod Shared
-pub mod AllTables
