@@ -9,7 +9,7 @@ use Rattle.cfg_model.specs.Graph.Block.{RunsTo}
 use Rattle.cfg_model.specs.Graph.Leader.{IsLeader}
 use Rattle.reached_graph.specs.declared.leaders.Leaders.{Leaders}
 use Rattle.reached_graph.specs.Inner.Blocks.{HoldMixed, IsMixed}
-use Rattle.reached_graph.specs.Inner.Leaders.{AreMarkedBlocks, AreSent}
+use Rattle.reached_graph.specs.Inner.Leaders.{AreMarkedBlocks, AreStarts}
 use Rattle.reached_graph.specs.Inner.Walks.{AreWalked, Nowhere}
 use Rattle.reached_graph.proofs.Apart.{apart_on, chain_of, lies_at, lies_on, mixed_blocks, LiesOn}
 use Rattle.reached_graph.proofs.Reaching.{reached_holds, starts_found}
@@ -58,10 +58,10 @@ module _ (map : InstructionMap) (seeds : List ℕ) (IsCut IsWalked IsStart : ℕ
         ]
       ]
 
-    module _ (sent : AreSent map seeds IsCut) (is_known : (a next : ℕ) → GoesOnTo map a next → IsCut next ⊎ ¬ IsCut next) where
+    module _ (given : AreStarts map seeds IsCut) (is_known : (a next : ℕ) → GoesOnTo map a next → IsCut next ⊎ ¬ IsCut next) where
       all_lie : {a : ℕ} → Reached map seeds a → Lies a
       all_lie reached = reached_holds map seeds Lies
-          (λ a is. lies_at map lawful IsCut blocks.starts.items are.rise are.exact a ((sent a).1 is))
+          (λ a is. lies_at map lawful IsCut blocks.starts.items are.rise are.exact a (given.sent a is))
           (λ a next lies goes. lies_on map lawful IsCut blocks.starts.items are.rise are.exact a next (is_known a next goes) lies goes)
           reached
 
@@ -74,5 +74,5 @@ module _ (map : InstructionMap) (seeds : List ℕ) (IsCut IsWalked IsStart : ℕ
       pub starts_lead : (a : ℕ) → IsStart a ↔ IsLeader map seeds a
       starts_lead a = (
         λ starts. done.leads a starts,
-        λ lead. starts_found map seeds IsStart (λ b is. done.given b ((sent b).1 is)) join_starts lead.starts,
+        λ lead. starts_found map seeds IsStart (λ b is. done.given b (given.sent b is)) join_starts lead.starts,
       )

@@ -1,5 +1,5 @@
 -- All leaders of a program, and the last addresses of their blocks.
-use Rattle.std.proofs.Common.{◌≡◌, ℕ, ◌<◌, ◌⊎◌, false, List, length, get_or, IsSome, sym, ◌∙◌, inl, inr, arith}
+use Rattle.std.proofs.Common.{◌≡◌, ℕ, ◌<◌, ◌⊎◌, Bool, false, List, length, get_or, IsSome, sym, ◌∙◌, inl, inr, arith}
 use Rattle.std.specs.Prelude.{◌↔◌}
 use Rattle.std.proofs.lemmas.Bool.{cases_Bool, false≢true}
 use Rattle.std.proofs.lemmas.List.Elements.{Contains-get_or}
@@ -15,11 +15,11 @@ use Rattle.reached_terms.specs.Reached.{Reach, AreReachedTerms}
 use Rattle.reached_graph.specs.declared.leaders.Leaders.{Leaders}
 use Rattle.reached_graph.specs.declared.walks.Walks.{Walks}
 use Rattle.reached_graph.specs.Inner.Blocks.{HoldMixed}
-use Rattle.reached_graph.specs.Inner.Leaders.{AreLeaders, AreMarkedBlocks}
+use Rattle.reached_graph.specs.Inner.Leaders.{AreLeaders, AreMarkedBlocks, AreStarts, MarkLeaders}
 use Rattle.reached_graph.specs.Inner.Walks.{AreDone, Nowhere}
 use Rattle.reached_graph.proofs.Cutting.{last_same}
 use Rattle.reached_graph.proofs.Found.{starts_lead}
-use Rattle.reached_graph.proofs.Sending.{none_walked}
+use Rattle.reached_graph.proofs.Starting.{none_walked}
 
 -- those of a list of exactly the addresses where blocks are cut
 module _ (map : InstructionMap) (seeds : List ℕ) (known : (a : ℕ) → Reached map seeds a → IsSome (map a)) (IsCut : ℕ → Type 0) (lead : (a : ℕ) → IsCut a ↔ IsLeader map seeds a)
@@ -44,27 +44,27 @@ module _ (map : InstructionMap) (seeds : List ℕ) (known : (a : ℕ) → Reache
         known (get_or lasts i d) (reached_along from.reached (last_leads i d inside).runs);
   }
 
+-- where what a program reaches is kept, blocks are known to start at these marks
+pub known_starts : (map : InstructionMap) (number : ℕ → ℕ) (seeds : List ℕ) (terms : Reach) → AreReachedTerms map number seeds terms → (marks : List Bool) → marks ≡ terms.starts → AreStarts map seeds (IsMarked map number marks)
+known_starts map number seeds terms are marks same = rw same (record { sent = are.sent; leads = are.leads })
+
 -- those that walks from blocks that overlap find
-module _ (map : InstructionMap) (number : ℕ → ℕ) (lawful : IsLawful map) (seeds : List ℕ) (terms : Reach) (are : AreReachedTerms map number seeds terms)
-    (blocks : Leaders) (cut : AreMarkedBlocks map (IsMarked map number terms.sent) blocks) (mixed : List ℕ) (hold : HoldMixed blocks.starts.items blocks.lasts.items (length blocks.starts.items) mixed) where
+module _ (map : InstructionMap) (number : ℕ → ℕ) (lawful : IsLawful map) (marks : List Bool) (blocks : Leaders) (cut : AreMarkedBlocks map (IsMarked map number marks) blocks)
+    (mixed : List ℕ) (hold : HoldMixed blocks.starts.items blocks.lasts.items (length blocks.starts.items) mixed) (seeds : List ℕ) (given : AreStarts map seeds (IsMarked map number marks)) where
   abbrev IsCut : ℕ → Type 0
-  IsCut = IsMarked map number terms.sent
+  IsCut = IsMarked map number marks
 
   is_known : (a next : ℕ) → GoesOnTo map a next → IsCut next ⊎ ¬ IsCut next
-  is_known a next goes = elim (cases_Bool (get_or terms.sent (number next) false)) [
+  is_known a next goes = elim (cases_Bool (get_or marks (number next) false)) [
     | inl on ↦ inl ((goes_up map a next lawful goes).2, on)
     | inr off ↦ inr (λ cut. false≢true (sym off ∙ cut.1))
   ]
 
-  pub walks_lead : (w : Walks) → AreDone map number terms.sent mixed w → (leaders : Leaders) → AreMarkedBlocks map (IsMarked map number w.starts.items) leaders → AreLeaders map seeds leaders
-  walks_lead w done leaders marked =
-      leaders_are map seeds are.known (IsMarked map number w.starts.items)
-      (starts_lead map seeds IsCut (IsMarked map number w.walked.items) (IsMarked map number w.starts.items) (done.walked seeds are.sent) lawful blocks cut mixed hold done.begun are.sent is_known)
-      leaders marked
+  pub walks_lead : (w : Walks) → AreDone map number marks mixed w → MarkLeaders map number seeds w.starts.items
+  walks_lead w done =
+      starts_lead map seeds IsCut (IsMarked map number w.walked.items) (IsMarked map number w.starts.items) (done.walked seeds given) lawful blocks cut mixed hold done.begun given is_known
 
-  -- if none overlap, those where control is sent
-  pub sent_lead : length mixed ≡ 0 → AreLeaders map seeds blocks
-  sent_lead none =
-      leaders_are map seeds are.known IsCut
-      (starts_lead map seeds IsCut Nowhere IsCut (none_walked map seeds IsCut Nowhere are.sent (λ a nowhere. nowhere)) lawful blocks cut mixed hold (λ a there. absurd (omega (arith, there.1, none))) are.sent is_known)
-      blocks cut
+  -- if none overlap, no two streams join
+  pub none_join : length mixed ≡ 0 → MarkLeaders map number seeds marks
+  none_join none =
+      starts_lead map seeds IsCut Nowhere IsCut (none_walked map seeds IsCut Nowhere given (λ a nowhere. nowhere)) lawful blocks cut mixed hold (λ a there. absurd (omega (arith, there.1, none))) given is_known

@@ -1,6 +1,6 @@
 mod Marking
 mod Reaching
-mod Sending
+mod Starting
 mod Walking
 mod Found
 mod Cutting
@@ -9,4 +9,5 @@ mod Pushed
 mod Mixed
 mod Leading
 mod Making
+mod Together
 mod Calling

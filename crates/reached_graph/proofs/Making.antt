@@ -1,6 +1,6 @@
--- The blocks and edges of the first so many leaders, and of all.
+-- The blocks and edges of the first so many starts, of a part, and of all leaders.
 use Rattle.std.proofs.Common.{◌≡◌, ℕ, ◌+◌, ◌<◌, List, [], ◌∷◌, length, get_or, refl, sym, ap, ◌∙◌, subst, below_more, inl, inr, arith}
-use Rattle.std.specs.Prelude.{Contains}
+use Rattle.std.specs.Prelude.{All, Contains}
 use Rattle.std.proofs.lemmas.Bool.{cases_lt}
 use Rattle.std.proofs.lemmas.List.Kept.{AllPairs-from_increasing}
 use Rattle.std.proofs.lemmas.List.{get_or_default, get_or_push, get_or_append_left, length_push}
@@ -20,6 +20,7 @@ use Rattle.cfg_model.proofs.Graphs.OneBlock.{block_unique, one_last}
 use Rattle.reached_graph.specs.declared.leaders.Leaders.{Leaders}
 use Rattle.reached_graph.specs.Inner.Blocks.{IsMadeOf}
 use Rattle.reached_graph.specs.Inner.Leaders.{AreLeaders}
+use Rattle.reached_graph.specs.Inner.Parts.{ArePart}
 
 module _ (map : InstructionMap) (xs ks : List ℕ) where
   -- the block from start j, and the edges from it
@@ -63,7 +64,21 @@ module _ (map : InstructionMap) (xs ks : List ℕ) where
     ];
   }
 
--- those of all leaders are the blocks and edges of the program
+-- ---- a part
+
+-- in order, the edges of all of some starts are those of a part
+pub part_made : (map : InstructionMap) (xs ks : List ℕ) (i : ℕ) → i ≡ length xs → (blocks : List Block) (edges sorted : List Edge) → AreMade map xs ks i blocks edges → Lists EdgeBefore (Contains edges) sorted → ArePart map xs ks blocks sorted
+part_made map xs ks i whole blocks edges sorted made lists = record {
+  as_many = made.as_many ∙ whole;
+  each = λ j b lt. made.each j b (omega (arith, lt, whole));
+  listed = record {
+    in_order = lists.in_order;
+    sound = λ edge there. let found = made.sound edge (lists.sound edge there) in (found.0, omega (arith, found.1, whole), found.2);
+    complete = λ edge leaves. lists.complete edge (made.complete leaves.0 edge (omega (arith, leaves.1, whole)) leaves.2);
+  };
+}
+
+-- that of all leaders has the blocks and edges of the program
 
 module _ (map : InstructionMap) (seeds : List ℕ) (leaders : Leaders) (are : AreLeaders map seeds leaders) where
   abbrev xs : List ℕ
@@ -72,62 +87,63 @@ module _ (map : InstructionMap) (seeds : List ℕ) (leaders : Leaders) (are : Ar
   abbrev ks : List ℕ
   ks = leaders.lasts.items
 
-  pub leader_at : (i d : ℕ) → i < length xs → IsLeader map seeds (get_or xs i d)
+  leader_at : (i d : ℕ) → i < length xs → IsLeader map seeds (get_or xs i d)
   leader_at i d within = (are.listed (get_or xs i d)).0 (i, within, get_or_default xs i (get_or xs i d) d within)
 
-  pub last_at : (i d : ℕ) → i < length xs → IsLastOf map (IsLeader map seeds) (get_or xs i d) (get_or ks i d)
+  last_at : (i d : ℕ) → i < length xs → IsLastOf map (IsLeader map seeds) (get_or xs i d) (get_or ks i d)
   last_at i d within = are.cut.each i d within
 
-  -- the last address of a block is reached
-  pub last_reached : (i d : ℕ) → i < length xs → Reached map seeds (get_or ks i d)
-  last_reached i d within = reached_along (leader_at i d within).reached (last_at i d within).runs
+  -- the last addresses of blocks are reached
+  pub lasts_reached : All (Reached map seeds) ks
+  lasts_reached i d within =
+      let inside : i < length xs = omega (arith, within, are.cut.as_many) in
+      reached_along (leader_at i d inside).reached (last_at i d inside).runs
 
-  module _ (n : ℕ) (whole : n ≡ length xs) (blocks : List Block) (edges : List Edge) (made : AreMade map xs ks n blocks edges) where
-    block_start : (i : ℕ) (b : Block) → i < n → (get_or blocks i b).start ≡ get_or xs i 0
-    block_start i b within = (made.each i b within).start
+  module _ (blocks : List Block) (edges : List Edge) (part : ArePart map xs ks blocks edges) where
+    block_start : (i : ℕ) (b : Block) → i < length xs → (get_or blocks i b).start ≡ get_or xs i 0
+    block_start i b within = (part.each i b within).start
 
-    block_at : (i : ℕ) (b : Block) → i < n → IsBlock map seeds (get_or blocks i b)
+    block_at : (i : ℕ) (b : Block) → i < length xs → IsBlock map seeds (get_or blocks i b)
     block_at i b within =
-        let of : IsBlockOf map (get_or xs i 0) (get_or ks i 0) (get_or blocks i b) = made.each i b within in
+        let of : IsBlockOf map (get_or xs i 0) (get_or ks i 0) (get_or blocks i b) = part.each i b within in
         let start : get_or xs i 0 ≡ (get_or blocks i b).start = sym of.start in (
           get_or ks i 0,
           record {
-            leader = subst (IsLeader map seeds) start (leader_at i 0 (omega arith));
-            last = subst (λ z. IsLastOf map (IsLeader map seeds) z (get_or ks i 0)) start (last_at i 0 (omega arith));
+            leader = subst (IsLeader map seeds) start (leader_at i 0 within);
+            last = subst (λ z. IsLastOf map (IsLeader map seeds) z (get_or ks i 0)) start (last_at i 0 within);
             of = subst (λ z. IsBlockOf map z (get_or ks i 0) (get_or blocks i b)) start of;
           },
         )
 
     blocks_rise : (i j : ℕ) (b : Block) → i < j → j < length blocks → (get_or blocks i b).start < (get_or blocks j b).start
     blocks_rise i j b lt within =
-        let inside : j < n = omega (arith, made.as_many, within) in
+        let inside : j < length xs = omega (arith, part.as_many, within) in
         let first : (get_or blocks i b).start ≡ get_or xs i 0 = block_start i b (omega arith) in
         let second : (get_or blocks j b).start ≡ get_or xs j 0 = block_start j b inside in
-        let less : get_or xs i 0 < get_or xs j 0 = AllPairs-from_increasing xs are.rise i j 0 lt (omega arith) in
+        let less : get_or xs i 0 < get_or xs j 0 = AllPairs-from_increasing xs are.rise i j 0 lt inside in
         omega arith
 
     block_listed : (b : Block) → IsBlock map seeds b → Contains blocks b
     block_listed b is =
         let place : Contains xs b.start = (are.listed b.start).1 is.1.leader in
-        let within : place.0 < length xs = place.1 in
-        let inside : place.0 < n = omega arith in
-        let same : (get_or blocks place.0 b).start ≡ b.start = block_start place.0 b inside ∙ get_or_default xs place.0 0 b.start within ∙ place.2 in
-        (place.0, omega (arith, made.as_many, inside), block_unique map seeds (get_or blocks place.0 b) b (block_at place.0 b inside) is same)
+        let inside : place.0 < length xs = place.1 in
+        let same : (get_or blocks place.0 b).start ≡ b.start = block_start place.0 b inside ∙ get_or_default xs place.0 0 b.start inside ∙ place.2 in
+        (place.0, omega (arith, part.as_many, inside), block_unique map seeds (get_or blocks place.0 b) b (block_at place.0 b inside) is same)
 
     block_sound : (b : Block) → Contains blocks b → IsBlock map seeds b
-    block_sound b c = let lt : c.0 < length blocks = c.1 in subst (IsBlock map seeds) c.2 (block_at c.0 b (omega (arith, made.as_many, lt)))
+    block_sound b c = let lt : c.0 < length blocks = c.1 in subst (IsBlock map seeds) c.2 (block_at c.0 b (omega (arith, part.as_many, lt)))
 
     edge_sound : (edge : Edge) → Contains edges edge → IsEdge map seeds edge
     edge_sound edge c =
-        let found = made.sound edge c in
+        let found = part.listed.sound edge c in
         let j : ℕ = found.0 in
-        let lt : j < n = found.1 in
+        let lt : j < length xs = found.1 in
         let leaves : Leaves map (Returns map) (get_or xs j 0) (get_or ks j 0) edge = found.2 in
         let from : get_or xs j 0 ≡ edge.from = sym leaves.from in
         record {
           last = get_or ks j 0;
-          from = subst (IsLeader map seeds) from (leader_at j 0 (omega arith));
-          ends = subst (λ z. IsLastOf map (IsLeader map seeds) z (get_or ks j 0)) from (last_at j 0 (omega arith));
+          from = subst (IsLeader map seeds) from (leader_at j 0 lt);
+          ends = subst (λ z. IsLastOf map (IsLeader map seeds) z (get_or ks j 0)) from (last_at j 0 lt);
           leads = leaves.leads;
         }
 
@@ -138,17 +154,16 @@ module _ (map : InstructionMap) (seeds : List ℕ) (leaders : Leaders) (are : Ar
         let within : j < length xs = place.1 in
         let start : edge.from ≡ get_or xs j 0 = sym (get_or_default xs j 0 edge.from within ∙ place.2) in
         let same : is.last ≡ get_or ks j 0 = one_last (subst (λ z. IsLastOf map (IsLeader map seeds) z is.last) start is.ends) (last_at j 0 within) in
-        made.complete j edge (omega arith)
-        (subst (λ z. Leaves map (Returns map) z (get_or ks j 0) edge) start
-        (subst (λ z. Leaves map (Returns map) edge.from z edge) same
-        (record { from = refl; leads = is.leads })))
+        part.listed.complete edge (
+          j,
+          within,
+          subst (λ z. Leaves map (Returns map) z (get_or ks j 0) edge) start
+              (subst (λ z. Leaves map (Returns map) edge.from z edge) same
+              (record { from = refl; leads = is.leads })),
+        )
 
-    pub outline_made : (sorted : List Edge) → Lists EdgeBefore (Contains edges) sorted → IsOutline map seeds blocks sorted
-    outline_made sorted lists = record {
+    pub outline_made : IsOutline map seeds blocks edges
+    outline_made = record {
       all_blocks = record { in_order = blocks_rise; sound = block_sound; complete = block_listed };
-      all_edges = record {
-        in_order = lists.in_order;
-        sound = λ edge c. edge_sound edge (lists.sound edge c);
-        complete = λ edge is. lists.complete edge (edge_listed edge is);
-      };
+      all_edges = record { in_order = part.listed.in_order; sound = edge_sound; complete = edge_listed };
     }

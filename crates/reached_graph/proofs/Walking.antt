@@ -213,27 +213,27 @@ module _ (map : InstructionMap) (seeds : List ℕ) (IsGiven IsWalked IsStart : �
 
 -- the same of the walks
 
-module _ (map : InstructionMap) (number : ℕ → ℕ) (seeds : List ℕ) (sent : List Bool) (old new : Walks) where
-  pub walks_begin : (s : ℕ) → IsBegun map number s old new → IsMarked map number sent s → HaveWalked map number seeds sent old Nowhere → HaveWalked map number seeds sent new (At s)
+module _ (map : InstructionMap) (number : ℕ → ℕ) (seeds : List ℕ) (marks : List Bool) (old new : Walks) where
+  pub walks_begin : (s : ℕ) → IsBegun map number s old new → IsMarked map number marks s → HaveWalked map number seeds marks old Nowhere → HaveWalked map number seeds marks new (At s)
   walks_begin s begun there have =
       rw begun.starts
-      (walk_begins map seeds (IsMarked map number sent) (IsMarked map number old.walked.items) (IsMarked map number old.starts.items) (IsMarked map number new.walked.items) s begun.off begun.walked there have)
+      (walk_begins map seeds (IsMarked map number marks) (IsMarked map number old.walked.items) (IsMarked map number old.starts.items) (IsMarked map number new.walked.items) s begun.off begun.walked there have)
 
-  module _ (lawful : IsLawful map) (here next : ℕ) (goes : GoesOnTo map here next) (walked : IsMarked map number old.walked.items here) (have : HaveWalked map number seeds sent old (At here)) where
-    pub walks_go : IsFresh map number next old new → HaveWalked map number seeds sent new (At next)
+  module _ (lawful : IsLawful map) (here next : ℕ) (goes : GoesOnTo map here next) (walked : IsMarked map number old.walked.items here) (have : HaveWalked map number seeds marks old (At here)) where
+    pub walks_go : IsFresh map number next old new → HaveWalked map number seeds marks new (At next)
     walks_go fresh =
         let begun : IsBegun map number next old new = fresh.begun in
         rw begun.starts
-        (walk_goes map seeds (IsMarked map number sent) (IsMarked map number old.walked.items) (IsMarked map number old.starts.items) here next goes have walked fresh.no_start (IsMarked map number new.walked.items) lawful begun.off begun.walked)
+        (walk_goes map seeds (IsMarked map number marks) (IsMarked map number old.walked.items) (IsMarked map number old.starts.items) here next goes have walked fresh.no_start (IsMarked map number new.walked.items) lawful begun.off begun.walked)
 
-    pub walks_stop : IsStopped map number next old new → HaveWalked map number seeds sent new Nowhere
+    pub walks_stop : IsStopped map number next old new → HaveWalked map number seeds marks new Nowhere
     walks_stop stopped = elim stopped [
       | inl (starts, same) ↦
-          subst (λ (w : Walks). HaveWalked map number seeds sent w Nowhere) (sym same)
-          (walk_stops map seeds (IsMarked map number sent) (IsMarked map number old.walked.items) (IsMarked map number old.starts.items) here next goes have starts)
+          subst (λ (w : Walks). HaveWalked map number seeds marks w Nowhere) (sym same)
+          (walk_stops map seeds (IsMarked map number marks) (IsMarked map number old.walked.items) (IsMarked map number old.starts.items) here next goes have starts)
       | inr join ↦
           rw join.walked
-          (walk_joins map seeds (IsMarked map number sent) (IsMarked map number old.walked.items) (IsMarked map number old.starts.items) here next goes have walked join.no_start (IsMarked map number new.starts.items) lawful join.was_walked join.starts)
+          (walk_joins map seeds (IsMarked map number marks) (IsMarked map number old.walked.items) (IsMarked map number old.starts.items) here next goes have walked join.no_start (IsMarked map number new.starts.items) lawful join.was_walked join.starts)
     ]
 
 -- what a walk that stops leaves walked over
@@ -250,7 +250,7 @@ module _ (map : InstructionMap) (number : ℕ → ℕ) (s : ℕ) (old new : Walk
     fit = fit;
     begun = subst (λ (w : Walks). IsMarked map number w.walked.items s) (sym same) walked;
     kept = λ a on. subst (λ (w : Walks). IsMarked map number w.walked.items a) (sym same) on;
-    walked = λ seeds sent there have. subst (λ (w : Walks). HaveWalked map number seeds sent w Nowhere) (sym same) have;
+    walked = λ seeds marks there have. subst (λ (w : Walks). HaveWalked map number seeds marks w Nowhere) (sym same) have;
   }
 
   -- one that goes on
@@ -259,14 +259,14 @@ module _ (map : InstructionMap) (number : ℕ → ℕ) (s : ℕ) (old new : Walk
     fit = on.fit;
     begun = on.kept s begun.walked.here;
     kept = λ a was. on.kept a (begun.walked.kept a was);
-    walked = λ seeds sent there have. on.walked seeds sent (walks_begin map number seeds sent old mid s begun there have);
+    walked = λ seeds marks there have. on.walked seeds marks (walks_begin map number seeds marks old mid s begun there have);
   }
 
   -- the walks from the first of these addresses, and from one more
-  pub more_begun : (sent : List ℕ) (i : ℕ) → i < length sent → s ≡ get_or sent i 0 → IsWalkFrom map number s old new
-      → ((a : ℕ) → Contains (take i sent) a → IsMarked map number old.walked.items a) → (a : ℕ) → Contains (take (i + 1) sent) a → IsMarked map number new.walked.items a
-  more_begun sent i within is from before a c =
-      elim (Contains-push_cases (take i sent) s a (subst (λ xs. Contains xs a) (take_more sent i 0 within ∙ ap (λ y. take i sent ++ y ∷ []) (sym is)) c)) [
+  pub more_begun : (firsts : List ℕ) (i : ℕ) → i < length firsts → s ≡ get_or firsts i 0 → IsWalkFrom map number s old new
+      → ((a : ℕ) → Contains (take i firsts) a → IsMarked map number old.walked.items a) → (a : ℕ) → Contains (take (i + 1) firsts) a → IsMarked map number new.walked.items a
+  more_begun firsts i within is from before a c =
+      elim (Contains-push_cases (take i firsts) s a (subst (λ xs. Contains xs a) (take_more firsts i 0 within ∙ ap (λ y. take i firsts ++ y ∷ []) (sym is)) c)) [
         | inl was ↦ from.kept a (before a was)
         | inr e ↦ subst (IsMarked map number new.walked.items) e from.begun
       ]

@@ -3,4 +3,5 @@ pub mod Marks
 pub mod Walks
 pub mod Leaders
 pub mod Blocks
+pub mod Parts
 pub mod Ways

@@ -1,7 +1,8 @@
 //! The leaders of a program: the addresses where its blocks start.
 
 ghost use Rattle.std.specs.Prelude.{◌≡◌, ◌↔◌, ◌<◌, ◌≤◌, ◌+◌, ℕ, List, length, get_or, slice_get};
-ghost use Rattle.std.specs.Prelude.{Contains, IfOk, OnOk, IsSome, IsTrue};
+ghost use Rattle.std.specs.Prelude.{Contains, IfOk, IfSome, IsSome, IsTrue, MatchOption, OnOk};
+ghost use Rattle.std.specs.Prelude.{drop, take};
 ghost use Rattle.std.specs.List.Sorted.{IsStrictlyIncreasing};
 ghost use Rattle.cfg_model.specs.Graph.Block.{IsLastOf};
 ghost use Rattle.cfg_model.specs.Graph.Leader.{IsLeader};
@@ -9,7 +10,8 @@ ghost use Rattle.cfg_model.specs.Program.Instructions.{IsLawful};
 ghost use Rattle.reached_terms.specs.Numbering.{IsMarked, IsNumbering};
 ghost use Rattle.reached_terms.specs.Reached.{AreReachedTerms};
 ghost use Rattle.reached_graph.specs.Inner.Blocks.{AreCutAt, HoldMixed, IsMixed};
-ghost use Rattle.reached_graph.specs.Inner.Leaders.{AreLeaders, AreMarkedBlocks};
+ghost use Rattle.reached_graph.specs.Inner.Leaders.{AreLeaders, AreMarkedBlocks, AreStarts};
+ghost use Rattle.reached_graph.specs.Inner.Leaders.{MarkLeaders};
 
 use crate::blocks::{last_before, last_of};
 use crate::walks::Walks;
@@ -47,9 +49,9 @@ pub fn leaders_of<C: Numbered>(
 impl Leaders {
     /// The leaders of the program `code`, from what it reaches.
     ///
-    /// All are addresses that control is sent to, but those where two streams join. Two streams can
-    /// join only where two blocks overlap that are cut where control is sent: so only the blocks
-    /// that overlap are walked over.
+    /// Blocks are known to start where control is sent. Other leaders are those where two streams
+    /// join. Two streams can join only where two blocks overlap that are cut at the known starts: so
+    /// only the blocks that overlap are walked over.
     /// Time: linear in the numbers, in the instructions of the blocks that go straight on to the
     /// next, and in those of the blocks that overlap. Memory, but for the spare room of vectors:
     /// 16 bytes for each leader; if blocks overlap, up to 40, and two for each number.
@@ -66,12 +68,10 @@ impl Leaders {
     {
         know_laws(code);
         let leaders = Leaders::cut(alloc, code, reached.starts())?;
-        let mixed = mixed_starts(alloc, &leaders.starts, &leaders.lasts)?;
-        if mixed.is_empty() {
-            return Ok(leaders);
+        match marks_with_joins(alloc, code, reached.starts(), &leaders)? {
+            Some(marks) => Leaders::cut(alloc, code, &marks),
+            None => Ok(leaders),
         }
-        let walks = Walks::of(alloc, code, reached.starts(), &mixed)?;
-        Ok(Leaders::cut(alloc, code, &walks.starts)?)
     }
 
     /// The blocks that start exactly where the marks are set, and are cut there.
@@ -83,13 +83,40 @@ impl Leaders {
             marks.now)) }
     {
         let starts = marked_addresses(alloc, code, marks)?;
-        let lasts = lasts_cut(alloc, code, marks, &starts)?;
+        let lasts = lasts_in(alloc, code, marks, &starts, 0, starts.len())?;
         Ok(Leaders { starts, lasts })
     }
 }
 
+/// The marks of all leaders, if blocks start at least where the marks are set, and these are the
+/// blocks that are cut there. `None` if all leaders are marked, as no two blocks overlap.
+pub(crate) fn marks_with_joins<C: Numbered>(
+    alloc: Global,
+    code: &C,
+    marks: &[bool],
+    blocks: &Leaders,
+) -> Result<Option<Vec<bool>>, Memory>
+    requires lawful { IsLawful (C.map code.now) }
+    requires numbering { IsNumbering (C.map code.now) (C.number code.now) (length marks.now) }
+    requires blocks { AreMarkedBlocks (C.map code.now)
+        (IsMarked (C.map code.now) (C.number code.now) marks.now) blocks.now }
+    ensures numbering { IfOk result (λ found. IfSome found
+        (λ v. IsNumbering (C.map code.now) (C.number code.now) (length v.items))) }
+    ensures leaders { IfOk result (λ found. (seeds : List ℕ)
+        → AreStarts (C.map code.now) seeds (IsMarked (C.map code.now) (C.number code.now) marks.now)
+        → MatchOption found (MarkLeaders (C.map code.now) (C.number code.now) seeds marks.now)
+        (λ v. MarkLeaders (C.map code.now) (C.number code.now) seeds v.items)) }
+{
+    let mixed = mixed_starts(alloc, &blocks.starts, &blocks.lasts)?;
+    if mixed.is_empty() {
+        return Ok(None);
+    }
+    let walks = Walks::of(alloc, code, marks, &mixed)?;
+    Ok(Some(walks.starts))
+}
+
 /// Each answer of a program shows its laws, so this asks it for one.
-fn know_laws<C: Numbered>(code: &C)
+pub(crate) fn know_laws<C: Numbered>(code: &C)
     ensures lawful { IsLawful (C.map code.now) }
     ensures apart { (count : ℕ)
         → ((a : ℕ) → IsSome (C.map code.now a) → C.number code.now a < count)
@@ -106,24 +133,29 @@ fn next_after(starts: &[u64], i: usize) -> Option<u64>
     starts.get(i + 1).copied()
 }
 
-/// The last addresses of the blocks that start at these addresses, which are all those whose marks
-/// are set, and are cut there.
-fn lasts_cut<C: Numbered>(
+/// The last addresses of the blocks from the start at place `from` on, of so many of them at most.
+/// Blocks start at these addresses, which are all those whose marks are set, and are cut there.
+pub(crate) fn lasts_in<C: Numbered>(
     alloc: Global,
     code: &C,
     marks: &[bool],
     starts: &[u64],
+    from: usize,
+    count: usize,
 ) -> Result<Vec<u64>, Memory>
     requires lawful { IsLawful (C.map code.now) }
     requires numbering { IsNumbering (C.map code.now) (C.number code.now) (length marks.now) }
     requires rise { IsStrictlyIncreasing starts.now }
     requires exact { (a : ℕ) → Contains starts.now a
         ↔ IsMarked (C.map code.now) (C.number code.now) marks.now a }
+    requires within { from ≤ length starts.now }
     ensures { IfOk result (λ v. AreCutAt (C.map code.now)
-        (IsMarked (C.map code.now) (C.number code.now) marks.now) starts.now v.items) }
+        (IsMarked (C.map code.now) (C.number code.now) marks.now)
+        (take count (drop from starts.now)) v.items) }
 {
-    let mut lasts = Vec::with_capacity(alloc, starts.len())?;
-    for i in 0..starts.len() {
+    let until = from + count.min(starts.len() - from);
+    let mut lasts = Vec::with_capacity(alloc, until - from)?;
+    for i in from..until {
         lasts.push(last_at(code, marks, starts, i))?;
     }
     Ok(lasts)

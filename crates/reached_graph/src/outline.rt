@@ -1,10 +1,11 @@
 //! The blocks and edges of a program, from its leaders.
 
-ghost use Rattle.std.specs.Prelude.{List, ℕ, IfOk, IsSome, OnOk};
+ghost use Rattle.std.specs.Prelude.{◌≡◌, List, ℕ, All, IfOk, IsSome, OnOk, length};
 ghost use Rattle.cfg_model.specs.Graph.Graph.{IsOutline};
 ghost use Rattle.cfg_model.specs.Program.Reach.{Reached};
 ghost use Rattle.reached_graph.specs.Inner.Blocks.{IsMadeOf};
 ghost use Rattle.reached_graph.specs.Inner.Leaders.{AreLeaders};
+ghost use Rattle.reached_graph.specs.Inner.Parts.{ArePart};
 ghost use Rattle.reached_graph.specs.Inner.Ways.{TellsReached};
 
 use crate::blocks::block_to;
@@ -29,15 +30,54 @@ pub(crate) fn outline_of<C: Chains, F: Fn(u64) -> bool>(
         → AreLeaders (C.map code.now) seeds leaders.now
         → IsOutline (C.map code.now) seeds outline.blocks outline.edges) }
 {
-    let mut blocks = Vec::with_capacity(alloc, leaders.starts.len())?;
-    let mut edges = Vec::new(alloc);
-    for i in 0..leaders.starts.len() {
-        let (s, last) = (leaders.starts[i], leaders.lasts[i]);
-        add_block(code, returns, s, last, &mut blocks, &mut edges)?;
+    let part = part_of(alloc, code, &leaders.starts, &leaders.lasts, returns)?;
+    Ok(part.into_outline())
+}
+
+/// The blocks from some leaders that follow each other, and the edges that leave them, in the order
+/// of a graph.
+#[derive(Drop)]
+pub(crate) struct Part {
+    pub(crate) blocks: Vec<Block>,
+    pub(crate) edges: Vec<Edge>,
+}
+
+impl Part {
+    /// The outline that has these blocks and edges.
+    pub(crate) fn into_outline(self) -> Outline
+        ensures blocks { result.blocks ≡ self.blocks.items }
+        ensures edges { result.edges ≡ self.edges.items }
+    {
+        Outline {
+            blocks: Blocks::from_vec(self.blocks),
+            edges: Edges::from_vec(self.edges),
+        }
     }
-    Ok(Outline {
-        blocks: Blocks::from_vec(blocks),
-        edges: Edges::from_vec(by_source(edges)),
+}
+
+/// The blocks from these starts to these last addresses, and the edges that leave them.
+pub(crate) fn part_of<C: Chains, F: Fn(u64) -> bool>(
+    alloc: Global,
+    code: &C,
+    starts: &[u64],
+    lasts: &[u64],
+    returns: &F,
+) -> Result<Part, Memory>
+    requires sizes { length lasts.now ≡ length starts.now }
+    requires stand { All (λ k. IsSome (C.map code.now k)) lasts.now }
+    requires returns { (seeds : List ℕ) × All (Reached (C.map code.now) seeds) lasts.now
+        × TellsReached (C.map code.now) seeds (F.pre returns.now) (F.post returns.now) }
+    ensures { IfOk result (λ part. ArePart (C.map code.now) starts.now lasts.now part.blocks.items
+        part.edges.items) }
+{
+    let mut blocks = Vec::with_capacity(alloc, starts.len())?;
+    let mut edges = Vec::new(alloc);
+    for i in 0..starts.len() {
+        add_block(code, returns, starts[i], lasts[i], &mut blocks, &mut edges)?;
+    }
+    Ok(Part {
+        blocks,
+        edges: by_source(edges),
     })
 }
 

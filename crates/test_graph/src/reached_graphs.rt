@@ -7,10 +7,12 @@ use cfg_vectors::row_file;
 use chain_index::ChainIndex;
 use code_view::{Code, Cuts};
 use elf_image::Image;
-use reached_graph::{graph_of, leaders_of};
+use reached_graph::{graph_of, leaders_of, outline_by};
 use reached_terms::ReachedTerms;
 use std::alloc::Global;
+use std::marker::Sync;
 use std::test::Fail;
+use std::thread::Threads;
 use test_asserts::{holds_at, same};
 use test_yardstick::plain_graph;
 
@@ -57,6 +59,49 @@ fn blocks_agreed(alloc: Global, row: u32) -> Result<Option<usize>, Fail>
         return Ok(None);
     }
     Ok(Some(graph.blocks.as_slice().len()))
+}
+
+// Whether the blocks and edges of the code of a row's file, made by so many workers, are those of
+// the graph, but that this has tail calls.
+fn outline_agrees<R: Threads + Sync + AllocGlobal>(
+    rt: &R,
+    row: u32,
+    workers: u32,
+) -> Result<bool, Fail>
+    requires from { 6 ≤ row }
+    requires to { row ≤ 17 }
+    requires some { 1 ≤ workers }
+{
+    let alloc = rt.alloc();
+    let image = Image::parse(alloc, row_file(alloc, row, 0)?)?;
+    let index = ChainIndex::new(alloc, &image)?;
+    let none = Cuts::none(alloc);
+    let code = Code::new(&image, &index, &none);
+    if !code.has(CODE) {
+        return Ok(false);
+    }
+    let reached = ReachedTerms::of(alloc, &code, &[CODE])?;
+    let outline = outline_by(rt, alloc, &code, &reached, workers)?;
+    let graph = graph_of(alloc, &code, CODE, &[CODE])?;
+    let edges = graph.edges.as_slice();
+    let others = outline.edges.as_slice();
+    Ok(
+        graph.blocks.as_slice() == outline.blocks.as_slice()
+            && edges.len() == others.len()
+            && edges.iter().zip(others).all(|(one, other)| (one.from, one.to)
+                == (other.from, other.to)),
+    )
+}
+
+#[test]
+fn workers_agree(rt: HostRuntime) -> Result<(), Fail> {
+    for row in 6..18 {
+        for workers in 1..5 {
+            let agrees = outline_agrees(&rt, row, workers)?;
+            holds_at(&rt, &(row, workers), agrees);
+        }
+    }
+    Ok(())
 }
 
 #[test]

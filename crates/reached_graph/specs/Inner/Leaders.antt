@@ -1,15 +1,21 @@
 -- The leaders of a program, as they are kept.
-use Rattle.std.specs.Prelude.{◌↔◌, ℕ, List, All, Contains, IsSome}
+use Rattle.std.specs.Prelude.{◌↔◌, ℕ, Bool, List, All, Contains, IsSome}
 use Rattle.std.specs.List.Sorted.{IsStrictlyIncreasing}
 use Rattle.cfg_model.specs.Program.Instructions.{InstructionMap}
 use Rattle.cfg_model.specs.Graph.Leader.{IsLeader}
+use Rattle.reached_terms.specs.Numbering.{IsMarked}
 use Rattle.reached_terms.specs.Sent.{IsSent}
 use Rattle.reached_graph.specs.declared.leaders.Leaders.{Leaders}
 use Rattle.reached_graph.specs.Inner.Blocks.{AreCutAt}
 
--- These are all addresses that control is sent to.
-abbrev pub AreSent : InstructionMap → List ℕ → (ℕ → Type 0) → Type 0
-AreSent map seeds IsGiven = (a : ℕ) → IsGiven a ↔ IsSent map seeds a
+-- Blocks are known to start at these addresses: wherever control is sent, and at leaders alone.
+pub record AreStarts (map : InstructionMap) (seeds : List ℕ) (IsGiven : ℕ → Type 0) : Type 0 where
+  pub sent : (a : ℕ) → IsSent map seeds a → IsGiven a
+  pub leads : (a : ℕ) → IsGiven a → IsLeader map seeds a
+
+-- Exactly the leaders are marked.
+abbrev pub MarkLeaders : InstructionMap → (ℕ → ℕ) → List ℕ → List Bool → Type 0
+MarkLeaders map number seeds marks = (a : ℕ) → IsMarked map number marks a ↔ IsLeader map seeds a
 
 -- Blocks start exactly where they are cut, at these addresses.
 pub record AreMarkedBlocks (map : InstructionMap) (IsCut : ℕ → Type 0) (blocks : Leaders)

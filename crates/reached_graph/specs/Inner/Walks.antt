@@ -6,7 +6,7 @@ use Rattle.cfg_model.specs.Program.Reach.{Reached}
 use Rattle.cfg_model.specs.Graph.Leader.{IsLeader}
 use Rattle.reached_terms.specs.Numbering.{IsMarked, IsNumbering}
 use Rattle.reached_graph.specs.declared.walks.Walks.{Walks}
-use Rattle.reached_graph.specs.Inner.Leaders.{AreSent}
+use Rattle.reached_graph.specs.Inner.Leaders.{AreStarts}
 use Rattle.reached_graph.specs.Inner.Marks.{IsAdded}
 
 -- There are marks for each address of the program.
@@ -37,8 +37,8 @@ pub record AreWalked (map : InstructionMap) (seeds : List ℕ) (IsGiven : ℕ �
 -- The same of these walks, where the marks of the given starts are set.
 abbrev pub HaveWalked : InstructionMap → (ℕ → ℕ) → List ℕ → List Bool → Walks → (ℕ → Type 0)
     → Type 0
-HaveWalked map number seeds sent w IsOpen =
-    AreWalked map seeds (IsMarked map number sent) (IsMarked map number w.walked.items)
+HaveWalked map number seeds marks w IsOpen =
+    AreWalked map seeds (IsMarked map number marks) (IsMarked map number w.walked.items)
     (IsMarked map number w.starts.items) IsOpen
 
 -- No address is open.
@@ -83,8 +83,8 @@ pub record IsWalkOn (map : InstructionMap) (number : ℕ → ℕ) (s : ℕ) (old
   pub fit : AreFit map number new
   pub kept : (a : ℕ) → IsMarked map number old.walked.items a
       → IsMarked map number new.walked.items a
-  pub walked : (seeds : List ℕ) (sent : List Bool) → HaveWalked map number seeds sent old (At s)
-      → HaveWalked map number seeds sent new Nowhere
+  pub walked : (seeds : List ℕ) (marks : List Bool) → HaveWalked map number seeds marks old (At s)
+      → HaveWalked map number seeds marks new Nowhere
 
 -- A whole walk from the address s.
 pub record IsWalkFrom (map : InstructionMap) (number : ℕ → ℕ) (s : ℕ) (old new : Walks)
@@ -93,14 +93,14 @@ pub record IsWalkFrom (map : InstructionMap) (number : ℕ → ℕ) (s : ℕ) (o
   pub begun : IsMarked map number new.walked.items s
   pub kept : (a : ℕ) → IsMarked map number old.walked.items a
       → IsMarked map number new.walked.items a
-  pub walked : (seeds : List ℕ) (sent : List Bool) → IsMarked map number sent s
-      → HaveWalked map number seeds sent old Nowhere
-      → HaveWalked map number seeds sent new Nowhere
+  pub walked : (seeds : List ℕ) (marks : List Bool) → IsMarked map number marks s
+      → HaveWalked map number seeds marks old Nowhere
+      → HaveWalked map number seeds marks new Nowhere
 
 -- All walks from these addresses are done, where the marks of the given starts are set.
-pub record AreDone (map : InstructionMap) (number : ℕ → ℕ) (sent : List Bool) (firsts : List ℕ)
+pub record AreDone (map : InstructionMap) (number : ℕ → ℕ) (marks : List Bool) (firsts : List ℕ)
     (w : Walks) : Type 0 where
   pub fit : AreFit map number w
   pub begun : (a : ℕ) → Contains firsts a → IsMarked map number w.walked.items a
-  pub walked : (seeds : List ℕ) → AreSent map seeds (IsMarked map number sent)
-      → HaveWalked map number seeds sent w Nowhere
+  pub walked : (seeds : List ℕ) → AreStarts map seeds (IsMarked map number marks)
+      → HaveWalked map number seeds marks w Nowhere

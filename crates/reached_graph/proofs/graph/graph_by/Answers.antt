@@ -1,4 +1,4 @@
-use Rattle.reached_graph.proofs.Sending.{entry_reached}
+use Rattle.reached_graph.proofs.Starting.{entry_reached}
 use Rattle.reached_graph.proofs.graph.graph_by.Goals as goal
 
 pub functions_among-requires-clause-returns : goal.functions_among-requires-clause-returns

@@ -10,7 +10,7 @@ loop-next-init g c = record {
   fit = c.requires.fit;
   kept = λ a on. on;
   here = c.requires.here;
-  walked = λ seeds sent have. have;
+  walked = λ seeds marks have. have;
 }
 
 pub loop-next-preserved : goal.loop-next-preserved
@@ -27,7 +27,7 @@ loop-next-preserved g c =
       fit = c.if-not-enter.ensures.fit;
       kept = λ a on. fresh.begun.walked.kept a (c.loop-next.invariant.kept a on);
       here = fresh.begun.walked.here;
-      walked = λ seeds sent have. walks_go map number seeds sent old new c.loop-next.invariant.fit.lawful at next goes c.loop-next.invariant.here (c.loop-next.invariant.walked seeds sent have) fresh;
+      walked = λ seeds marks have. walks_go map number seeds marks old new c.loop-next.invariant.fit.lawful at next goes c.loop-next.invariant.here (c.loop-next.invariant.walked seeds marks have) fresh;
     }
 
 pub returns-then-not-enter : goal.returns-then-not-enter
@@ -43,7 +43,7 @@ returns-then-not-enter g c =
     record {
       fit = c.if-not-enter.ensures.fit;
       kept = λ a on. subst (λ (xs : List Bool). IsMarked map number xs a) (sym (stopped_keeps map number next old new stopped)) (c.loop-next.invariant.kept a on);
-      walked = λ seeds sent have. walks_stop map number seeds sent old new c.loop-next.invariant.fit.lawful at next goes c.loop-next.invariant.here (c.loop-next.invariant.walked seeds sent have) stopped;
+      walked = λ seeds marks have. walks_stop map number seeds marks old new c.loop-next.invariant.fit.lawful at next goes c.loop-next.invariant.here (c.loop-next.invariant.walked seeds marks have) stopped;
     }
 
 pub returns : goal.returns
@@ -56,5 +56,5 @@ returns g c =
     record {
       fit = c.loop-next.invariant.fit;
       kept = c.loop-next.invariant.kept;
-      walked = λ seeds sent have. walk_ends map seeds (IsMarked map number sent) (IsMarked map number w.walked.items) (IsMarked map number w.starts.items) at ends (c.loop-next.invariant.walked seeds sent have);
+      walked = λ seeds marks have. walk_ends map seeds (IsMarked map number marks) (IsMarked map number w.walked.items) (IsMarked map number w.starts.items) at ends (c.loop-next.invariant.walked seeds marks have);
     }

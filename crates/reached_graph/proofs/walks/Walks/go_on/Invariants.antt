@@ -8,8 +8,8 @@ invariant-loop-next g l = record {
   fit : AreFit (g.C.Chains.map l.code) (g.C.Numbered.number l.code) l.self;
   kept : (a : ℕ) → IsMarked (g.C.Chains.map l.code) (g.C.Numbered.number l.code) l.initial.self.walked.items a → IsMarked (g.C.Chains.map l.code) (g.C.Numbered.number l.code) l.self.walked.items a;
   here : IsMarked (g.C.Chains.map l.code) (g.C.Numbered.number l.code) l.self.walked.items l.at;
-  walked : (seeds : List ℕ) (sent : List Bool) → HaveWalked (g.C.Chains.map l.code) (g.C.Numbered.number l.code) seeds sent l.initial.self (At l.s)
-      → HaveWalked (g.C.Chains.map l.code) (g.C.Numbered.number l.code) seeds sent l.self (At l.at);
+  walked : (seeds : List ℕ) (marks : List Bool) → HaveWalked (g.C.Chains.map l.code) (g.C.Numbered.number l.code) seeds marks l.initial.self (At l.s)
+      → HaveWalked (g.C.Chains.map l.code) (g.C.Numbered.number l.code) seeds marks l.self (At l.at);
 }
 
 abbrev pub decreases-loop-next : goal.decreases-loop-next

@@ -1,6 +1,6 @@
 use Rattle.std.proofs.Common.{ℕ, List, take}
 use Rattle.std.specs.Prelude.{Contains}
-use Rattle.reached_graph.specs.Inner.Leaders.{AreSent}
+use Rattle.reached_graph.specs.Inner.Leaders.{AreStarts}
 use Rattle.reached_terms.specs.Numbering.{IsMarked}
 use Rattle.reached_graph.specs.Inner.Walks.{AreFit, HaveWalked, Nowhere}
 use Rattle.reached_graph.proofs.walks.Walks.of.Given as goal
@@ -9,5 +9,5 @@ abbrev pub invariant-loop-s : goal.invariant-loop-s
 invariant-loop-s g l = record {
   fit : AreFit (g.C.Chains.map l.code) (g.C.Numbered.number l.code) l.walks;
   begun : (a : ℕ) → Contains (take l.s-index l.firsts) a → IsMarked (g.C.Chains.map l.code) (g.C.Numbered.number l.code) l.walks.walked.items a;
-  walked : (seeds : List ℕ) → AreSent (g.C.Chains.map l.code) seeds (IsMarked (g.C.Chains.map l.code) (g.C.Numbered.number l.code) l.marks) → HaveWalked (g.C.Chains.map l.code) (g.C.Numbered.number l.code) seeds l.marks l.walks Nowhere;
+  walked : (seeds : List ℕ) → AreStarts (g.C.Chains.map l.code) seeds (IsMarked (g.C.Chains.map l.code) (g.C.Numbered.number l.code) l.marks) → HaveWalked (g.C.Chains.map l.code) (g.C.Numbered.number l.code) seeds l.marks l.walks Nowhere;
 }

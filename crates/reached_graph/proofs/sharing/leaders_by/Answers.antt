@@ -1,0 +1,27 @@
+use Rattle.std.proofs.Common.{subst}
+use Rattle.std.proofs.lemmas.Result.{IfOk-weaker}
+use Rattle.reached_terms.specs.Numbering.{IsMarked}
+use Rattle.reached_graph.specs.Inner.Leaders.{AreMarkedBlocks}
+use Rattle.reached_graph.proofs.Leading.{known_starts, leaders_are}
+use Rattle.reached_graph.proofs.sharing.leaders_by.Goals as goal
+
+pub returns-in-Some : goal.returns-in-Some
+returns-in-Some g c =
+    let map = g.C.Chains.map c.args.code.now in
+    let number = g.C.Numbered.number c.args.code.now in
+    let marks = c.in-Some.marks.items in
+    IfOk-weaker c.cut_by-in-Some.result _ _
+    (λ leaders are seeds terms.
+    leaders_are map seeds terms.known (IsMarked map number marks)
+    (rw c.in-Some.is at (c.in_ok-marks.ensures.leaders seeds (known_starts map number seeds c.args.reached.now terms c.starts-2.result.now c.starts-2.ensures)))
+    leaders (subst (λ xs. AreMarkedBlocks map (IsMarked map number xs) leaders) c.deref.ensures.value are))
+    c.cut_by-in-Some.ensures
+
+pub returns-in-None : goal.returns-in-None
+returns-in-None g c = λ seeds terms.
+    let map = g.C.Chains.map c.args.code.now in
+    let number = g.C.Numbered.number c.args.code.now in
+    let marks = c.args.reached.now.starts in
+    leaders_are map seeds terms.known (IsMarked map number marks)
+    (rw c.starts-2.ensures at (rw c.in-None.is at (c.in_ok-marks.ensures.leaders seeds (known_starts map number seeds c.args.reached.now terms c.starts-2.result.now c.starts-2.ensures))))
+    c.in_ok-leaders.leaders (subst (λ xs. AreMarkedBlocks map (IsMarked map number xs) c.in_ok-leaders.leaders) c.starts.ensures c.in_ok-leaders.ensures)
