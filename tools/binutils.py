@@ -1,6 +1,7 @@
 """What GNU binutils say of an ELF file, for the comparisons of this folder: its sections, symbols and entry
 by readelf, and its instructions by objdump."""
 
+import os
 import re
 import shutil
 import subprocess
@@ -10,6 +11,7 @@ from collections import namedtuple
 GCC = "riscv64-unknown-elf-gcc"
 READELF = ("riscv64-unknown-elf-readelf", "riscv64-linux-gnu-readelf")
 OBJDUMP = ("riscv64-unknown-elf-objdump", "riscv64-linux-gnu-objdump")
+ASSEMBLER = ("riscv64-unknown-elf-as", "riscv64-linux-gnu-as")
 BARE = ["-march=rv64imac", "-mabi=lp64", "-nostdlib", "-static"]
 
 Section = namedtuple("Section", "places offset")
@@ -114,3 +116,33 @@ def listed(text):
             length, word = len(match[2]) // 2, int(match[2], 16)
             found[int(match[1], 16)] = Line(length, word, match[3], operands.split(",") if operands else [])
     return found
+
+
+def knows(extension):
+    """Whether the assembler knows an extension, and so objdump of the same package."""
+    done = subprocess.run([next(filter(shutil.which, ASSEMBLER)), f"-march=rv64gc_{extension}", "-o", os.devnull, "-"], input="", capture_output=True, text=True)
+    return done.returncode == 0
+
+
+def texts(values, extensions):
+    """objdump's text of each word of four bytes in a file that names these extensions beyond RV64GC, or None for one that it does
+    not know or that has an operand which it does not know, as a rounding mode."""
+    named = "_".join(["rv64gc", *extensions])
+    with tempfile.TemporaryDirectory() as folder:
+        source, made = os.path.join(folder, "words.s"), os.path.join(folder, "words.o")
+        with open(source, "w", encoding="utf-8") as file:
+            file.write(f'.attribute arch, "{named}"\n')
+            file.writelines(f".insn 4, {value:#x}\n" for value in values)
+        output(ASSEMBLER, f"-march={named}", "-o", made, source)
+        shown = output(OBJDUMP, "-d", "-z", "-M", "no-aliases,numeric", made)
+    found = {}
+    for line in shown.splitlines():
+        match = re.match(r"\s*([0-9a-f]+):\t([0-9a-f]{8})\s*\t(.*)$", line)
+        if match:
+            found[int(match[1], 16)] = (int(match[2], 16), " ".join(re.sub(r"\s*(<[^>]*>|#.*)", "", match[3]).split()))
+    answers = []
+    for place, value in enumerate(values):
+        shown_value, text = found.get(4 * place, (None, ""))
+        is_known = shown_value == value and not text.startswith((".4byte", ".word", ".insn")) and "unknown" not in text
+        answers.append(text if is_known else None)
+    return answers

@@ -98,7 +98,16 @@ def _table() -> Dict[int, List[Row]]:
     return table
 
 
-_TABLE = _table()
+def _by_funct3(table: Dict[int, List[Row]]) -> Dict[int, List[Row]]:
+    """The rows that words of an opcode may fit, by that and the field funct3."""
+    found: Dict[int, List[Row]] = {}
+    for opcode, rows in table.items():
+        for key in range(opcode, opcode + 0x8000, 0x1000):
+            found[key] = [one for one in rows if not (one.match ^ key) & one.mask & 0x7000]
+    return found
+
+
+_TABLE = _by_funct3(_table())
 
 
 def signed(value: int, bits: int) -> int:
@@ -113,9 +122,9 @@ def immediate(word: int, row: Row) -> int:
     if opcode in (0x37, 0x17):
         return signed(word & 0xFFFFF000, 32)
     if opcode == 0x6F:
-        return signed(_bits(word, (21, 10, 1), (20, 1, 11), (12, 8, 12), (31, 1, 20)), 21)
+        return signed(word >> 20 & 0x7FE | word >> 9 & 0x800 | word & 0xFF000 | word >> 11 & 0x100000, 21)
     if opcode == 0x63:
-        return signed(_bits(word, (8, 4, 1), (25, 6, 5), (7, 1, 11), (31, 1, 12)), 13)
+        return signed(word >> 7 & 0x1E | word >> 20 & 0x7E0 | word << 4 & 0x800 | word >> 19 & 0x1000, 13)
     if opcode in (0x23, 0x27):
         return signed((word >> 25) << 5 | word >> 7 & 31, 12)
     return word >> 20 & 63 if "h" in row.operands else signed(word >> 20, 12)
@@ -166,9 +175,19 @@ class Instruction(NamedTuple):
 
     @property
     def read(self) -> Tuple[int, ...]:
-        """The registers for integers that it reads."""
+        """The registers for integers that it reads. AMOCAS reads its destination too, and AMOCAS.Q two pairs, of which that of
+        x0 is x0 alone."""
         operands = self.row.operands
-        return ((self.rs1,) if "s" in operands else ()) + ((self.rs2,) if "t" in operands else ())
+        named = ((self.rs1,) if "s" in operands else ()) + ((self.rs2,) if "t" in operands else ())
+        if self.name == "amocas.q":
+            pairs = ((first, first + 1) if first else (0,) for first in (self.rd, self.rs2))
+            return (*(register for pair in pairs for register in pair), self.rs1)
+        return (self.rd, *named) if self.name.startswith("amocas") else named
+
+    @property
+    def pair(self) -> Optional[int]:
+        """The other register for integers that it writes: AMOCAS.Q writes a pair."""
+        return self.rd + 1 if self.name == "amocas.q" and self.rd else None
 
     @property
     def is_load(self) -> bool:
@@ -353,7 +372,7 @@ def decoded(raw: int) -> Optional[Tuple[int, int, Row]]:
     length, word = (4, raw) if raw & 3 == 3 else (2, expanded(raw & 0xFFFF))
     if word is None:
         return None
-    found = next((one for one in _TABLE.get(word & 0x7F, ()) if word & one.mask == one.match), None)
+    found = next((one for one in _TABLE.get(word & 0x707F, ()) if word & one.mask == one.match), None)
     if found is None or is_rounded(word) and not found.mask >> 12 & 7 and word >> 12 & 7 in NO_ROUNDING:
         return None
     return length, word, found

@@ -10,7 +10,7 @@ from collections import namedtuple
 import binutils
 import extensions
 from elf_file import File
-from instructions import decoded
+from instructions import Instruction, decoded
 
 JUMPS = {"jal", "jalr", "c.j", "c.jr", "c.jalr"}
 BRANCHES = {"beq", "bne", "blt", "bge", "bltu", "bgeu", "c.beqz", "c.bnez"}
@@ -53,12 +53,11 @@ def of_named(line, names):
     found = extensions.decoded(line.word, names)
     if found is None or decoded(line.word) is not None:
         return None
-    _, word, row = found
-    read = [f"x{word >> at & 31}" for letter, at in (("s", 15), ("t", 20)) if letter in row.operands]
-    if "d" not in row.operands:
+    one = Instruction(0, *found)
+    read = [f"x{register}" for register in one.read]
+    if "d" not in one.row.operands:
         return line._replace(mnemonic="extension.reads", operands=read)
-    written = f"x{word >> 7 & 31}"
-    return line._replace(mnemonic="extension", operands=[written, *([written] if row.name.startswith("amocas") else []), *read])
+    return line._replace(mnemonic="extension" if one.pair is None else "extension.pair", operands=[f"x{one.rd}", *read])
 
 
 class Listing:

@@ -165,6 +165,8 @@ class Tables:
                 held.clear()
             elif one.written is not None:
                 held[one.written] = _result(one, held, is_open, bound)
+                if one.pair is not None:
+                    held[one.pair] = UNKNOWN
         return held.get(register, UNKNOWN) if register else _constant(0)
 
     # ---- entries

@@ -121,6 +121,23 @@ class BinCfg(unittest.TestCase):
         self.assertRegex(self.asked(), r"^high all check --jobs \d+\ncfg run -- data/one\.elf\n")
         self.assert_runs_at_once()
 
+    def test_for_one_worker(self) -> None:
+        shutil.copytree(self.top / "crates" / "cfg", self.top / "crates" / "cfg_one")
+        with (self.top / "crates.txt").open("a") as it:
+            it.write("cfg_one: low\n")
+        done = self.run_cfg("a", "--", "--workers")
+        self.assertEqual((done.returncode, done.stdout), (3, "ran:a:--\n"))
+        self.assertIn("bin/cfg_one: low is proved; 1 left, ", done.stderr)
+        self.assertFalse((self.top / "crates" / "cfg" / "out").exists())
+        self.assertEqual(self.run_cfg("a").stderr, "")
+        # The first use with --workers builds the whole one, which all later uses run.
+        for words in (("--workers", "2", "a"), ("--workers=2", "a")):
+            done = self.run_cfg(*words)
+            self.assertEqual((done.returncode, done.stdout), (3, f"ran:{words[0]}:{words[1]}\n"))
+            self.assertTrue((self.top / "crates" / "cfg" / "out" / "cfg").exists())
+        self.assert_runs_at_once()
+        self.assertIn("ran:a:", self.run_cfg("a", name="cfg_one").stdout)
+
     def test_another_program(self) -> None:
         done = self.run_cfg("10", "b c", name="cfg_walk")
         self.assertEqual((done.returncode, done.stdout), (3, "ran:10:b c\n"))
@@ -170,14 +187,14 @@ class BinCfg(unittest.TestCase):
         source = self.top / "crates" / "high" / "src"
         for change in ((source / "more.rt").touch, (source / "more.rt").unlink):
             self.run_cfg("a")
-            time.sleep(0.01)
+            time.sleep(0.1)
             change()
             self.assertIn("made from other sources (high)", self.run_cfg("a").stderr)
             self.assert_runs_at_once()
 
     def test_other_crates_and_another_kit(self) -> None:
         self.run_cfg("a")
-        time.sleep(0.01)
+        time.sleep(0.1)
         (self.top / "crates.txt").write_text(CRATES.replace("high low clap", "high low other"))
         self.assertIn("made from other crates", self.run_cfg("a").stderr)
         rt = self.top / "path" / "rt"
@@ -268,7 +285,7 @@ class BinCfg(unittest.TestCase):
 
     def test_programs_that_the_gate_has_made(self) -> None:
         (self.top / "gate").touch()
-        time.sleep(0.01)
+        time.sleep(0.1)
         program = self.top / "crates" / "cfg" / "out" / "cfg"
         program.parent.mkdir()
         program.write_text("#!/bin/sh\necho \"ran:$1:$2\"; exit 3\n")

@@ -88,8 +88,7 @@ class Page(unittest.TestCase):
         heading = b"cfg-report 2\nentry 0000000000010000\n"
         reports = [part for part in shown if part.startswith(b"cfg-report")]
         reports += [heading + part + b"end\n" for part in shown if part.startswith(b"functions")]
-        kinds = {40: "live"}
-        self.assertEqual(reports, [rows.report(number, kinds.get(number, "graph")) for number in (1, 6, 12, 33, 40, 15, 34)])
+        self.assertEqual(reports, [rows.report(number) for number in (1, 6, 15)])
 
 
 class Names(unittest.TestCase):

@@ -13,6 +13,7 @@ import architecture
 import binutils
 import decoding
 import extensions
+import listing
 import small
 import small_elf
 from elf_file import Elf, Memory
@@ -94,6 +95,19 @@ class Rows(unittest.TestCase):
         for name, items in groups():
             for digits, text in items:
                 self.assertIsNone(extensions.instructions.decoded(int(digits, 16)), text)
+
+    def test_what_compares_and_swaps_reads_its_destination(self) -> None:
+        names = frozenset(("zacas", "zabha"))
+        for digits, read, written, pair in (
+            ("28b6252f", {10, 11, 12}, 10, None), ("28b6152f", {10, 11, 12}, 10, None), ("28c7452f", {10, 11, 12, 13, 14}, 10, 11),
+            ("28c7402f", {0, 12, 13, 14}, None, None), ("2807452f", {10, 11, 0, 14}, 10, 11),
+        ):
+            one = extensions.decode(bytes.fromhex(digits)[::-1], 0, names)
+            assert one is not None
+            self.assertEqual((set(one.read), one.written, one.pair), (read, written, pair), one.text)
+            line = listing.of_named(binutils.Line(4, int(digits, 16), ".4byte", []), names)
+            self.assertEqual(script("compare_live").effects_of(line.mnemonic, line.operands),
+                             (read - {0}, {register for register in (written, pair) if register}), one.text)
 
     def test_reserved_words(self) -> None:
         # A pair of registers begins at an even one, and two numbers name no rounding mode.

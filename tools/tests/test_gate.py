@@ -250,10 +250,10 @@ class CiRun(unittest.TestCase):
         (self.top / "tools" / "tests").mkdir(parents=True)
         shutil.copy(rows.TOOLS / "sources.py", self.top / "tools")
         (self.top / "tools" / "tests" / "test_one.py").write_text(OWN_TEST.format(passes))
-        for name in ("cfg", "cfg_walk", "cfg_check"):
+        for name in ("cfg", "cfg_one", "cfg_walk", "cfg_check"):
             (self.top / "crates" / name / "src").mkdir(parents=True)
             (self.top / "crates" / name / "src" / "main.rt").write_text("")
-        (self.top / "crates.txt").write_text("cfg:\ncfg_walk:\ncfg_check:\n")
+        (self.top / "crates.txt").write_text("cfg:\ncfg_one:\ncfg_walk:\ncfg_check:\n")
         (self.top / "path").mkdir()
         (self.top / "path" / "rt").write_text(RT_CI)
         (self.top / "path" / "rt").chmod(0o755)
@@ -271,7 +271,7 @@ class CiRun(unittest.TestCase):
         done = self.run_ci(0, True)
         left_out = [line for line in done.stderr.splitlines() if line.startswith("the gate left no program ")]
         names = [line.split()[5].rstrip(":") for line in left_out]
-        self.assertEqual(names, ["cfg_walk", "cfg_check", "dump_instructions", "dump_files", "dump_threads"])
+        self.assertEqual(names, ["cfg_one", "cfg_walk", "cfg_check", "dump_instructions", "dump_files", "dump_threads"])
         ran = subprocess.run([str(self.top / "bin" / "cfg")], env=self.environment, capture_output=True, text=True)
         self.assertEqual((ran.returncode, ran.stdout, ran.stderr), (0, "ran\n", ""))
 

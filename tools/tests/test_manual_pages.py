@@ -15,7 +15,7 @@ from test_tools import InFolder, script
 class Pages(InFolder):
     def test_each_page(self) -> None:
         names = script("manual_pages").SCRIPTS
-        said = self.said("manual_pages", str(self.folder))
+        said = self.said("manual_pages", str(self.folder / "made" / "man1"))
         self.assertEqual(len(said), len(names))
         for name, path in zip(names, said):
             with self.subTest(name=name):

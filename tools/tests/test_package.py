@@ -194,7 +194,7 @@ class Package(InFolder):
         done = self.package()
         self.assertEqual((done.returncode, done.stdout), (1, ""))
         self.assertIn("bin/cfg: nothing says what the program was made from\n", done.stderr)
-        self.assertEqual(done.stderr.splitlines()[-1], "bin/package: run bin/cfg, bin/cfg_walk and bin/cfg_check once, which build them")
+        self.assertEqual(done.stderr.splitlines()[-1], "bin/package: bin/build cfg cfg_walk cfg_check builds them")
 
     def test_a_program_that_prints_something_else(self) -> None:
         (self.top / "crates" / "cfg_walk" / "stdout").write_text("else\n")

@@ -160,10 +160,13 @@ class Errors(InFolder):
         self.refused("unresolved", self.file("cut.elf", rows.elf(1)[:100]), self.row(1), why="broken ELF file")
 
     def test_a_program_that_is_not_built(self) -> None:
-        """What takes hours is not begun unasked."""
+        """What takes hours is not begun unasked. A package, which cannot build, has its programs."""
         with mock.patch.object(cfg_report, "TOP", str(self.folder)), mock.patch.dict(os.environ):
             os.environ.pop("CFG", None)
-            with self.assertRaisesRegex(ReportError, "^cfg is not built: .*/bin/cfg, run once, proves and builds it, in one to two hours.*--build"):
+            self.assertEqual(cfg_report.program_of("cfg"), str(self.folder / "bin" / "cfg"))
+            (self.folder / "bin").mkdir()
+            (self.folder / "bin" / "proved").touch()
+            with self.assertRaisesRegex(ReportError, "^cfg is not built: .*/bin/cfg, run once, proves and builds it, in about an hour.*--build"):
                 cfg_report.program_of("cfg")
             with mock.patch.object(cfg_report, "may_build", True):
                 self.assertEqual(cfg_report.program_of("cfg"), str(self.folder / "bin" / "cfg"))

@@ -28,8 +28,6 @@ class Recipes(unittest.TestCase):
     # What each recipe says of row 17, whose function at 10000 is called _start here, by a word of its code.
     SAID: Dict[str, List[str]] = {
         "open_ends": ["3 of 4 blocks, at 0 of them a way on is unknown"],
-        "dominators()": ["10004: 10000", "10008: 10000"],
-        "loops()": ["_start: 2 blocks, entered at 10000"],
         "registers.free": ["10000: none", "10004: none", "10008: none"],
     }
 

@@ -1,9 +1,11 @@
-//! `cfg FILE`: the control-flow graph of a RISC-V executable. What a run does is `cfg_run`.
+//! `cfg FILE`: the control-flow graph of a RISC-V executable. What a run does is `cfg_run`,
+//! and by workers `run_crew`.
 #![tactic(auto)]
 
 use cfg_io::{FileInput, StdSink};
-use cfg_run::{Refusal, run};
+use cfg_run::Refusal;
 use crew::OpenGate;
+use run_crew::run;
 use std::env;
 use std::io::{self, ErrorKind};
 use std::process::ExitCode;

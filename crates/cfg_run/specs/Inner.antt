@@ -24,47 +24,10 @@ use Rattle.cfg_run.specs.Refusal.{status_of}
 use Rattle.cfg_run.specs.Words.{path_of, IsForFile}
 use Rattle.cfg_run.specs.Answer.{IsAnswer, malformed_answer}
 
--- An answer with the file with these bytes and its graph, or with the first fault of the file.
-abbrev pub AnswersFile : List ℕ → Result GraphedFile ElfError → Type 0
-AnswersFile bytes r = IfOk r (IsGraphedFile bytes) × IfErr r (IsFaultOf bytes)
-
--- A function that may be called with the bytes of any file, and gives the file with its graph: by
--- its precondition and by what it says of its answer.
-abbrev pub GraphsFiles :
-    (Vec ℕ Global → Type 0) → (Vec ℕ Global → Result GraphedFile ElfError → Type 0) → Type 0
-GraphsFiles asks answers =
-    ((bytes : Vec ℕ Global) → asks bytes)
-    × ((bytes : Vec ℕ Global) (r : _) → answers bytes r → AnswersFile bytes.items r)
-
--- An answer with the live registers of all functions of a graph.
-abbrev pub AnswersLives : List ℕ → Graph → Result (List (List Live)) Memory → Type 0
-AnswersLives bytes graph r =
-    IfOk r (AreAllLivesOf bytes graph.blocks graph.edges graph.functions)
-
--- A function that may be called with any image and a graph whose lists are in order, and gives the
--- live registers: by its precondition and by what it says of its answer.
-abbrev pub FindsLives :
-    (Bor (List ℕ) → Bor Graph → Type 0)
-    → (Bor (List ℕ) → Bor Graph → Result (List (List Live)) Memory → Type 0) → Type 0
-FindsLives asks answers =
-    ((image : Bor (List ℕ)) (graph : Bor Graph) → AreInOrder graph.now.blocks graph.now.edges
-    → All (λ f. IsStrictlyIncreasing f.body) graph.now.functions → asks image graph)
-    × ((image : Bor (List ℕ)) (graph : Bor Graph) (r : _) → answers image graph r
-    → AnswersLives image.now graph.now r)
-
 -- An answer with texts that follow each other and are this text; or with none, if it is to be made
 -- while it is written.
 abbrev pub AnswersTexts : List ℕ → Result (Option (Vec (Vec ℕ Global) Global)) Memory → Type 0
 AnswersTexts text r = IfOk r (λ made. IfSome made (λ texts. all_in texts.items ≡ text))
-
--- A function that may be called with the lines of any report, and gives their text: by its
--- precondition and by what it says of its answer.
-abbrev pub MakesTexts :
-    (List ℕ → Type 0) → (List ℕ → Result (Option (Vec (Vec ℕ Global) Global)) Memory → Type 0)
-    → Type 0
-MakesTexts asks answers =
-    ((lines : List ℕ) → asks lines)
-    × ((lines : List ℕ) (r : _) → answers lines r → AnswersTexts lines r)
 
 -- How a run ends after this step, if no later one fails.
 abbrev pub end_of : {X : Type 0} → Result X Refusal → Status

@@ -3,8 +3,7 @@
 //!
 //! - `whole_run`: a whole run over any input and any sinks, and what is proved of it.
 //! - `answer`: from the bytes of a file to the text of an answer, and `text`: writing that text.
-//! - `maker`: who makes what a text shows, the caller's thread or workers.
-//! - `safe`: a run in which neither the input nor standard output can fail.
+//! - `maker`: who makes what a text shows; here the caller's thread, in `run_crew` workers.
 //! - `status`, `refusal`: how a run ends, and the line that tells why it failed.
 //! - `laws`: that a run has one answer.
 #![tactic(auto)]
@@ -13,14 +12,13 @@ mod answer;
 mod laws;
 mod maker;
 mod refusal;
-mod safe;
 mod status;
 mod text;
 mod whole_run;
 
 pub use laws::one_answer;
+pub use maker::{Alone, Maker};
 pub use refusal::Refusal;
 pub use run_ends::FILE_LIMIT;
-pub use safe::run_safely;
 pub use status::Status;
-pub use whole_run::{run, run_one};
+pub use whole_run::{refuse, run_by, run_one};

@@ -1,66 +1,49 @@
 //! One whole run of the program, over any input and any two sinks.
 
 ghost use Rattle.std.specs.Prelude.{◌≡◌, ◌≢◌, ℕ, ◌≤◌, ◌⊎◌, List, Some, None};
-ghost use Rattle.std.specs.Prelude.{string_bytes, IfSome, IfOk, IfErr, All};
-ghost use Rattle.std.specs.List.Sorted.{IsStrictlyIncreasing};
-ghost use Rattle.std.specs.Thread.{IsSync};
+ghost use Rattle.std.specs.Prelude.{string_bytes, IfSome, IfOk, IfErr};
 ghost use Rattle.cfg_io.specs.Fault.{Rose};
 ghost use Rattle.cfg_io.specs.Opened.{Nothing};
 ghost use Rattle.cfg_words.specs.Request.{asked, of_file};
-ghost use Rattle.live_regs.specs.Noted.{AreInOrder};
 ghost use Rattle.cfg_run.specs.Words.{asked_by, path_of, IsForFile, CanBeMade};
 ghost use Rattle.cfg_run.specs.Answer.{IsAnswer, text_answer};
 ghost use Rattle.cfg_run.specs.Refusal.{status_of};
 ghost use Rattle.cfg_run.specs.Lines.{refusal_line};
 ghost use Rattle.cfg_run.specs.Text.{bytes_of};
-ghost use Rattle.cfg_run.specs.Inner.{AnswersFile, AnswersLives, AnswersTexts, IsTrueOf, end_of};
+ghost use Rattle.cfg_run.specs.Inner.{IsTrueOf, end_of};
 ghost use Rattle.run_ends.specs.Told.{Grows, Tells};
 ghost use Rattle.run_ends.specs.Inputs.{OverInput, FileReadFor};
 ghost use Rattle.cfg_run.specs.Run.{IsDecided, HasRead, Gives, GivesPart, IsLineOf};
 
 use crate::answer::{report_of, summary_of};
-use crate::maker::{Alone, Maker, Workers};
+use crate::maker::{Alone, Maker};
 use crate::refusal::Refusal;
 use crate::status::Status;
 use crate::text::Text;
 use cfg_io::{Input, Sink};
-use cfg_model::{AllLives, Graph, Memory};
 use cfg_words::{Request, request};
-use crew::Gate;
-use elf_image::{ElfError, Image};
-use file_crew::file_graph_by;
-use file_graph::FileGraph;
-use graph_report::{ReportKind, ReportLines};
-use live_crew::graph_lives_by;
-use report_crew::{is_worth_sharing, text_by};
+use graph_report::ReportKind;
 use run_ends::{Unwritten, read_file};
 use std::alloc::Global;
-use std::marker::Sync;
 use std::mem;
-use std::sync::Wait;
-use std::thread::Threads;
 
-/// Runs the program: reads the file that `words` ask for from `input`, writes the report of its
-/// control-flow graph or of the graph's live registers to `out`, and tells on `err` why it did not.
-/// Of a made program, for which nothing is read, it writes the summary.
+/// Runs the program on the caller's thread: reads the file that `words` ask for from `input`, writes
+/// the report of its control-flow graph or of the graph's live registers to `out`, and tells on
+/// `err` why it did not. Of a made program, for which nothing is read, it writes the summary.
+///
+/// It starts no thread, waits for nobody and returns, whatever number of workers is asked for: the
+/// answer is the same for each.
 ///
 /// The clause `answer` is what the program is for. If the words and the bytes decide the end of a
 /// run, its status, standard output and standard error are exactly those of the answer to them. By
 /// `complete` they do if neither the input nor standard output failed in this run and memory
 /// sufficed. The other clauses say what holds if something failed.
-///
-/// From two workers on, threads share the work: with two seeds or more they build the closed state
-/// on a board that they share, and pass the gate before each operation. The run may wait then. They
-/// share the search for live registers too, and the text of a report of many lines. For one worker
-/// it calls [`run_one`].
-pub fn run<R: Threads + Wait + Sync, I: Input, O: Sink, E: Sink, G: Gate>(
-    rt: &R,
+pub fn run_one<I: Input, O: Sink, E: Sink>(
     alloc: Global,
     words: &[String],
     input: &mut I,
     out: &mut O,
     err: &mut E,
-    gate: &G,
 ) -> Status
     requires { I.opened input.old ≡ Nothing }
 
@@ -98,79 +81,15 @@ pub fn run<R: Threads + Wait + Sync, I: Input, O: Sink, E: Sink, G: Gate>(
         (I.tells_path input.old) (I.opened input.new) (I.rest input.old) (I.rest input.new)
         (I.faults input.old) (I.faults input.new) }
 {
-    let request = match request(alloc, words) {
-        Ok(request) => request,
-        Err(e) => return refuse(Refusal::from(e), err),
-    };
-    let count = workers_of(&request);
-    if 2 <= count && count <= 64 {
-        let file = |bytes: Vec<u8>| -> Result<FileGraph, ElfError>
-            requires { IsSync R.row × IsSync G.row × (2 ≤ count) × (count ≤ 64) }
-            ensures { AnswersFile bytes.items result }
-        { file_graph_by(rt, alloc, bytes, count, gate) };
-        let lives = |image: &Image, graph: &Graph| -> Result<AllLives, Memory>
-            requires { IsSync R.row × (2 ≤ count) × (count ≤ 64)
-                × AreInOrder graph.now.blocks graph.now.edges
-                × All (λ f. IsStrictlyIncreasing f.body) graph.now.functions }
-            ensures { AnswersLives image.now graph.now result }
-        { graph_lives_by(rt, alloc, image, graph, count) };
-        let texts = |lines: ReportLines| -> Result<Option<Vec<Vec<u8>>>, Memory>
-            requires { IsSync R.row × (2 ≤ count) × (count ≤ 64) }
-            ensures { AnswersTexts lines.entry result }
-        { texts_by(rt, alloc, lines, count) };
-        let by = Workers { file, lives, texts };
-        return run_by(alloc, &by, &request, input, out, err);
+    match request(alloc, words) {
+        Ok(request) => run_by(alloc, &Alone { alloc }, &request, input, out, err),
+        Err(e) => refuse(Refusal::from(e), err),
     }
-    run_one(alloc, &request, input, out, err)
 }
 
-/// Answers a request on the caller's thread: it starts none, waits for nobody and returns.
-///
-/// Its clauses are those of [`run`], with the request instead of the words.
-pub fn run_one<I: Input, O: Sink, E: Sink>(
-    alloc: Global,
-    request: &Request,
-    input: &mut I,
-    out: &mut O,
-    err: &mut E,
-) -> Status
-    requires closed { I.opened input.old ≡ Nothing }
-    requires size { CanBeMade (asked request.now) }
-
-    ensures answer { OverInput (path_of (Some (asked request.now))) (I.rest input.old)
-        (λ bytes. IsDecided result → Gives bytes (Some (asked request.now)) result
-        (Grows (O.written out.old) (O.written out.new))
-        (Tells (E.written err.old) (E.written err.new)
-        (Rose (E.faults err.old) (E.faults err.new)))) }
-    ensures complete { ¬ Rose (I.faults input.old) (I.faults input.new)
-        → ¬ Rose (O.faults out.old) (O.faults out.new)
-        → IsDecided result ⊎ (result ≡ Status.Memory) }
-
-    ensures no_usage { result ≢ Status.Usage }
-    ensures malformed { result ≡ Status.Malformed → IsForFile (Some (asked request.now)) }
-    ensures read_fault { result ≡ Status.ReadFault → IsForFile (Some (asked request.now))
-        × Rose (I.faults input.old) (I.faults input.new) }
-    ensures write_fault { result ≡ Status.WriteFault → Rose (O.faults out.old) (O.faults out.new) }
-
-    ensures cut_off { OverInput (path_of (Some (asked request.now))) (I.rest input.old)
-        (λ bytes. result ≡ Status.WriteFault → GivesPart bytes (Some (asked request.now))
-        (O.written out.old) (O.written out.new)) }
-    ensures silent { result ≢ Status.Done → result ≢ Status.WriteFault
-        → O.written out.new ≡ O.written out.old }
-    ensures error_line { (text : List ℕ) × IsLineOf result text
-        × Tells (E.written err.old) (E.written err.new)
-        (Rose (E.faults err.old) (E.faults err.new)) text }
-
-    ensures input { FileReadFor (path_of (Some (asked request.now)))
-        (HasRead (Some (asked request.now)) result) (result ≡ Status.Malformed)
-        (I.tells_path input.old) (I.opened input.new) (I.rest input.old) (I.rest input.new)
-        (I.faults input.old) (I.faults input.new) }
-{
-    run_by(alloc, &Alone { alloc }, request, input, out, err)
-}
-
-// Answers a request with the parts that `by` makes. Its clauses are those of `run_one`.
-fn run_by<M: Maker, I: Input, O: Sink, E: Sink>(
+/// Answers a request with the parts that `by` makes. Its clauses are those of [`run_one`], with the
+/// request instead of the words.
+pub fn run_by<M: Maker, I: Input, O: Sink, E: Sink>(
     alloc: Global,
     by: &M,
     request: &Request,
@@ -225,32 +144,8 @@ fn run_by<M: Maker, I: Input, O: Sink, E: Sink>(
     }
 }
 
-// The text of these lines by several workers, if it is worth that.
-fn texts_by<R: Threads + Sync>(
-    rt: &R,
-    alloc: Global,
-    lines: ReportLines,
-    workers: u32,
-) -> Result<Option<Vec<Vec<u8>>>, Memory>
-    requires { (1 ≤ workers) × (workers ≤ 64) }
-    ensures { AnswersTexts lines.entry result }
-{
-    if !is_worth_sharing(&lines) {
-        return Ok(None);
-    }
-    Ok(Some(text_by(rt, alloc, lines, workers)?))
-}
-
-// How many workers are asked for.
-fn workers_of(request: &Request) -> u32 {
-    match request {
-        Request::File { workers, .. } => *workers,
-        Request::Make { workers, .. } => *workers,
-    }
-}
-
-// Ends a run that writes no whole text.
-fn refuse<E: Sink>(refusal: Refusal, err: &mut E) -> Status
+/// Ends a run that writes no whole text.
+pub fn refuse<E: Sink>(refusal: Refusal, err: &mut E) -> Status
     ensures status { result ≡ status_of refusal }
     ensures line { Tells (E.written err.old) (E.written err.new)
         (Rose (E.faults err.old) (E.faults err.new)) (refusal_line refusal) }

@@ -3,9 +3,9 @@
 use crate::streams::Streams;
 use anyhow::Result;
 use cfg_io::{MemInput, MemSink};
-use cfg_run::run;
 use check_run::check_run;
 use crew::OpenGate;
+use run_crew::run;
 use std::alloc::{AllocError, Global};
 use std::marker::Sync;
 use std::sync::Wait;

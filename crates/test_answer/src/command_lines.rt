@@ -1,9 +1,9 @@
 //! Command lines that are taken, and command lines that are refused.
 
+use crate::asserts::same_at;
 use cfg_words::{Request, request};
 use std::alloc::{AllocError, Global};
 use std::test::Fail;
-use test_asserts::same_at;
 
 /// The program's name and these words.
 fn command_line(alloc: Global, words: &[&str]) -> Result<Vec<String>, AllocError> {

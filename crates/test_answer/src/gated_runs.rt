@@ -1,6 +1,7 @@
 //! Whole runs through gates: that a run uses the workers that it is asked for, that they work at
 //! the same time, and that they steal.
 
+use crate::asserts::{holds, holds_at, same, same_at};
 use crate::one_run::left_by;
 use crate::row_files::file_of;
 use cfg_io::MemSink;
@@ -11,7 +12,6 @@ use std::process::Abort;
 use std::sync::Wait;
 use std::test::Fail;
 use std::thread::Threads;
-use test_asserts::{holds, holds_at, same, same_at};
 use test_gates::{Counts, Meeting, Robbery};
 
 /// The row whose file has a symbol at each of its 301 instructions.

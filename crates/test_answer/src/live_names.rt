@@ -1,13 +1,13 @@
 //! The report of live registers at once, with names. The masks are worked out by hand from the
 //! instructions.
 
+use crate::asserts::same;
 use crate::report_text::NAMED_FILE;
 use file_graph::file_graph;
 use graph_report::{FileNames, live_report};
 use live_crew::graph_lives;
 use std::alloc::Global;
 use std::test::Fail;
-use test_asserts::same;
 
 /// The report of the live registers of a file at once, without a run.
 fn live_text(alloc: Global, bytes: &[u8]) -> Result<Vec<u8>, Fail> {

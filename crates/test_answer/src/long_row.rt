@@ -1,12 +1,12 @@
 //! Row 31, an end that is split over and over: its report, which is worked out line by line.
 
+use crate::asserts::same;
 use crate::one_run::left_by;
 use crate::row_files::file_of;
 use cfg_run::Status;
 use crew::OpenGate;
 use std::alloc::{AllocError, Global};
 use std::test::Fail;
-use test_asserts::same;
 
 /// Row 31: a function of one block at each of 301 halfwords. Each goes on to the next.
 fn row_31_text(alloc: Global) -> Result<String, AllocError> {

@@ -1,8 +1,9 @@
 //! One run of the program, over an input and two sinks in memory.
 
 use cfg_io::{MemInput, MemSink};
-use cfg_run::{Status, run};
+use cfg_run::Status;
 use crew::Gate;
+use run_crew::run;
 use std::marker::Sync;
 use std::sync::Wait;
 use std::test::Fail;

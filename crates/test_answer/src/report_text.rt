@@ -1,5 +1,6 @@
 //! The report of a graph whose parts are known from outside.
 
+use crate::asserts::{holds, same};
 use cfg_model::{
     Addresses, Block, Blocks, Edge, EdgeKind, Edges, EndKind, Function, Functions, Graph,
 };
@@ -9,7 +10,6 @@ use graph_report::{FileNames, ReportKind, ReportPieces, report, summary};
 use std::alloc::{AllocError, Global};
 use std::process::Abort;
 use std::test::Fail;
-use test_asserts::{holds, same};
 
 /// A file of six instructions, each of four bytes: a jump to the next one, a return, a jump by 12
 /// bytes, a return, `ebreak` and a return. The four instructions after the first are functions with

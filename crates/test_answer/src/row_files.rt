@@ -3,10 +3,10 @@
 ghost use Rattle.std.specs.Prelude.{IsTrue};
 ghost use Rattle.cfg_vectors.specs.Rows.{IsRow};
 
+use crate::asserts::same_at;
 use cfg_vectors::row_file;
 use std::process::Abort;
 use std::test::Fail;
-use test_asserts::same_at;
 
 /// A row, a part, the length of their file, and the hash of its bytes.
 pub(crate) static FILES: [(u32, u32, usize, u64); 27] = [

@@ -1,12 +1,13 @@
 //! A run in which nothing can fail.
 
+use crate::asserts::same;
 use crate::one_run::left_by;
 use crate::row_files::file_of;
 use cfg_io::{CountSink, MemSink, SafeInput};
-use cfg_run::{Status, run_safely};
+use cfg_run::Status;
 use crew::OpenGate;
+use run_crew::run_safely;
 use std::test::Fail;
-use test_asserts::same;
 
 /// A run that cannot fail writes the same number of bytes as one that can.
 #[test]

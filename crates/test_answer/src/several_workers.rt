@@ -2,6 +2,7 @@
 
 ghost use Rattle.std.specs.Prelude.{◌≤◌};
 
+use crate::asserts::{holds, same, same_at};
 use crate::one_run::left_by;
 use crate::row_files::file_of;
 use big_case::big_file;
@@ -19,7 +20,6 @@ use std::process::Abort;
 use std::sync::Wait;
 use std::test::Fail;
 use std::thread::Threads;
-use test_asserts::{holds, same, same_at};
 
 /// Workers leave nothing to do in the state of the program of a file without cuts.
 fn leave_nothing<R: Threads + Wait + Abort + AllocGlobal + Sync>(

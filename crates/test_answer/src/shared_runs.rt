@@ -2,6 +2,7 @@
 
 ghost use Rattle.std.specs.Prelude.{◌≤◌};
 
+use crate::asserts::same;
 use crate::one_run::{Left, left_by};
 use big_case::big_file;
 use cfg_run::Status;
@@ -11,7 +12,6 @@ use std::process::Abort;
 use std::sync::Wait;
 use std::test::Fail;
 use std::thread::Threads;
-use test_asserts::same;
 
 /// What a run with this many workers leaves of the program made from a number, if the write of this
 /// number fails.

@@ -2,6 +2,7 @@
 
 ghost use Rattle.std.specs.Prelude.{◌≢◌};
 
+use crate::asserts::{holds, same};
 use crate::report_text::{
     NAMED_BLOCKS, NAMED_EDGES, NAMED_FILE, file_with_parts, graph_of, named_graph,
 };
@@ -15,7 +16,6 @@ use std::marker::Sync;
 use std::process::Abort;
 use std::test::Fail;
 use std::thread::Threads;
-use test_asserts::{holds, same};
 
 /// Workers give the text of the graph of the file with names that one thread gives.
 fn agree<R: Threads + Abort + AllocGlobal + Sync>(

@@ -5,6 +5,7 @@ ghost use Rattle.std.specs.List.Sorted.{IsStrictlyIncreasing};
 ghost use Rattle.elf_image.specs.Code.{is_code};
 ghost use Rattle.elf_image.specs.Header as header;
 
+use crate::asserts::same_at;
 use crate::row_files::{FILES, file_of};
 use alone::build_alone;
 use cfg_model::Graph;
@@ -18,7 +19,6 @@ use std::alloc::Global;
 use std::process::Abort;
 use std::test::Fail;
 use table_trim::cuts;
-use test_asserts::same_at;
 use test_yardstick::plain_graph;
 
 /// How many programs are made from numbers.

@@ -1,11 +1,11 @@
 //! The fault table and the reads on small files.
 
+use crate::asserts::{holds, same, same_at};
 use crate::small_files::{RET_FILE, edited};
 use elf_image::{ElfError, Image, Section, Span};
 use std::alloc::{AllocError, Global};
 use std::process::Abort;
 use std::test::Fail;
-use test_asserts::{holds, same, same_at};
 
 /// The name of the fault that the parse answers, or `-` if it accepts the file.
 fn verdict(alloc: Global, bytes: Vec<u8>) -> &'static str {

@@ -1,8 +1,8 @@
 //! Made files against those of another program, which was written from the layout alone.
 
+use crate::asserts::same_at;
 use big_case::big_file;
 use std::test::Fail;
-use test_asserts::same_at;
 
 /// The words that the slots of the program of four functions begin with.
 static SLOTS_OF_FOUR: [&[u32]; 6] = [

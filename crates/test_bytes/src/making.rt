@@ -2,11 +2,11 @@
 
 ghost use Rattle.std.specs.Prelude.{◌≡◌, [], IfOk};
 
+use crate::asserts::same;
 use crate::small_files::{NAMES_FILE, RET_FILE};
 use elf_maker::{Bytes, MadeSymbol, MadeSymbols, Parts, make_elf};
 use std::alloc::{AllocError, Global};
 use std::test::Fail;
-use test_asserts::same;
 
 fn symbol(alloc: Global, name: &[u8], address: u64) -> Result<MadeSymbol, AllocError>
     ensures { IfOk result (λ s. s ≡ record { name = name.now; address = address }) }

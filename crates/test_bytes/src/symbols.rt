@@ -3,13 +3,13 @@
 ghost use Rattle.std.specs.Prelude.{ℕ, IfSome};
 ghost use Rattle.elf_symbols.specs.Seeds.{name_in, LiesIn};
 
+use crate::asserts::{same, same_at};
 use crate::small_files::{NAMES_FILE, RET_FILE, TWO_FILE, edited};
 use elf_image::{ElfError, Image, Span};
 use elf_symbols::{Seeds, seeds};
 use std::alloc::Global;
 use std::process::Abort;
 use std::test::Fail;
-use test_asserts::{same, same_at};
 
 /// The image of a file with other bytes at some offsets.
 fn edited_image(alloc: Global, file: &[u8], edits: &[(usize, u8)]) -> Result<Image, ElfError> {

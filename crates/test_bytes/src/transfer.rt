@@ -2,6 +2,7 @@
 ghost use Rattle.std.specs.Prelude.{◌≡◌, ◌≤◌, true, IsErrOf, OnErr};
 ghost use Rattle.cfg_io.specs.Opened.{IsOpened};
 
+use crate::asserts::{holds, holds_at, same};
 use cfg_io::{
     CountSink, Failed, FileInput, Input, MAX_LIMIT, MemInput, MemSink, ReadEnd, SafeInput, Sink,
     StdSink, read_whole, write_whole,
@@ -10,7 +11,6 @@ use std::alloc::Global;
 use std::process::Abort;
 use std::test::Fail;
 use std::{env, fs, process};
-use test_asserts::{holds, holds_at, same};
 
 // `count` bytes, no two neighbours alike.
 fn sample(rt: &HostRuntime, count: usize) -> Result<Vec<u8>, Fail> {

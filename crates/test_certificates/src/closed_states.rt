@@ -5,6 +5,7 @@ ghost use Rattle.std.specs.Prelude.{All, IsTrue};
 ghost use Rattle.std.specs.List.Sorted.{IsStrictlyIncreasing};
 ghost use Rattle.elf_image.specs.Code.{is_code};
 
+use crate::asserts::same;
 use alone::build_alone;
 use cert_text::{Certificate, Part};
 use certify::file_certificate;
@@ -18,7 +19,6 @@ use std::alloc::Global;
 use std::process::Abort;
 use std::test::Fail;
 use table_trim::cuts;
-use test_asserts::same;
 
 /// The certificate of a file, from the closed state without cuts and, if there are any, from that
 /// under the cuts.

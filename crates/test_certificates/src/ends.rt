@@ -2,6 +2,7 @@
 
 ghost use Rattle.std.specs.Prelude.{All, IsSome, IsTrue};
 
+use crate::asserts::holds;
 use crate::numbered::{ByAddress, by_address};
 use cert_ends::{ends_of, returns_are_closed, returns_end, returns_have_reasons};
 use cert_places::{NumberedReturns, part_rises};
@@ -10,7 +11,6 @@ use cfg_model::{Chains, Flow, Memory};
 use reached_terms::Numbered;
 use std::alloc::Global;
 use std::process::Abort;
-use test_asserts::holds;
 use test_programs::{Sample, row_8, row_10, table_jump};
 
 /// What the three deciders say of a part.

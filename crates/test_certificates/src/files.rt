@@ -2,6 +2,7 @@
 
 ghost use Rattle.cfg_vectors.specs.Rows.{IsRow};
 
+use crate::asserts::same;
 use cert_text::print;
 use certify::file_certificate;
 use cfg_vectors::row_file;
@@ -10,7 +11,6 @@ use elf_symbols::seeds;
 use std::alloc::Global;
 use std::process::Abort;
 use std::test::Fail;
-use test_asserts::same;
 
 const ROW_1: &[u8] = b"cfg-cert 1
 part none

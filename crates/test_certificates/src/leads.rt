@@ -1,12 +1,12 @@
 //! Parts that are valid, and the same without one leader.
 
+use crate::asserts::holds;
 use crate::numbered::{ByAddress, by_address};
 use cert_check::part_is_valid;
 use cert_text::parse;
 use std::alloc::Global;
 use std::process::Abort;
 use std::test::Fail;
-use test_asserts::holds;
 use test_programs::{row_8, table_jump};
 
 /// Two streams that join before a branch.

@@ -3,6 +3,7 @@
 
 ghost use Rattle.cfg_vectors.specs.Rows.{IsRow};
 
+use crate::asserts::holds;
 use cert_check::{graph_of_part, part_is_valid};
 use cert_text::parse;
 use cfg_model::{Block, Edge, EdgeKind, EndKind, Graph};
@@ -13,7 +14,6 @@ use elf_image::Image;
 use std::alloc::Global;
 use std::process::Abort;
 use std::test::Fail;
-use test_asserts::holds;
 
 /// Where the code of a row's file begins, its one seed.
 const CODE: u64 = 0x10000;

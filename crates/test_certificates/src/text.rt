@@ -1,11 +1,11 @@
 //! Texts of certificates: those that are read and printed again, and bytes that are no text.
 
+use crate::asserts::holds;
 use cert_text::{
     Certificate, LeadLine, LeadLines, LeadWhy, Part, ReturnLine, ReturnLines, ReturnWhy, TextError,
     parse, print,
 };
 use std::alloc::Global;
-use test_asserts::holds;
 
 /// One line of every form, and a second part.
 const EVERY_FORM: &[u8] = b"cfg-cert 1

@@ -3,10 +3,10 @@
 
 ghost use Rattle.std.specs.Prelude.{◌≡◌};
 
+use crate::asserts::same;
 use address_map::{AddressMap, Look, lesser};
 use std::process::Abort;
 use std::test::Fail;
-use test_asserts::same;
 
 /// How many addresses there are; every second one is added.
 const COUNT: u16 = 2048;

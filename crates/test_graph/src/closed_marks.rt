@@ -3,6 +3,7 @@
 
 ghost use Rattle.std.specs.Prelude.{◌≤◌};
 
+use crate::asserts::{holds_at, same};
 use alone::build_alone;
 use cfg_model::Chains;
 use cfg_vectors::row_file;
@@ -15,7 +16,6 @@ use state_marks::{marks_of, marks_of_by};
 use std::alloc::Global;
 use std::test::Fail;
 use std::thread::Threads;
-use test_asserts::{holds_at, same};
 
 // Where the code of a row's file begins, and the program starts.
 const CODE: u64 = 0x10000;
@@ -45,9 +45,11 @@ fn marks_agree<R: Threads + Sync>(
     let state = build_alone(alloc, &code, &[CODE])?;
     let marks = marks_of_by(rt, alloc, &code, &state, workers)?;
     let starts = marked_addresses(alloc, &code, marks.starts())?;
-    Ok(starts.as_slice() == leaders.as_slice()
-        && leaders_of(alloc, &code, &marks)?.as_slice() == leaders.as_slice()
-        && marks.returning(alloc, &code)?.as_slice() == returning.as_slice())
+    Ok(
+        starts.as_slice() == leaders.as_slice()
+            && leaders_of(alloc, &code, &marks)?.as_slice() == leaders.as_slice()
+            && marks.returning(alloc, &code)?.as_slice() == returning.as_slice(),
+    )
 }
 
 #[test]

@@ -1,10 +1,10 @@
 //! Worked programs: `test_programs` has them.
 
+use crate::asserts::holds;
 use alone::build_alone;
 use core_state::State;
 use std::process::Abort;
 use std::test::Fail;
-use test_asserts::holds;
 use test_programs::{row_6, row_8, row_9, row_10, table_jump};
 use work_ops::finish;
 

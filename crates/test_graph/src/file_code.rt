@@ -5,6 +5,7 @@ ghost use Rattle.std.specs.Prelude.{◌≡◌, ◌≤◌, IsTrue, IsSome};
 ghost use Rattle.elf_image.specs.Code.{is_code};
 ghost use Rattle.code_view.specs.FileCode.{program_of};
 
+use crate::asserts::{holds, holds_at, same};
 use cfg_model::{Chains, Flow, term};
 use cfg_vectors::row_file;
 use chain_index::ChainIndex;
@@ -14,7 +15,6 @@ use rv_flow::{RawFlow, flow_of, insn_at};
 use std::alloc::Global;
 use std::process::Abort;
 use std::test::Fail;
-use test_asserts::{holds, holds_at, same};
 
 // Where the code of a row's file begins.
 const CODE: u64 = 0x10000;

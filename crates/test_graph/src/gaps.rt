@@ -1,8 +1,8 @@
 //! The gaps of a few bounds.
 
+use crate::asserts::same;
 use parallel::AddressRange;
 use std::test::Fail;
-use test_asserts::same;
 
 /// A range of addresses by its ends.
 fn range(after: Option<u64>, last: Option<u64>) -> AddressRange {

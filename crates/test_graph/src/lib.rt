@@ -22,6 +22,8 @@
 #[cfg(test)]
 mod address_maps;
 #[cfg(test)]
+mod asserts;
+#[cfg(test)]
 mod closed_marks;
 #[cfg(test)]
 mod closed_states;

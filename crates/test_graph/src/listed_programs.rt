@@ -1,8 +1,8 @@
 //! The worked programs, asked as the programs that they are.
 
+use crate::asserts::{holds, same, same_at};
 use cfg_model::{Chains, Flow, before, meet, on_chain, term};
 use std::test::Fail;
-use test_asserts::{holds, same, same_at};
 use test_programs::{Sample, cut_table, row_6, row_8, row_9, row_10, row_12, row_17, table_jump};
 
 /// Where instructions stand in each of the programs, and which of them are seeds.

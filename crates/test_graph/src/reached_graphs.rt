@@ -2,6 +2,7 @@
 
 ghost use Rattle.std.specs.Prelude.{◌≤◌};
 
+use crate::asserts::{holds_at, same};
 use cfg_model::{Chains, Function, Graph};
 use cfg_vectors::row_file;
 use chain_index::ChainIndex;
@@ -13,7 +14,6 @@ use std::alloc::Global;
 use std::marker::Sync;
 use std::test::Fail;
 use std::thread::Threads;
-use test_asserts::{holds_at, same};
 use test_yardstick::plain_graph;
 
 // Where the code of a row's file begins, and the program starts.

@@ -1,12 +1,12 @@
 //! Row 23 of the worked examples: the changes on a small program, one after the other.
 
+use crate::asserts::{holds, same};
 use crate::state_program::{Program, assert_entered, assert_near, assert_no_end, assert_start};
 use cfg_model::{Mark, WaitKind, Waiter};
 use core_state::{Arrival, Ends, Name, Starts, State, Terms, WorkKind};
 use std::marker::Send;
 use std::process::Abort;
 use std::test::Fail;
-use test_asserts::{holds, same};
 
 /// Wants two starts, one of them twice.
 fn want_starts(rt: &impl Abort, state: &mut State) -> Result<(), Fail> {

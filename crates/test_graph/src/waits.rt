@@ -3,12 +3,12 @@
 ghost use Rattle.std.specs.Prelude.{◌<◌};
 ghost use Rattle.cfg_model.specs.Builder.State.{IsEntered};
 
+use crate::asserts::same;
 use cfg_model::{WaitKind, Waiter};
 use core_state::Terms;
 use std::alloc::Global;
 use std::process::Abort;
 use std::test::Fail;
-use test_asserts::same;
 
 /// The terminator at which all of them wait.
 const CALLEE: u64 = 0x10000;

@@ -3,6 +3,7 @@
 ghost use Rattle.cfg_model.specs.Program.Chain.{OnChain};
 ghost use Rattle.test_graph.specs.StateRow.{row_23};
 
+use crate::asserts::same;
 use crate::state_program::{Program, assert_entered, assert_near, assert_no_end, assert_start};
 use cfg_model::{WaitKind, Waiter};
 use core_state::{Name, State, WorkKind};
@@ -10,7 +11,6 @@ use std::alloc::Global;
 use std::process::Abort;
 use std::test::Fail;
 use std::thread::Threads;
-use test_asserts::same;
 
 /// An address of the first shard.
 const FIRST: u64 = 0x10000;

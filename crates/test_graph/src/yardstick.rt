@@ -1,9 +1,9 @@
 //! The graphs of worked programs, as the yardstick builds them.
 
+use crate::asserts::{holds, same};
 use cfg_model::{Block, Edge, EdgeKind, EndKind, Flow, Function};
 use std::process::Abort;
 use std::test::Fail;
-use test_asserts::{holds, same};
 use test_programs::{Sample, row_6, row_8, row_9, row_10, row_12, row_17};
 use test_yardstick::plain_graph;
 

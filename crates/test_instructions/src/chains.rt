@@ -2,13 +2,13 @@
 
 ghost use Rattle.std.specs.Prelude.{◌≡◌};
 
+use crate::asserts::{holds, same, same_at};
 use chain_index::{ChainIndex, ChainReaches, one_chain_end};
 use elf_image::{ElfError, Image};
 use rv_flow::{flow_of_bytes, raw_flow};
 use std::alloc::Global;
 use std::process::Abort;
 use std::test::Fail;
-use test_asserts::{holds, same, same_at};
 
 /// Six code sections, not in the order of their addresses. At 10000 (hexadecimal): `addi x0, x0, 0`
 /// and two `c.nop`. At 10008: `c.nop` and `addi x0, x0, 0`. At 1000E: `c.nop` and the lower half of

@@ -1,11 +1,11 @@
 //! The float table and the four compressed forms at words from outside: what binutils' assembler
 //! makes of at least one instruction of each row, worked words, and words that no row holds of.
 
+use crate::asserts::holds;
 use rv_decode::Insn;
 use rv_float::{decode_float, expand_float};
 use std::process::Abort;
 use std::test::Fail;
-use test_asserts::holds;
 
 /// `as -march=rv64gc`: a word, and the integer registers that it writes and reads.
 const ASSEMBLED: [(u32, u8, u8); 34] = [

@@ -1,5 +1,6 @@
 //! The calls on a small file, whose instructions were encoded by an assembler.
 
+use crate::asserts::same_at;
 use elf_image::{ElfError, Extensions, Image};
 use rv_flow::{
     RawFlow, StraightForms, each_word_is_its_instruction, every_expansion_decodes, flow_of,
@@ -8,7 +9,6 @@ use rv_flow::{
 use std::alloc::Global;
 use std::process::Abort;
 use std::test::Fail;
-use test_asserts::same_at;
 
 /// Code at 10000 (hexadecimal): `jalr x0, 0(x5)`; `lui x1, 0x10`, `jalr x1, 12(x1)`;
 /// `lui x6, 0x10`, `jalr x0, 1(x6)`; `jalr x0, 0(x6)`; and the 16-bit forms `c.jr x5` and `c.nop`.

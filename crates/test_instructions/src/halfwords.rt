@@ -1,7 +1,7 @@
 //! `expand` on pairs from outside, and over all halfwords against counts made by hand.
 
+use crate::asserts::{same, same_at};
 use rvc_expand::expand;
-use test_asserts::{same, same_at};
 
 /// Halfwords with the instruction that each stands for, and halfwords that stand for none.
 #[test]

@@ -15,6 +15,8 @@
 #![tactic(auto)]
 
 #[cfg(test)]
+mod asserts;
+#[cfg(test)]
 mod chains;
 #[cfg(test)]
 mod declared;

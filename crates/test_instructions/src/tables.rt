@@ -1,12 +1,12 @@
 //! The calls on small files.
 
+use crate::asserts::same_at;
 use crate::further::{Further, counted, push_further};
 use elf_image::{ElfError, Image};
 use jump_table::{Table, entry_target, find_table, target_of};
 use std::alloc::{AllocError, Global};
 use std::process::Abort;
 use std::test::Fail;
-use test_asserts::same_at;
 
 /// Code at 10000 and read-only data at 20000 (hexadecimal), filled up with zeros, and a jump in it.
 #[derive(Clone, Copy)]

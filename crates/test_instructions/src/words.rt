@@ -1,11 +1,11 @@
 //! The decoder at words from outside: what binutils' assembler makes of at least one instruction
 //! of each row of the table, worked words, and words that no row holds of.
 
+use crate::asserts::same_at;
 use rv_decode::decode;
 use std::alloc::Global;
 use std::process::Abort;
 use std::test::Fail;
-use test_asserts::same_at;
 
 /// `as -march=rv64ima_zicsr_zifencei`, with operands that set each bit of the immediates.
 static ASSEMBLED: [(u32, &str); 98] = [

@@ -8,6 +8,7 @@ ghost use Rattle.cfg_model.specs.Graph.Graph.{IsOutline};
 ghost use Rattle.code_view.specs.FileCode.{program_of};
 ghost use Rattle.live_regs.specs.Noted.{AreInOrder};
 
+use crate::asserts::same;
 use alone::build_alone;
 use cfg_model::{Functions, Graph, Live, Lives, Outline};
 use chain_index::ChainIndex;
@@ -23,7 +24,6 @@ use std::marker::Sync;
 use std::process::Abort;
 use std::test::Fail;
 use std::thread::Threads;
-use test_asserts::same;
 
 /// A block of a function, and the mask of the registers that are live there.
 pub(crate) type Wanted = (u64, u32);

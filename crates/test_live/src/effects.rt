@@ -1,9 +1,9 @@
 //! What single instructions read and write.
 
+use crate::asserts::{same, same_at};
 use live_regs::effects_of;
 use rv_decode::{ExtendKind, Insn, decode};
 use std::test::Fail;
-use test_asserts::{same, same_at};
 
 /// Words with the masks of what they read and write, by the operands of their formats.
 static WORDS: [(u32, u32, u32); 10] = [

@@ -13,6 +13,8 @@
 #[cfg(test)]
 mod all_calls;
 #[cfg(test)]
+mod asserts;
+#[cfg(test)]
 mod effects;
 #[cfg(test)]
 mod files;

@@ -1,10 +1,10 @@
 //! The live registers of worked programs, told by hand from the definition.
 
 use crate::all_calls::{Wanted, has_lives, lives_of_file};
+use crate::asserts::holds_at;
 use crate::files::{named_file, plain_file};
 use big_case::big_file;
 use std::test::Fail;
-use test_asserts::holds_at;
 
 /// Code at 10000 (hexadecimal), and the blocks of its one function with their masks.
 type Worked = (&'static [u32], &'static [Wanted]);

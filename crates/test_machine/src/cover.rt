@@ -3,12 +3,12 @@
 ghost use Rattle.std.specs.Prelude.{AllPairs, IfOk};
 ghost use Rattle.cfg_model.specs.Graph.Graph.{EdgeBefore};
 
+use crate::asserts::holds;
 use cfg_model::{Block, Edge, EdgeKind, EndKind, edges_in_order};
 use edge_cover::{Move, judge_in};
 use std::alloc::{AllocError, Global};
 use std::process::Abort;
 use std::test::Fail;
-use test_asserts::holds;
 
 /// A straight instruction at 0.
 const ENTRY: Block = Block {

@@ -1,11 +1,11 @@
 //! The memory of a file when its program starts.
 
+use crate::asserts::{holds, same, same_at};
 use crate::small_file::FILE;
 use elf_image::Image;
 use rv_machine::{Cpu, Ram, RamError, Regions};
 use std::alloc::{AllocError, Global};
 use std::test::Fail;
-use test_asserts::{holds, same, same_at};
 
 /// Addresses, and the bytes there: code, read-only data, data, zeros without bytes in the file, and
 /// the stack.

@@ -1,6 +1,7 @@
 //! The operations at the corner cases of the manual (RISC-V Unprivileged ISA 20240411, chapters 2,
 //! 4, 13 and 14).
 
+use crate::asserts::holds;
 use rv_decode::{
     AtomicKind, BranchKind, ImmKind, ImmWKind, LoadKind, RegKind, RegWKind, StoreKind,
 };
@@ -9,7 +10,6 @@ use rv_operations::{
     reg_result, reg_w_result, store_size,
 };
 use std::test::Fail;
-use test_asserts::holds;
 
 /// -1, and the least numbers of 64 and of 32 bits.
 const ONES: u64 = u64::MAX;

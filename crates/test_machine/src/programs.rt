@@ -1,12 +1,12 @@
 //! Small programs, each run from its first instruction to the trap that ends it.
 
+use crate::asserts::holds;
 use crate::small_file::FILE;
 use elf_image::Image;
 use rv_flow::rv64gc_insn_at;
 use rv_machine::{Cpu, Regions, Stepped, Trap, step, step_placed};
 use std::alloc::Global;
 use std::test::Fail;
-use test_asserts::holds;
 
 /// Where a program starts, the trap that ends it, a register, and what it then holds.
 type Case = (u64, Trap, u8, u64);

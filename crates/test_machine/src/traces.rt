@@ -3,6 +3,7 @@
 ghost use Rattle.std.specs.Prelude.{AllPairs, IfOk};
 ghost use Rattle.cfg_model.specs.Graph.Graph.{BlockBefore, EdgeBefore};
 
+use crate::asserts::holds;
 use cfg_model::{Block, Blocks, Edge, EdgeKind, Edges, EndKind, Functions, Graph, edges_in_order};
 use cfg_vectors::row_file;
 use elf_image::Image;
@@ -10,7 +11,6 @@ use rv_machine::Regions;
 use std::alloc::{AllocError, Global};
 use std::process::Abort;
 use std::test::Fail;
-use test_asserts::holds;
 use walk_trace::trace;
 
 /// The block of row 1: a return.

@@ -6,6 +6,7 @@ ghost use Rattle.cfg_model.specs.Builder.Kept.{IsClosed};
 ghost use Rattle.code_view.specs.Cuts.{cut_of, CutsFit};
 ghost use Rattle.code_view.specs.FileCode.{program_of};
 
+use crate::asserts::{holds, same};
 use alone::build_alone;
 use cfg_model::{Chains, Flow};
 use cfg_vectors::row_file;
@@ -21,7 +22,6 @@ use std::test::Fail;
 use std::thread::Threads;
 use table_cuts::cuts_of;
 use table_trim::{cuts, cuts_by};
-use test_asserts::{holds, same};
 
 /// The jumps of row 15: one through a table of four entries, and one through a table of two that
 /// begins at the third of them.

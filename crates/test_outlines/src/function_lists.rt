@@ -3,6 +3,7 @@
 
 ghost use Rattle.std.specs.Prelude.{◌≤◌};
 
+use crate::asserts::same;
 use crate::outline_rows::{ROW_8_EDGES, ROW_10_EDGES, ROW_12_EDGES, ROW_17_EDGES};
 use alone::build_alone;
 use cfg_model::{Edge, Edges, Function, Functions};
@@ -13,7 +14,6 @@ use std::marker::Sync;
 use std::process::Abort;
 use std::test::Fail;
 use std::thread::Threads;
-use test_asserts::same;
 use test_programs::{Sample, row_8, row_9, row_10, row_12, row_17};
 
 /// A function as it is wanted: its entry, whether it may return, and the starts of its blocks.

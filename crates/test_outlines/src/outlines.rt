@@ -3,6 +3,7 @@
 ghost use Rattle.std.specs.Prelude.{◌≤◌, IfOk};
 ghost use Rattle.std.specs.List.Sorted.{IsNonDecreasing};
 
+use crate::asserts::same;
 use crate::outline_rows::{
     ROW_6_BLOCKS, ROW_6_EDGES, ROW_8_BLOCKS, ROW_8_EDGES, ROW_9_BLOCKS, ROW_9_EDGES, ROW_10_BLOCKS,
     ROW_10_EDGES, TABLE_BLOCKS, TABLE_EDGES,
@@ -15,7 +16,6 @@ use std::marker::Sync;
 use std::process::Abort;
 use std::test::Fail;
 use std::thread::Threads;
-use test_asserts::same;
 use test_programs::{Sample, row_6, row_8, row_9, row_10, table_jump};
 
 /// The outline of a program.

@@ -1,8 +1,8 @@
 //! Calls at numbers, by some counts, and with chunks, of some sizes.
 
+use crate::asserts::same;
 use parallel::{for_each_chunk_mut, map_indices};
 use std::test::Fail;
-use test_asserts::same;
 
 #[test]
 fn results_in_order(rt: HostRuntime) -> Result<(), Fail> {

@@ -1,11 +1,11 @@
 //! Calls at numbers, by some counts, and by some numbers of threads.
 
+use crate::asserts::{same, same_at};
 use parallel::map_drawn;
 use std::alloc::{AllocError, Global};
 use std::process::Abort;
 use std::sync::atomic::{AtomicU64, Ordering};
 use std::test::Fail;
-use test_asserts::{same, same_at};
 
 #[test]
 fn results_in_order(rt: HostRuntime) -> Result<(), Fail> {

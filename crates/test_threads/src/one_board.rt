@@ -5,13 +5,13 @@ ghost use Rattle.cfg_model.specs.Program.Instructions.{IsLawful};
 ghost use Rattle.board.specs.Seat.{HoldsNothing};
 ghost use Rattle.test_threads.specs.Sample.{return_and_table};
 
+use crate::asserts::{holds, same};
 use board::{Board, Seat};
 use cfg_model::{Chains, Flow, Memory};
 use core_state::{Job, PlaceEnd, ShardKind};
 use std::alloc::Global;
 use std::process::Abort;
 use std::test::Fail;
-use test_asserts::{holds, same};
 
 /// A program with a return and a jump through a table to it.
 #[derive(Drop)]

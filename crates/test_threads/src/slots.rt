@@ -3,11 +3,11 @@ ghost use Rattle.std.specs.Prelude.{◌≡◌, ◌≢◌, ◌<◌, ℕ};
 ghost use Rattle.turn_slots.specs.Share.{IsSame};
 ghost use Rattle.turn_slots.specs.Seat.{HoldsNothing, Holds};
 
+use crate::asserts::same;
 use std::process::Abort;
 use std::test::Fail;
 use std::thread::Threads;
 use std::{mem, thread};
-use test_asserts::same;
 use turn_slots::{Fits, Hold, Taken, TurnSeat, Turns};
 
 // Each value fits each slot.

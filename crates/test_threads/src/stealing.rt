@@ -4,6 +4,7 @@
 ghost use Rattle.std.specs.Prelude.{◌≡◌, ◌<◌, IfOk, IfSome};
 ghost use Rattle.steal_pool.specs.Pool.{workers_of, IsHandOf, IsSameHand};
 
+use crate::asserts::{holds, holds_at, same};
 use core_state::{Name, WorkKind};
 use std::alloc::Global;
 use std::process::Abort;
@@ -11,7 +12,6 @@ use std::sync::Wait;
 use std::test::Fail;
 use std::thread::{Threads, join};
 use steal_pool::{Deques, Hand, Memory, Names, Pool, Round, Tried, first_of};
-use test_asserts::{holds, holds_at, same};
 
 /// How many names each thread puts.
 const PUTS: u64 = 300;

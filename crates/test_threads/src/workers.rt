@@ -2,6 +2,7 @@
 
 ghost use Rattle.std.specs.Prelude.{◌≤◌};
 
+use crate::asserts::{holds, same};
 use alone::build_alone;
 use cfg_model::{Chains, Flow};
 use core_state::{State, WorkKind};
@@ -11,7 +12,6 @@ use std::process::Abort;
 use std::sync::Wait;
 use std::test::Fail;
 use std::thread::Threads;
-use test_asserts::{holds, same};
 use test_gates::{Counts, Crowd, Meeting, Robbery};
 use test_programs::{
     Sample, Slot, cut_table, row_6, row_8, row_9, row_10, row_12, row_17, table_jump,

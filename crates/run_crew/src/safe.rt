@@ -6,9 +6,9 @@ ghost use Rattle.cfg_run.specs.Words.{asked_by};
 ghost use Rattle.run_ends.specs.Told.{Tells};
 ghost use Rattle.cfg_run.specs.Run.{IsDecided, Gives};
 
-use crate::status::Status;
 use crate::whole_run::run;
 use cfg_io::{CountSink, SafeInput, Sink};
+use cfg_run::Status;
 use crew::Gate;
 use std::alloc::Global;
 use std::marker::Sync;

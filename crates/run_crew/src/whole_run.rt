@@ -1,0 +1,140 @@
+//! One whole run of the program by workers.
+
+ghost use Rattle.std.specs.Prelude.{◌≡◌, ◌≢◌, ℕ, ◌≤◌, ◌⊎◌, List, Some, None};
+ghost use Rattle.std.specs.Prelude.{IfOk, All};
+ghost use Rattle.std.specs.List.Sorted.{IsStrictlyIncreasing};
+ghost use Rattle.std.specs.Thread.{IsSync};
+ghost use Rattle.cfg_io.specs.Fault.{Rose};
+ghost use Rattle.cfg_io.specs.Opened.{Nothing};
+ghost use Rattle.live_regs.specs.Noted.{AreInOrder};
+ghost use Rattle.cfg_run.specs.Words.{asked_by, path_of, IsForFile};
+ghost use Rattle.cfg_run.specs.Inner.{AnswersTexts};
+ghost use Rattle.run_crew.specs.Inner.{AnswersFile, AnswersLives};
+ghost use Rattle.run_ends.specs.Told.{Grows, Tells};
+ghost use Rattle.run_ends.specs.Inputs.{OverInput, FileReadFor};
+ghost use Rattle.cfg_run.specs.Run.{IsDecided, HasRead, Gives, GivesPart, IsLineOf};
+
+use crate::workers::Workers;
+use cfg_io::{Input, Sink};
+use cfg_model::{AllLives, Graph, Memory};
+use cfg_run::{Alone, Refusal, Status, refuse, run_by};
+use cfg_words::{Request, request};
+use crew::Gate;
+use elf_image::{ElfError, Image};
+use file_crew::file_graph_by;
+use file_graph::FileGraph;
+use graph_report::ReportLines;
+use live_crew::graph_lives_by;
+use report_crew::{is_worth_sharing, text_by};
+use std::alloc::Global;
+use std::marker::Sync;
+use std::sync::Wait;
+use std::thread::Threads;
+
+/// Runs the program: reads the file that `words` ask for from `input`, writes the report of its
+/// control-flow graph or of the graph's live registers to `out`, and tells on `err` why it did not.
+/// Of a made program, for which nothing is read, it writes the summary.
+///
+/// The clause `answer` is what the program is for. If the words and the bytes decide the end of a
+/// run, its status, standard output and standard error are exactly those of the answer to them. By
+/// `complete` they do if neither the input nor standard output failed in this run and memory
+/// sufficed. The other clauses say what holds if something failed.
+///
+/// From two workers on, threads share the work: with two seeds or more they build the closed state
+/// on a board that they share, and pass the gate before each operation. The run may wait then. They
+/// share the search for live registers too, and the text of a report of many lines. With one worker
+/// it does what [`run_one`](cfg_run::run_one) does.
+pub fn run<R: Threads + Wait + Sync, I: Input, O: Sink, E: Sink, G: Gate>(
+    rt: &R,
+    alloc: Global,
+    words: &[String],
+    input: &mut I,
+    out: &mut O,
+    err: &mut E,
+    gate: &G,
+) -> Status
+    requires { I.opened input.old ≡ Nothing }
+
+    ensures answer { OverInput (path_of (asked_by words.now)) (I.rest input.old)
+        (λ bytes. IsDecided result → Gives bytes (asked_by words.now) result
+        (Grows (O.written out.old) (O.written out.new))
+        (Tells (E.written err.old) (E.written err.new)
+        (Rose (E.faults err.old) (E.faults err.new)))) }
+    ensures complete { ¬ Rose (I.faults input.old) (I.faults input.new)
+        → ¬ Rose (O.faults out.old) (O.faults out.new)
+        → IsDecided result ⊎ (result ≡ Status.Memory) }
+
+    // When each other status comes. Want of memory alone is free.
+    ensures usage { result ≡ Status.Usage → asked_by words.now ≡ None }
+    ensures refused_words { asked_by words.now ≡ None → (result ≡ Status.Usage)
+        ⊎ (result ≡ Status.Memory) }
+    ensures malformed { result ≡ Status.Malformed → IsForFile (asked_by words.now) }
+    ensures read_fault { result ≡ Status.ReadFault → IsForFile (asked_by words.now)
+        × Rose (I.faults input.old) (I.faults input.new) }
+    ensures write_fault { result ≡ Status.WriteFault → Rose (O.faults out.old) (O.faults out.new) }
+
+    // What else standard output holds, and what standard error does.
+    ensures cut_off { OverInput (path_of (asked_by words.now)) (I.rest input.old)
+        (λ bytes. result ≡ Status.WriteFault → GivesPart bytes (asked_by words.now)
+        (O.written out.old) (O.written out.new)) }
+    ensures silent { result ≢ Status.Done → result ≢ Status.WriteFault
+        → O.written out.new ≡ O.written out.old }
+    ensures error_line { (text : List ℕ) × IsLineOf result text
+        × Tells (E.written err.old) (E.written err.new)
+        (Rose (E.faults err.old) (E.faults err.new)) text }
+
+    // What was done to the input.
+    ensures input { FileReadFor (path_of (asked_by words.now))
+        (HasRead (asked_by words.now) result) (result ≡ Status.Malformed)
+        (I.tells_path input.old) (I.opened input.new) (I.rest input.old) (I.rest input.new)
+        (I.faults input.old) (I.faults input.new) }
+{
+    let request = match request(alloc, words) {
+        Ok(request) => request,
+        Err(e) => return refuse(Refusal::from(e), err),
+    };
+    let count = workers_of(&request);
+    if 2 <= count && count <= 64 {
+        let file = |bytes: Vec<u8>| -> Result<FileGraph, ElfError>
+            requires { IsSync R.row × IsSync G.row × (2 ≤ count) × (count ≤ 64) }
+            ensures { AnswersFile bytes.items result }
+        { file_graph_by(rt, alloc, bytes, count, gate) };
+        let lives = |image: &Image, graph: &Graph| -> Result<AllLives, Memory>
+            requires { IsSync R.row × (2 ≤ count) × (count ≤ 64)
+                × AreInOrder graph.now.blocks graph.now.edges
+                × All (λ f. IsStrictlyIncreasing f.body) graph.now.functions }
+            ensures { AnswersLives image.now graph.now result }
+        { graph_lives_by(rt, alloc, image, graph, count) };
+        let texts = |lines: ReportLines| -> Result<Option<Vec<Vec<u8>>>, Memory>
+            requires { IsSync R.row × (2 ≤ count) × (count ≤ 64) }
+            ensures { AnswersTexts lines.entry result }
+        { texts_by(rt, alloc, lines, count) };
+        let by = Workers { file, lives, texts };
+        return run_by(alloc, &by, &request, input, out, err);
+    }
+    run_by(alloc, &Alone { alloc }, &request, input, out, err)
+}
+
+// The text of these lines by several workers, if it is worth that.
+fn texts_by<R: Threads + Sync>(
+    rt: &R,
+    alloc: Global,
+    lines: ReportLines,
+    workers: u32,
+) -> Result<Option<Vec<Vec<u8>>>, Memory>
+    requires { (1 ≤ workers) × (workers ≤ 64) }
+    ensures { AnswersTexts lines.entry result }
+{
+    if !is_worth_sharing(&lines) {
+        return Ok(None);
+    }
+    Ok(Some(text_by(rt, alloc, lines, workers)?))
+}
+
+// How many workers are asked for.
+fn workers_of(request: &Request) -> u32 {
+    match request {
+        Request::File { workers, .. } => *workers,
+        Request::Make { workers, .. } => *workers,
+    }
+}
