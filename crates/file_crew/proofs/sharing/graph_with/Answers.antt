@@ -14,7 +14,7 @@ functions_among_by-requires-clause-returns g c κs within =
     let map = program_of c.args.code.now in
     let seeds = c.args.seeds.now in
     record {
-      asks = λ a entry. (seeds, (c.requires.reached, entry_reached map seeds a entry));
+      asks = λ a entry. (seeds, c.requires.reached, entry_reached map seeds a entry);
       tells = λ a answer entry told. told;
     }
 
