@@ -29,8 +29,8 @@ returns-in-Err-clause-answer g c =
 pub run_by-requires-clause-size : goal.run_by-requires-clause-size
 run_by-requires-clause-size g c = can-be-made (map (λ w. string_bytes w) c.args.words.now) (asked c.in-Ok.request) c.in-Ok.ensures.request
 
-pub run_one-requires-clause-size : goal.run_one-requires-clause-size
-run_one-requires-clause-size g c = can-be-made (map (λ w. string_bytes w) c.args.words.now) (asked c.in-Ok.request) c.in-Ok.ensures.request
+pub run_by-2-requires-clause-size : goal.run_by-2-requires-clause-size
+run_by-2-requires-clause-size g c = can-be-made (map (λ w. string_bytes w) c.args.words.now) (asked c.in-Ok.request) c.in-Ok.ensures.request
 
 pub returns-in-Err-clause-input : goal.returns-in-Err-clause-input
 returns-in-Err-clause-input g c =
@@ -51,6 +51,6 @@ returns-then-count-le64-clause-input g c =
 pub returns-clause-input : goal.returns-clause-input
 returns-clause-input g c =
     let I = g.I.Input in
-    subst (λ (o : Option Asked). FileReadFor (path_of o) (HasRead o c.run_one.result) (c.run_one.result ≡ statuses.Malformed) (I.tells_path c.args.input.now) (I.opened c.run_one.new.input)
-    (I.rest c.args.input.now) (I.rest c.run_one.new.input) (I.faults c.args.input.now) (I.faults c.run_one.new.input))
-    (sym c.in-Ok.ensures.request) c.run_one.ensures.input
+    subst (λ (o : Option Asked). FileReadFor (path_of o) (HasRead o c.run_by-2.result) (c.run_by-2.result ≡ statuses.Malformed) (I.tells_path c.args.input.now) (I.opened c.run_by-2.new.input)
+    (I.rest c.args.input.now) (I.rest c.run_by-2.new.input) (I.faults c.args.input.now) (I.faults c.run_by-2.new.input))
+    (sym c.in-Ok.ensures.request) c.run_by-2.ensures.input
