@@ -53,10 +53,18 @@ pub record IsUntouched (now : Opened) (old new : Option (List ℕ)) (before afte
   pub rest : new ≡ old
   pub faults : after ≡ before
 
--- What was read of an input, up to a limit of bytes. `IsRead` says that it was read, and
--- `IsTooLarge` that it has more bytes than the limit.
-pub record IsReadWithin (limit : ℕ) (IsRead IsTooLarge : Type 0)
-    (old new : Option (List ℕ)) : Type 0 where
+-- What stands at this path was opened and read to its end, as far as the input tells its bytes.
+pub record IsReadWhole (path : List ℕ) (tells : Bool) (now : Opened)
+    (left : Option (List ℕ)) : Type 0 where
+  pub opened : now ≡ Something (told_path tells path)
+  pub at_end : IfSome left (λ bytes. bytes ≡ [])
+
+-- What was read of an input at a path, up to a limit of bytes. `IsRead` says that it was read, and
+-- `IsTooLarge` that it may have more bytes than the limit.
+pub record IsReadWithin (limit : ℕ) (IsRead IsTooLarge : Type 0) (path : List ℕ) (tells : Bool)
+    (now : Opened) (old new : Option (List ℕ)) : Type 0 where
+  pub opened : IsRead → now ≡ Something (told_path tells path)
+  pub whole : IsRead → ¬ IsTooLarge → IsReadWhole path tells now new
   pub to_end : IfSome old (λ bytes. length bytes ≤ limit → IsRead → new ≡ Some [])
   pub too_large : IfSome old (λ bytes. limit < length bytes → IsRead
       → TakesCount old (limit + 1) new)
@@ -66,14 +74,16 @@ pub record IsReadWithin (limit : ℕ) (IsRead IsTooLarge : Type 0)
 pub record IsFileRead (path : List ℕ) (end : CheckStatus) (tells : Bool) (now : Opened)
     (old new : Option (List ℕ)) : Type 0 where
   pub opened : OpenedAt path tells now
-  pub read : IsReadWithin FILE_LIMIT (HasReadFile end) (end ≡ statuses.Malformed) old new
+  pub read : IsReadWithin FILE_LIMIT (HasReadFile end) (end ≡ statuses.Malformed) path tells now
+      old new
 
 -- The certificate at a path, in a test that ends in this way.
 pub record IsCertificateRead (path : List ℕ) (end : CheckStatus) (tells : Bool) (now : Opened)
     (old new : Option (List ℕ)) (before after : ℕ) : Type 0 where
   pub opened : OpenedAt path tells now
   pub untouched : NeedsNoCertificate end → IsUntouched now old new before after
-  pub read : IsReadWithin CERTIFICATE_LIMIT (HasReadCertificate end) (end ≡ statuses.NoText) old new
+  pub read : IsReadWithin CERTIFICATE_LIMIT (HasReadCertificate end) (end ≡ statuses.NoText) path
+      tells now old new
 
 -- What was done to the file for what is asked for. If nothing is, nothing was done.
 abbrev pub FileReadFor : Option Asked → CheckStatus → Bool → Opened
@@ -92,3 +102,21 @@ CertificateReadFor (Some (of_make file)) end tells now old new before after =
     IsUntouched now old new before after
 CertificateReadFor (Some (of_test file certificate)) end tells now old new before after =
     IsCertificateRead certificate end tells now old new before after
+
+-- A test took its inputs in order: it ended at the file, and the certificate is untouched; or the
+-- file was opened and read to its end before the certificate. If a read failed, it is one of the
+-- input where the test ended.
+pub data EndsInOrder (end : CheckStatus) (FileFailed CertificateFailed : Type 0)
+    (IsFileWhole IsOtherUntouched : Type 0) : Type 0 where
+  at_file : IsOtherUntouched → (end ≡ statuses.ReadFault → FileFailed)
+      → EndsInOrder end FileFailed CertificateFailed IsFileWhole IsOtherUntouched
+  after_file : IsFileWhole → (end ≡ statuses.ReadFault → CertificateFailed)
+      → EndsInOrder end FileFailed CertificateFailed IsFileWhole IsOtherUntouched
+
+-- The inputs were taken in order. Only a test takes two: `tells`, `now` and `left` are the file's.
+abbrev pub TakenInOrder : Option Asked → CheckStatus → Type 0 → Type 0
+    → Bool → Opened → Option (List ℕ) → Type 0 → Type 0
+TakenInOrder None end file certificate tells now left untouched = Unit {0}
+TakenInOrder (Some (of_make path)) end file certificate tells now left untouched = Unit {0}
+TakenInOrder (Some (of_test path other)) end file certificate tells now left untouched =
+    EndsInOrder end file certificate (IsReadWhole path tells now left) untouched

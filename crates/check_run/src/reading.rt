@@ -48,7 +48,8 @@ pub fn certificate_at<J: Input>(
         (Rose (J.faults input.old) (J.faults input.new))) }
     ensures opened { OpenedAt path.now (J.tells_path input.old) (J.opened input.new) }
     ensures read { IsReadWithin CERTIFICATE_LIMIT (HasReadCertificate (end_of result))
-        (end_of result ≡ CheckStatus.NoText) (J.rest input.old) (J.rest input.new) }
+        (end_of result ≡ CheckStatus.NoText) path.now (J.tells_path input.old)
+        (J.opened input.new) (J.rest input.old) (J.rest input.new) }
 {
     match read_within(alloc, path, input, CERTIFICATE_LIMIT) {
         Ok(text) => Ok(parse(alloc, &text)?),

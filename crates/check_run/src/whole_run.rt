@@ -13,8 +13,8 @@ ghost use Rattle.check_run.specs.Refusal.{status_of};
 ghost use Rattle.check_run.specs.Lines.{refusal_line};
 ghost use Rattle.check_run.specs.Run.{IsDecided, OverBoth, OverInputs, FailedToRead};
 ghost use Rattle.check_run.specs.Run.{Gives, GivesPart, NamesFault, Judges, IsLineOf};
-ghost use Rattle.check_run.specs.Inputs.{FileReadFor, CertificateReadFor};
-ghost use Rattle.check_run.specs.Inputs.{IsFileRead, IsCertificateRead};
+ghost use Rattle.check_run.specs.Inputs.{FileReadFor, CertificateReadFor, TakenInOrder};
+ghost use Rattle.check_run.specs.Inputs.{IsFileRead, IsCertificateRead, IsUntouched};
 ghost use Rattle.check_run.specs.Inner.{IsTrueOf, IsTrueOfFile, end_of};
 
 use crate::reading::{certificate_at, file_at};
@@ -98,6 +98,12 @@ pub fn check_run<I: Input, J: Input, O: Sink, E: Sink>(
     ensures certificate { CertificateReadFor (asked_by words.now) result
         (J.tells_path certificate.old) (J.opened certificate.new) (J.rest certificate.old)
         (J.rest certificate.new) (J.faults certificate.old) (J.faults certificate.new) }
+    ensures order { TakenInOrder (asked_by words.now) result
+        (Rose (I.faults file.old) (I.faults file.new))
+        (Rose (J.faults certificate.old) (J.faults certificate.new))
+        (I.tells_path file.old) (I.opened file.new) (I.rest file.new)
+        (IsUntouched (J.opened certificate.new) (J.rest certificate.old) (J.rest certificate.new)
+        (J.faults certificate.old) (J.faults certificate.new)) }
 {
     let text = match text_for(alloc, words, file, certificate) {
         Ok(text) => text,
@@ -149,6 +155,12 @@ fn text_for<I: Input, J: Input>(
     ensures certificate { CertificateReadFor (asked_by words.now) (end_of result)
         (J.tells_path certificate.old) (J.opened certificate.new) (J.rest certificate.old)
         (J.rest certificate.new) (J.faults certificate.old) (J.faults certificate.new) }
+    ensures order { TakenInOrder (asked_by words.now) (end_of result)
+        (Rose (I.faults file.old) (I.faults file.new))
+        (Rose (J.faults certificate.old) (J.faults certificate.new))
+        (I.tells_path file.old) (I.opened file.new) (I.rest file.new)
+        (IsUntouched (J.opened certificate.new) (J.rest certificate.old) (J.rest certificate.new)
+        (J.faults certificate.old) (J.faults certificate.new)) }
 {
     match request_of(words) {
         None => Err(Refusal::Usage),
@@ -199,6 +211,12 @@ fn tested<I: Input, J: Input>(
     ensures certificate { IsCertificateRead certificate_path.now (end_of result)
         (J.tells_path certificate.old) (J.opened certificate.new) (J.rest certificate.old)
         (J.rest certificate.new) (J.faults certificate.old) (J.faults certificate.new) }
+    ensures order { TakenInOrder (Some (of_test file_path.now certificate_path.now)) (end_of result)
+        (Rose (I.faults file.old) (I.faults file.new))
+        (Rose (J.faults certificate.old) (J.faults certificate.new))
+        (I.tells_path file.old) (I.opened file.new) (I.rest file.new)
+        (IsUntouched (J.opened certificate.new) (J.rest certificate.old) (J.rest certificate.new)
+        (J.faults certificate.old) (J.faults certificate.new)) }
 {
     let seeded = file_at(alloc, file_path, file)?;
     let certificate = certificate_at(alloc, certificate_path, certificate)?;
