@@ -11,6 +11,7 @@ from collections import namedtuple
 GCC = "riscv64-unknown-elf-gcc"
 READELF = ("riscv64-unknown-elf-readelf", "riscv64-linux-gnu-readelf")
 OBJDUMP = ("riscv64-unknown-elf-objdump", "riscv64-linux-gnu-objdump")
+OBJCOPY = ("riscv64-unknown-elf-objcopy", "riscv64-linux-gnu-objcopy")
 ASSEMBLER = ("riscv64-unknown-elf-as", "riscv64-linux-gnu-as")
 BARE = ["-march=rv64imac", "-mabi=lp64", "-nostdlib", "-static"]
 
@@ -93,8 +94,13 @@ def seeds(path):
 
 
 def instructions(path):
-    """objdump's reading of each code section, without aliases, by address."""
-    return listed(output(OBJDUMP, "-d", "-z", "-M", "no-aliases,numeric", path))
+    """objdump's reading of each code section, without aliases, by address. It reads a copy without symbols, if one can be made:
+    for each address it looks through all symbols, which takes minutes of some files."""
+    with tempfile.TemporaryDirectory() as folder:
+        bare = os.path.join(folder, "bare")
+        tool = next(filter(shutil.which, OBJCOPY), None)
+        is_made = tool and subprocess.run([tool, "--strip-all", path, bare], capture_output=True).returncode == 0
+        return listed(output(OBJDUMP, "-d", "-z", "-M", "no-aliases,numeric", bare if is_made else path))
 
 
 def instructions_from(path, address, section):

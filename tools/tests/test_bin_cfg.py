@@ -145,6 +145,13 @@ class BinCfg(unittest.TestCase):
         self.assertIn("cfg_walk run -- 10 data/one.elf\n", self.asked())
         self.assertFalse((self.top / "crates" / "cfg" / "out").exists())
 
+    def test_a_program_without_a_script_of_its_own(self) -> None:
+        (self.top / "bin" / "cfg_walk").unlink()
+        done = subprocess.run([sys.executable, "-B", str(self.top / "bin" / "build"), "cfg_walk"], env=dict(os.environ, PATH=self.path, KIT="kit 1"),
+                              capture_output=True, text=True)
+        self.assertEqual(done.returncode, 0)
+        self.assertIn("bin/unproved cfg_walk WORDS", done.stderr)
+
     def test_libraries_that_are_built_are_not_asked_for(self) -> None:
         self.run_cfg("a", name="cfg_walk")
         self.asked()
