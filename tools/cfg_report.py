@@ -569,15 +569,27 @@ def _wrong_statuses(report: Report) -> Iterator[str]:
 # ---- reports of a file that grows
 
 
+class Changes(NamedTuple):
+    """What a report has that the one before has not: blocks, rising, which may stand in earlier ones, and edges; and the edges
+    that it has no more."""
+
+    blocks: List[Block]
+    edges: List[Edge]
+    gone: List[Edge]
+
+
 class Growing:
     """Reports that `cfg` prints, one after the other, of a file to which entries are added. Most lines of each stand in those
-    before: only the others are read. They are not checked, and functions have no bodies."""
+    before: only the others are read. They are not checked, and functions have no bodies. `changes` are those of the last one,
+    if they are known."""
 
     _FUNCTION = re.compile(rb"^function ([0-9a-f]{16}) (may|no)-return \d+ ", re.MULTILINE)
 
     def __init__(self) -> None:
         self._blocks: Dict[bytes, Block] = {}
         self._edges: Dict[bytes, Edge] = {}
+        self._last: Tuple[Set[bytes], Set[bytes]] = set(), set()
+        self.changes: Optional[Changes] = None
 
     def read(self, stream: BinaryIO) -> Report:
         """The next report, of kind graph."""
@@ -585,17 +597,29 @@ class Growing:
         places = text.find(b"\nblocks "), text.find(b"\nedges ")
         if not text.startswith(FIRST_LINE) or not text.endswith(b"\nend\n") or not 0 < places[0] < places[1]:
             # What is wrong with it is said as of any report.
+            self.changes = None
             return load(io.BytesIO(text)).want("graph")
         report = Report([Heading(int(text[len(FIRST_LINE) + 6:len(FIRST_LINE) + 22], 16)), End("graph")])
         report.functions = [Function(int(entry, 16), status == b"may", None, ()) for entry, status in self._FUNCTION.findall(text[:places[0] + 1])]
         blocks, edges = text[places[0] + 1:places[1]].split(b"\n")[1:], text[places[1] + 1:-len("\nend\n")].split(b"\n")[1:]
-        for line in set(blocks).difference(self._blocks):
-            self._blocks[line] = Block(int(line[6:22], 16), int(line[23:39], 16), _KIND[line[40:]])
-        for line in set(edges).difference(self._edges):
-            self._edges[line] = Edge(int(line[5:21], 16), int(line[22:38], 16), _KIND[line[39:]])
+        self._take(set(blocks), set(edges))
         report.blocks = {block.start: block for block in map(self._blocks.__getitem__, blocks)}
         report.edges = list(map(self._edges.__getitem__, edges))
         return report
+
+    def _take(self, blocks: Set[bytes], edges: Set[bytes]) -> None:
+        """Reads the lines that no report before has, and tells the last one's from this one's."""
+        more_blocks, more_edges = sorted(blocks.difference(self._last[0])), edges.difference(self._last[1])
+        for line in more_blocks:
+            if line not in self._blocks:
+                self._blocks[line] = Block(int(line[6:22], 16), int(line[23:39], 16), _KIND[line[40:]])
+        for line in more_edges:
+            if line not in self._edges:
+                self._edges[line] = Edge(int(line[5:21], 16), int(line[22:38], 16), _KIND[line[39:]])
+        is_more = len(edges) == len(self._last[1]) + len(more_edges)
+        gone = () if is_more else self._last[1].difference(edges)
+        self.changes = Changes([self._blocks[line] for line in more_blocks], *([self._edges[line] for line in lines] for lines in (more_edges, gone)))
+        self._last = blocks, edges
 
 
 # ---- files, and what scripts have in common

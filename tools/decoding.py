@@ -4,7 +4,7 @@ gets. The decoder is that of `instructions.py`; beside it a few further extensio
 from __future__ import annotations
 
 import functools
-from typing import NamedTuple, Optional
+from typing import NamedTuple, Optional, Tuple
 
 import extensions
 from extensions import NONE, Names
@@ -61,13 +61,19 @@ def decode(word: int, names: Names = NONE) -> Insn:
 
 
 def _of_row(length: int, word: int, row: Row) -> Insn:
-    writes = "d" in row.operands
+    writes, first, second, number = _fields(row.operands)
     rd = word >> 7 & 31 if writes else 0
     if row.name not in FOLLOWED:
         return Insn("calculated" if writes else "other", length, rd)
-    rs1 = word >> 15 & 31 if "s" in row.operands else 0
-    rs2 = word >> 20 & 31 if "t" in row.operands else 0
-    return Insn(row.name, length, rd, rs1, rs2, immediate(word, row) if set("iuhb") & set(row.operands) else 0)
+    rs1 = word >> 15 & 31 if first else 0
+    rs2 = word >> 20 & 31 if second else 0
+    return Insn(row.name, length, rd, rs1, rs2, immediate(word, row) if number else 0)
+
+
+@functools.lru_cache(maxsize=None)
+def _fields(operands: str) -> Tuple[bool, bool, bool, bool]:
+    """Whether an instruction writes an integer register, reads a first and a second one, and has a number."""
+    return "d" in operands, "s" in operands, "t" in operands, bool(set("iuhb") & set(operands))
 
 
 def _of_extension(word: int) -> Optional[Insn]:

@@ -98,7 +98,16 @@ def _table() -> Dict[int, List[Row]]:
     return table
 
 
-_TABLE = _table()
+def _by_funct3(table: Dict[int, List[Row]]) -> Dict[int, List[Row]]:
+    """The rows that words of an opcode may fit, by that and the field funct3."""
+    found: Dict[int, List[Row]] = {}
+    for opcode, rows in table.items():
+        for key in range(opcode, opcode + 0x8000, 0x1000):
+            found[key] = [one for one in rows if not (one.match ^ key) & one.mask & 0x7000]
+    return found
+
+
+_TABLE = _by_funct3(_table())
 
 
 def signed(value: int, bits: int) -> int:
@@ -113,9 +122,9 @@ def immediate(word: int, row: Row) -> int:
     if opcode in (0x37, 0x17):
         return signed(word & 0xFFFFF000, 32)
     if opcode == 0x6F:
-        return signed(_bits(word, (21, 10, 1), (20, 1, 11), (12, 8, 12), (31, 1, 20)), 21)
+        return signed(word >> 20 & 0x7FE | word >> 9 & 0x800 | word & 0xFF000 | word >> 11 & 0x100000, 21)
     if opcode == 0x63:
-        return signed(_bits(word, (8, 4, 1), (25, 6, 5), (7, 1, 11), (31, 1, 12)), 13)
+        return signed(word >> 7 & 0x1E | word >> 20 & 0x7E0 | word << 4 & 0x800 | word >> 19 & 0x1000, 13)
     if opcode in (0x23, 0x27):
         return signed((word >> 25) << 5 | word >> 7 & 31, 12)
     return word >> 20 & 63 if "h" in row.operands else signed(word >> 20, 12)
@@ -353,7 +362,7 @@ def decoded(raw: int) -> Optional[Tuple[int, int, Row]]:
     length, word = (4, raw) if raw & 3 == 3 else (2, expanded(raw & 0xFFFF))
     if word is None:
         return None
-    found = next((one for one in _TABLE.get(word & 0x7F, ()) if word & one.mask == one.match), None)
+    found = next((one for one in _TABLE.get(word & 0x707F, ()) if word & one.mask == one.match), None)
     if found is None or is_rounded(word) and not found.mask >> 12 & 7 and word >> 12 & 7 in NO_ROUNDING:
         return None
     return length, word, found

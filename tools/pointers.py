@@ -62,14 +62,17 @@ def _is_counted(held: List[Tuple[int, int]], place: int) -> bool:
     return any(abs(other_at - at) == 8 and 0 < abs(other - number) <= 2 for other_at, other in near)
 
 
-def pointers_in_code_sections(elf: Memory, reached: Reached) -> List[int]:
-    """The addresses of code in words of data that stand in code sections, where nothing is reached."""
-    found: Dict[int, None] = {}
-    for section in elf.code:
-        for at, number in words(elf, section):
-            if number < 1 << 32 and elf.is_code(number) and all(reached.state(part) == APART for part in range(at, at + 8, 2)):
-                found[number] = None
-    return list(found)
+class PointersInCode:
+    """The addresses of code in words that stand in code sections."""
+
+    def __init__(self, elf: Memory) -> None:
+        held = (word for section in elf.code for word in words(elf, section))
+        self._found = [(at, number) for at, number in held if number < 1 << 32 and elf.is_code(number)]
+
+    def apart(self, reached: Reached) -> List[int]:
+        """Those where nothing is reached, so that the words may be data."""
+        found = (number for at, number in self._found if all(reached.state(part) == APART for part in range(at, at + 8, 2)))
+        return list(dict.fromkeys(found))
 
 
 class MadeAddresses:

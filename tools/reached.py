@@ -2,13 +2,16 @@
 
 from __future__ import annotations
 
+import functools
+import re
 from typing import Dict, Iterator, List, Optional, Set, Tuple
 
-from cfg_report import Block, Report
+from cfg_report import EDGE_KINDS, Block, Changes, Report
 from decoding import ENDS, UNKNOWN, Insn, decode
 from elf_file import Memory
 
 APART, START, INSIDE = 0, 1, 2
+MARKED = re.compile(rb"[^\0]")
 LONGEST_TRIAL = 20_000
 # How far back code is read to see whether an address begins a function, in half words.
 FARTHEST = 2000
@@ -21,18 +24,31 @@ class Reached:
     """The instructions that are reached. More can be marked as reached than the report has. What an earlier one of the same file
     has read is not read again."""
 
-    def __init__(self, elf: Memory, report: Report, before: "Optional[Reached]" = None) -> None:
+    def __init__(self, elf: Memory, report: Report, before: "Optional[Reached]" = None, changes: Optional[Changes] = None) -> None:
         self.elf, self.report = elf, report
         self._names = elf.extensions
         self._staying = {function.entry for function in report.functions if not function.may_return}
         self._sure: Dict[int, bytearray] = before._sure if before else {one.index: bytearray(one.size // 2 + 1) for one in elf.code}
         self._read: Dict[Tuple[int, int], List[Tuple[int, Insn]]] = before._read if before else {}
         self._insns: Dict[int, Insn] = before._insns if before else {}
+        more = changes.blocks if before and changes else report.blocks.values()
         # The blocks that no earlier report has.
-        self.new: List[Block] = [block for block in report.blocks.values() if (block.start, block.end) not in self._read]
+        self.new: List[Block] = [block for block in more if (block.start, block.end) not in self._read]
         for block in self.new:
             self._mark_all(self._sure, self.instructions(block))
         self._marks = {index: bytearray(marks) for index, marks in self._sure.items()}
+        self._begun: Dict[int, Tuple[int, Optional[Tuple[int, Insn]]]] = before._begun if before else {}
+        if before and changes and "ways_to" in before.__dict__:
+            self.ways_to = _changed(before.ways_to, changes)
+
+    @functools.cached_property
+    def ways_to(self) -> Dict[int, List[Tuple[int, str]]]:
+        """The ways to each block but for calls, in the order of the report: the blocks that they come from, and their kinds."""
+        found: Dict[int, List[Tuple[int, str]]] = {}
+        for edge in self.report.edges:
+            if edge.kind != "call":
+                found.setdefault(edge.to, []).append((edge.source, edge.kind))
+        return found
 
     def instructions(self, block: Block) -> List[Tuple[int, Insn]]:
         """The instructions of a block, each with its address."""
@@ -65,13 +81,17 @@ class Reached:
         return self._marks[section.index][(address - section.address) // 2] if section else APART
 
     def _mark_all(self, every: Dict[int, bytearray], listed: List[Tuple[int, Insn]]) -> None:
+        base, end = 1, 0
         for at, insn in listed:
-            section = self.elf.code_at(at)
-            if section is not None:
-                marks, place = every[section.index], (at - section.address) // 2
-                marks[place] = START
-                if insn.length == 4 and marks[place + 1] == APART:
-                    marks[place + 1] = INSIDE
+            if not base <= at < end:
+                section = self.elf.code_at(at)
+                if section is None:
+                    continue
+                marks, base, end = every[section.index], section.address, section.end
+            place = (at - base) >> 1
+            marks[place] = START
+            if insn.length == 4 and not marks[place + 1]:
+                marks[place + 1] = INSIDE
 
     def insn(self, address: int) -> Insn:
         """The instruction at an address."""
@@ -108,32 +128,41 @@ class Reached:
         left: List[Tuple[int, bool]] = [(address, False)]
         while left and len(found) < LONGEST_TRIAL:
             at, is_apart = left.pop()
-            while at not in found:
-                insn = self._tried(at, found)
-                if insn is None:
-                    break
-                if insn.name == UNKNOWN:
-                    if is_apart:
-                        break
-                    return None
-                found[at] = insn
-                if insn.name in TURNS:
-                    left += self._onward(at, insn, is_apart)
-                    break
-                at += insn.length
+            last = self._run(at, found)
+            if last is None:
+                continue
+            at, insn = last
+            if insn.name != UNKNOWN:
+                left += self._onward(at, insn, is_apart)
+            elif not is_apart:
+                return None
         return sorted(found.items())
 
-    def _tried(self, at: int, found: Dict[int, Insn]) -> Optional[Insn]:
-        """The instruction at an address, none if it is reached already. One that shares bytes with another is not known."""
+    def _run(self, at: int, found: Dict[int, Insn]) -> Optional[Tuple[int, Insn]]:
+        """Finds the instructions from an address on, up to the first from which control does not simply go on, and answers that
+        one; none, if it comes to what is reached or found already. What shares bytes with another is not known, and not found."""
         section = self.elf.code_at(at)
         if section is None:
-            return NO_INSN
-        marks, place = self._marks[section.index], (at - section.address) // 2
-        if marks[place] == START:
-            return None
-        insn = self._insns.get(at) or self.insn(at)
-        is_inside = marks[place] == INSIDE or at - 2 in found and found[at - 2].length == 4
-        return NO_INSN if is_inside or insn.length == 4 and marks[place + 1] == START else insn
+            return None if at in found else (at, NO_INSN)
+        marks, base, end, known = self._marks[section.index], section.address, section.end - 2, self._insns
+        while at not in found:
+            if at > end:
+                # (another section may stand right behind)
+                return self._run(at, found) if self.elf.is_code(at) else (at, NO_INSN)
+            place = (at - base) >> 1
+            mark = marks[place]
+            if mark == START:
+                return None
+            insn = known.get(at) or self.insn(at)
+            length = insn.length
+            before = found.get(at - 2)
+            if mark == INSIDE or before and before.length == 4 or length == 4 and marks[place + 1] == START or insn.name == UNKNOWN:
+                return at, NO_INSN
+            found[at] = insn
+            if insn.name in TURNS:
+                return at, insn
+            at += length
+        return None
 
     def _is_cut(self, at: int, insn: Insn) -> bool:
         """Whether an instruction at an address that is not reached shares its second half with one that is."""
@@ -199,10 +228,15 @@ class Reached:
         section = self.elf.code_at(address)
         assert section is not None
         marks, end = self._marks[section.index], (address - section.address) // 2
-        place = end - 1
-        while place > max(0, end - FARTHEST) and marks[place] != START:
-            place -= 1
-        at = section.address + 2 * place
+        farthest = max(0, end - FARTHEST)
+        place = max(marks.rfind(START, farthest, end), farthest)
+        known = self._begun.get(address)
+        if known is None or known[0] != place:
+            known = self._begun[address] = place, self._met(section.address + 2 * place, address)
+        return known[1]
+
+    def _met(self, at: int, address: int) -> Optional[Tuple[int, Insn]]:
+        """The last instruction that does something of those from a place up to an address, if they end there."""
         last: Optional[Tuple[int, Insn]] = None
         while at < address:
             insn = self.insn(at)
@@ -219,11 +253,26 @@ class Reached:
                 start = marks.find(APART, place, end)
                 if start < 0:
                     break
-                place = start
-                while place < end and marks[place] == APART:
-                    place += 1
+                marked = MARKED.search(marks, start, end)
+                place = marked.start() if marked else end
                 yield section.address + 2 * start, section.address + 2 * place
 
     def keep(self, found: List[Tuple[int, Insn]]) -> None:
         """Marks instructions as reached."""
         self._mark_all(self._marks, found)
+
+
+_ORDER = {kind: place for place, kind in enumerate(EDGE_KINDS)}
+
+
+def _changed(ways: Dict[int, List[Tuple[int, str]]], changes: Changes) -> Dict[int, List[Tuple[int, str]]]:
+    """The ways to each block, as `Reached.ways_to` has them, after changes."""
+    for edge in changes.gone:
+        if edge.kind != "call":
+            ways[edge.to].remove((edge.source, edge.kind))
+    for edge in changes.edges:
+        if edge.kind != "call":
+            ways.setdefault(edge.to, []).append((edge.source, edge.kind))
+    for to in {edge.to for edge in changes.edges}.intersection(ways):
+        ways[to].sort(key=lambda way: (way[0], _ORDER[way[1]]))
+    return ways

@@ -79,11 +79,8 @@ class Switches:
         self._blocks = report.blocks
         self._entries = {function.entry for function in report.functions}
         self._rising = sorted(self._entries)
-        self._starts, self._targets = sorted(self._blocks), sorted(edge.to for edge in report.edges if edge.kind != "call")
-        self._before: Dict[int, List[Tuple[int, str]]] = {}
-        for edge in report.edges:
-            if edge.kind != "call":
-                self._before.setdefault(edge.to, []).append((edge.source, edge.kind))
+        self._starts, self._before = sorted(self._blocks), reached.ways_to
+        self._sizes: Dict[Tuple[int, int], Tuple[int, int]] = {}
         self._held: Dict[Tuple[int, int], Sum] = {}
         self._listed: Dict[int, List[Tuple[int, Insn]]] = {}
         self._stores: Dict[int, Optional[Dict[int, Tuple[int, int]]]] = {}
@@ -113,9 +110,11 @@ class Switches:
 
     def _around(self, block: Block) -> Tuple[int, ...]:
         """The extent of the function that a block is in, and how many blocks and edges are there."""
-        low, high = self._extent(block.start)
-        count = [bisect.bisect_left(places, high) - bisect.bisect_left(places, low) for places in (self._starts, self._targets)]
-        return low, high, *count
+        extent = self._extent(block.start)
+        if extent not in self._sizes:
+            starts = self._starts[slice(*(bisect.bisect_left(self._starts, address) for address in extent))]
+            self._sizes[extent] = len(starts), sum(len(self._before.get(start, ())) for start in starts)
+        return extent + self._sizes[extent]
 
     def is_fixed(self, block: Block) -> bool:
         """Whether a block ends at a known address, by an instruction that names it or through a register."""
