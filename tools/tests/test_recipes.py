@@ -6,6 +6,7 @@ script of the tests stands in for `cfg`, and the blocks of the others are left o
 from __future__ import annotations
 
 import os
+import re
 import shutil
 import subprocess
 import tempfile
@@ -42,6 +43,8 @@ rm "$held"
 NEEDS = {"qemu-riscv64": "qemu-riscv64", "parallel ": "parallel", "draw": "dot", "check_trace": "qemu-riscv64", "-gcc": binutils.GCC,
          "objcopy": "riscv64-unknown-elf-objcopy", "-ld ": "riscv64-unknown-elf-ld"}
 PROGRAMS = ("cfg_walk", "cfg_check")
+# The files that a block makes.
+MAKES = re.compile(r"(?:>|-o) *([\w./]+)")
 
 
 def is_built(name: str) -> bool:
@@ -104,9 +107,11 @@ class Blocks(unittest.TestCase):
         self.assertEqual(done.returncode, 0, f"{text}\n{done.stdout}\n{done.stderr}")
         return done.stdout
 
-    def can_run(self, text: str) -> bool:
+    def can_run(self, text: str, left_out: List[str]) -> bool:
+        """Whether what a block needs is there: tools, programs, and files that a block before it makes."""
         lacking = [tool for word, tool in NEEDS.items() if word in text and not shutil.which(tool)]
-        return not lacking and all(is_built(name) for name in PROGRAMS if f"bin/{name}" in text)
+        not_made = [name for name in MAKES.findall("\n".join(left_out)) if name in text.split() and not (self.folder / name).exists()]
+        return not (lacking or not_made) and all(is_built(name) for name in PROGRAMS if f"bin/{name}" in text)
 
     def test_each_block_in_the_order_of_the_page(self) -> None:
         said: Dict[str, str] = {}
@@ -119,7 +124,7 @@ class Blocks(unittest.TestCase):
                 text = text.replace(",8/first.example,8/second.example", "")
             # The address is one of `choose`, by the compiler that the page was written with.
             text = text.replace("WORD..", "").replace("10150", self.address_of_choose())
-            if self.can_run(text):
+            if self.can_run(text, left_out):
                 # Two builds that differ make the status 1, and a refused file among several the one of xargs.
                 status = next((number for word, number in (("diff_reports", 1), ("xargs", 123)) if word in text), 0)
                 said[text] = self.run_block(f"{text.rstrip()} || [ $? = {status} ]")
