@@ -7,7 +7,7 @@ What is not as it should be has no text, and is no fault of the file.
 from __future__ import annotations
 
 import re
-from typing import Callable, FrozenSet, NamedTuple, Optional
+from typing import Callable, FrozenSet, NamedTuple, Optional, Set
 
 KIND = 0x70000003
 NAME = b".riscv.attributes"
@@ -93,7 +93,7 @@ def _text(data: bytes) -> "tuple[bytes, bytes]":
 def names(text: str) -> FrozenSet[str]:
     """The extensions that a text names, in lower case: `b` as zba, zbb and zbs, and each of vectors as `v`."""
     text = text.lower()
-    found = set()
+    found: Set[str] = set()
     if text.startswith("rv64"):
         first, *parts = text[4:].split("_")
         found.update(_letters(first))

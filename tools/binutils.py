@@ -1,12 +1,14 @@
 """What GNU binutils say of an ELF file, for the comparisons of this folder: its sections, symbols and entry
 by readelf, and its instructions by objdump."""
 
+from __future__ import annotations
+
 import os
 import re
 import shutil
 import subprocess
 import tempfile
-from collections import namedtuple
+from typing import Dict, Iterator, List, NamedTuple, Optional, Sequence, Set, Tuple, Union
 
 GCC = "riscv64-unknown-elf-gcc"
 READELF = ("riscv64-unknown-elf-readelf", "riscv64-linux-gnu-readelf")
@@ -15,25 +17,38 @@ OBJCOPY = ("riscv64-unknown-elf-objcopy", "riscv64-linux-gnu-objcopy")
 ASSEMBLER = ("riscv64-unknown-elf-as", "riscv64-linux-gnu-as")
 BARE = ["-march=rv64imac", "-mabi=lp64", "-nostdlib", "-static"]
 
-Section = namedtuple("Section", "places offset")
-Line = namedtuple("Line", "length word mnemonic operands")
+
+class Section(NamedTuple):
+    """The addresses of a section, and where its bytes stand in the file."""
+
+    places: range
+    offset: int
 
 
-def missing(*wanted):
+class Line(NamedTuple):
+    """An instruction as objdump lists it."""
+
+    length: int
+    word: int
+    mnemonic: str
+    operands: List[str]
+
+
+def missing(*wanted: Union[str, Sequence[str]]) -> Optional[str]:
     """The first tool that is not installed, or None; a tuple stands for any one of its tools."""
-    for names in wanted:
-        names = (names,) if isinstance(names, str) else names
+    for one in wanted:
+        names = (one,) if isinstance(one, str) else one
         if not any(map(shutil.which, names)):
             return " or ".join(names)
     return None
 
 
-def output(names, *arguments):
+def output(names: Sequence[str], *arguments: str) -> str:
     tool = next(filter(shutil.which, names))
     return subprocess.run([tool, *arguments], check=True, capture_output=True).stdout.decode("utf-8", "surrogateescape")
 
 
-def compile_c(path, source, *options):
+def compile_c(path: str, source: str, *options: str) -> Optional[str]:
     """Builds a program of C source text and answers its path; where this compiler cannot, prints why and answers None."""
     command = [GCC, *options, "-x", "c", "-", "-lgcc", "-o", path]
     done = subprocess.run(command, input=source, capture_output=True, text=True)
@@ -43,11 +58,13 @@ def compile_c(path, source, *options):
     return path
 
 
-def entry(path):
-    return int(re.search(r"Entry point address:\s+0x([0-9a-f]+)", output(READELF, "-h", path))[1], 16)
+def entry(path: str) -> int:
+    found = re.search(r"Entry point address:\s+0x([0-9a-f]+)", output(READELF, "-h", path))
+    assert found is not None
+    return int(found[1], 16)
 
 
-def _sections(path):
+def _sections(path: str) -> Iterator[Tuple[str, str, Section]]:
     """The sections with bytes of the program, PROGBITS with the flag ALLOC: their indices, flags, addresses and places."""
     for line in output(READELF, "-SW", path).splitlines():
         match = re.match(r"\s*\[\s*(\d+)\]\s(.*?)\s+PROGBITS\s+([0-9a-f]{16}) ([0-9a-f]+) ([0-9a-f]+) [0-9a-f]+\s+([A-Za-z]*)\s", line)
@@ -56,13 +73,13 @@ def _sections(path):
             yield match[1], match[6], Section(range(start, start + size), offset)
 
 
-def code_sections(path):
+def code_sections(path: str) -> Dict[str, Section]:
     """The code sections by index, PROGBITS with the flags ALLOC and EXECINSTR: the addresses, and where the bytes
     stand in the file."""
     return {index: section for index, flags, section in _sections(path) if "X" in flags}
 
 
-def declaring_sections(path):
+def declaring_sections(path: str) -> Iterator[Section]:
     """The sections of the type 8CF60001, which declare jump tables, in the order of the table. Of what stands in none of the
     types that readelf knows it prints how far behind 80000000 the type is, where the types of programs begin."""
     for line in output(READELF, "-SW", path).splitlines():
@@ -72,16 +89,16 @@ def declaring_sections(path):
             yield Section(range(start, start + size), offset)
 
 
-def read_only_sections(path):
+def read_only_sections(path: str) -> List[Section]:
     """The sections that are read-only data, PROGBITS with ALLOC and without WRITE, in the order of the table."""
     return [section for _, flags, section in _sections(path) if "W" not in flags]
 
 
-def seeds(path):
+def seeds(path: str) -> Dict[int, Optional[bytes]]:
     """The addresses of the function symbols that stand in the code section which they name, and the entry, each
     with its least name that is not empty, by the order of bytes, or None."""
     sections = code_sections(path)
-    names = {entry(path): set()}
+    names: Dict[int, Set[bytes]] = {entry(path): set()}
     for line in output(READELF, "-sW", path).splitlines():
         match = re.match(r"\s*\d+: ([0-9a-f]{16})\s+\S+ (\S+)\s+\S+\s+\S+\s+(?:\[.*\]\s+)?(\S+) ?(.*)$", line)
         if match is None or match[2] != "FUNC" or match[3] not in sections:
@@ -93,7 +110,7 @@ def seeds(path):
     return {address: min(found - {b""}, default=None) for address, found in sorted(names.items())}
 
 
-def instructions(path):
+def instructions(path: str) -> Dict[int, Line]:
     """objdump's reading of each code section, without aliases, by address. It reads a copy without symbols, if one can be made:
     for each address it looks through all symbols, which takes minutes of some files."""
     with tempfile.TemporaryDirectory() as folder:
@@ -103,7 +120,7 @@ def instructions(path):
         return listed(output(OBJDUMP, "-d", "-z", "-M", "no-aliases,numeric", bare if is_made else path))
 
 
-def instructions_from(path, address, section):
+def instructions_from(path: str, address: int, section: Section) -> Dict[int, Line]:
     """objdump's reading of the bytes of a section from an address on, of 64 at the most."""
     with open(path, "rb") as file, tempfile.NamedTemporaryFile() as part:
         file.seek(section.offset + address - section.places.start)
@@ -113,7 +130,7 @@ def instructions_from(path, address, section):
                              f"--adjust-vma={address:#x}", part.name))
 
 
-def listed(text):
+def listed(text: str) -> Dict[int, Line]:
     found = {}
     for line in text.splitlines():
         match = re.match(r"\s*([0-9a-f]+):\t([0-9a-f]{4,8})(?: [0-9a-f ]*)?\t(\S+)\s*(.*)$", line)

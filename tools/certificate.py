@@ -13,7 +13,7 @@ import os
 import re
 import subprocess
 import sys
-from typing import BinaryIO, Dict, Iterator, List, NamedTuple, NoReturn, Optional, Set, Tuple
+from typing import BinaryIO, Dict, Iterator, List, NamedTuple, NoReturn, Optional, Sequence, Set, Tuple, Union
 
 from cfg_report import Block, Edge, ReportError, program_of
 from listing import Flow, Listing
@@ -188,7 +188,7 @@ class Program:
         if at not in self._flows:
             flow = self.listing.flow_at(at)
             table = self.table(at) if flow.kind == "unknown" else None
-            self._flows[at] = Flow("table", table.targets[:self._kept.get(at)]) if table else flow
+            self._flows[at] = Flow("table", targets=tuple(table.targets[:self._kept.get(at)])) if table else flow
         return self._flows[at]
 
     def table(self, at: int) -> Optional[Table]:
@@ -230,14 +230,14 @@ class Program:
         """Where control goes from an instruction within its function, but for the way after a known call."""
         flow = self.flow(term)
         if flow.kind == "table":
-            return flow.to
+            return flow.targets
         ways = () if flow.kind == "call" else (flow.to, flow.fall)
         return tuple(way for way in ways if way is not None)
 
     def targets(self, term: int) -> Tuple[int, ...]:
         """The successors of an instruction, and the target of a call."""
         flow = self.flow(term)
-        return (flow.to,) if flow.kind == "call" else self.successors(term)
+        return (flow.to,) if flow.kind == "call" and flow.to is not None else self.successors(term)
 
     def returns_by_itself(self, term: int) -> bool:
         return self.flow(term).kind in ("return", "unknown", "branch-out")
@@ -245,7 +245,7 @@ class Program:
     def call(self, term: int) -> Optional[Tuple[int, Optional[int]]]:
         """The target of a call of a known address, and where it returns to."""
         flow = self.flow(term)
-        return (flow.to, flow.fall) if flow.kind == "call" else None
+        return (flow.to, flow.fall) if flow.kind == "call" and flow.to is not None else None
 
 
 # ---- what makes a certificate valid
@@ -278,7 +278,7 @@ def cuts_of(program: Program, part: Part) -> Dict[int, int]:
 
 def part_faults(program: Program, part: Part) -> Iterator[str]:
     """What is wrong with a part, by six items; each is asked of every line."""
-    lists = (("ret", part.returns), ("lead", part.leads))
+    lists: Tuple[Tuple[str, Sequence[Union[Return, Lead]]], ...] = (("ret", part.returns), ("lead", part.leads))
     for name, lines in lists:
         at = [one.at for one in lines]
         if at != sorted(set(at)):
@@ -412,7 +412,8 @@ def last_part(listing: Listing, certificate: Certificate) -> Tuple[Program, Part
 def graph(program: Program, part: Part) -> Tuple[Set[Block], Set[Edge]]:
     """The blocks and the edges that a valid part shows. Tail calls are jumps here."""
     leads, returns = {lead.at for lead in part.leads}, {one.at for one in part.returns}
-    blocks, edges = set(), set()
+    blocks: Set[Block] = set()
+    edges: Set[Edge] = set()
     for start in leads:
         at, after = start, program.next(start)
         while after is not None and after not in leads:
@@ -429,14 +430,14 @@ def _kind(program: Program, at: int) -> str:
         return str(program.flow(at).kind)
     if table.is_open:
         return "table-open"
-    return "table" if len(program.flow(at).to) == table.bound else "table-cut"
+    return "table" if len(program.flow(at).targets) == table.bound else "table-cut"
 
 
 def _ways(program: Program, at: int, returns: Set[int]) -> Iterator[Tuple[int, str]]:
     flow = program.flow(at)
     if flow.kind == "table":
-        yield from ((to, "table") for to in flow.to)
-    elif flow.kind == "call":
+        yield from ((to, "table") for to in flow.targets)
+    elif flow.kind == "call" and flow.to is not None:
         yield flow.to, "call"
         if flow.fall is not None and program.term(flow.to) in returns:
             yield flow.fall, "after"

@@ -1,17 +1,11 @@
-#!/usr/bin/env python3
 """Reads the reports of `cfg`, of every kind, and checks them as it reads.
 
-    tools/cfg_report.py [--elf ELF [--tables]] [--sure] REPORT_OR_ELF
-
-says what kind of report it is, how much is in it, and what is wrong with it, if anything is. With `--tables` it lists
-the jump tables: the address of each, the size of its entries, and by number which of them lead to which address; where
-that is outside the function symbol that holds the jump, it says so.
-
-For other scripts there are two ways to read. `read(stream)` gives the heading, each function, block and edge, the live
-registers of each function, and the end of a report one by one, and keeps none of them, so that a report of any size can be read. `load(stream)` keeps all
-of them in one `Report`. Both raise `ReportError`, with the number of the line, where the text is no report by
+There are two ways to read. `read(stream)` gives the heading, each function, block and edge, the live registers of each
+function, and the end of a report one by one, and keeps none of them, so that a report of any size can be read. `load(stream)`
+keeps all of them in one `Report`. Both raise `ReportError`, with the number of the line, where the text is no report by
 docs/REPORT.md. `opened(path)` gives the stream: of a report, of standard input for `-`, or of what `cfg` says of an ELF
-file. Where another kind than `graph` is wanted of an ELF file, it is named. `write(report, file)` writes a report.
+file. Where another kind than `graph` is wanted of an ELF file, it is named. `write(report, file)` writes a report. `run` is
+what scripts begin with. `tools/check_report` is the script that checks a report.
 """
 
 from __future__ import annotations
@@ -726,36 +720,3 @@ def load_path(path: str) -> Report:
     """The whole report of a file, of standard input, or of an ELF file."""
     with naming(path), opened(path) as stream:
         return load(stream)
-
-
-def main() -> int:
-    import reading
-    from tables import described_tables
-    parser = reading.command("Checks a report of cfg.", sure=True)
-    reading.add_elf(parser, "for --tables")
-    parser.add_argument("--tables", action="store_true", help="list jump tables, and which entries lead to which address")
-    words = parser.parse_args()
-    elf = reading.the_elf(words)
-    if words.tables and elf is None:
-        parser.error("--tables needs --elf")
-    report = reading.report(words, words.report, elf, whole=words.tables)
-    if words.tables:
-        assert elf is not None
-        for line in described_tables(elf, report):
-            print(line)
-        return 0
-    wrong = [] if words.edges or words.sure or words.fold else list(report.problems())
-    counts = f"{len(report.functions)} functions, {len(report.blocks)} blocks, {len(report.edges)} edges"
-    if report.kind == "live":
-        counts = f"{len(report.functions)} functions, {sum(map(len, report.lives.values()))} masks"
-    print(f"a report of kind {report.kind}, entry {report.entry:x}: {counts}")
-    for problem in wrong[:50]:
-        print(problem)
-    print(f"{len(wrong)} problems")
-    return 1 if wrong else 0
-
-
-if __name__ == "__main__":
-    # The other modules know this one by its name, and so would have other classes than these.
-    import cfg_report
-    cfg_report.run(cfg_report.main)

@@ -27,7 +27,7 @@ class Record(NamedTuple):
     jump: int
     base: int
     added: int
-    count: int
+    count: int  # type: ignore[assignment]
     size: int
 
 

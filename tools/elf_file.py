@@ -30,7 +30,7 @@ HEADER_SIZE, SECTION_SIZE, SYMBOL_SIZE = 64, 64, 24
 class Header(NamedTuple):
     """A section header, with its place in the table and its name."""
 
-    index: int
+    index: int  # type: ignore[assignment]
     name: bytes
     kind: int
     flags: int
@@ -137,7 +137,8 @@ class File:
         for section in self.headers:
             if section.kind == RELA and section.flags & ALLOC:
                 data = self.data[section.offset:section.offset + section.size]
-                yield from struct.iter_unpack("<QQQ", data[:len(data) // 24 * 24])
+                for place, kind, addend in struct.iter_unpack("<QQQ", data[:len(data) // 24 * 24]):
+                    yield place, kind, addend
 
 
 def _text(strings: bytes, at: int) -> bytes:
@@ -150,6 +151,13 @@ def _text(strings: bytes, at: int) -> bytes:
 
 class Memory(File):
     """A file, and what memory holds of it when it is loaded at its own addresses."""
+
+    code: List[Header]
+    allocated: List[Header]
+    # The section that was found last, most often the next one too: where it begins and ends, and its header.
+    _last_code: Tuple[int, int, Optional[Header]]
+    _starts: List[int]
+    _relro: List[Tuple[int, int]]
 
     def section(self, *names: str) -> Optional[Header]:
         """The first section of one of these names."""
@@ -232,8 +240,7 @@ class Memory(File):
                 raise ReportError(f"{self.path}: section {one.index} does not lie in the file")
         self.code = sorted((one for one in self.sections if one.is_code and one.size), key=lambda one: one.address)
         self._code_starts = [one.address for one in self.code]
-        # The section that was found last: most often it is the next one, too.
-        self._last_code: Tuple[int, int, Optional[Header]] = (1, 0, None)
+        self._last_code = (1, 0, None)
         self.allocated = sorted((one for one in self.sections if one.flags & ALLOC and one.size
                                  and not (one.flags & THREADS and one.kind == NOBITS)), key=lambda one: one.address)
         self._starts = [one.address for one in self.allocated]

@@ -130,7 +130,8 @@ def with_names(file: bytes) -> bytes:
     named, strings = bytearray(file), b"\0" + b"\0".join(_NAMES.values()) + b"\0"
     struct.pack_into("<HH", named, 60, count + 1, count)
     for place in range(table, table + 64 * count, 64):
-        name = _NAMES.get(struct.unpack_from("<4xIQ", file, place), b"\0")
+        kind, flags = struct.unpack_from("<4xIQ", file, place)
+        name = _NAMES.get((kind, flags), b"\0")
         struct.pack_into("<I", named, place, strings.find(name))
     names = Section(STRTAB, data=strings)
     names.offset = len(file) + 64
@@ -388,7 +389,8 @@ def streams_of_both_parities(rng: random.Random) -> bytes:
     for _ in range(rng.choice((2, 30, 1000))):
         short = rng.random() < 0.03
         halves += rng.choice((NOP, RETURN)) if short else [rng.choice((0x0013, 0x0513, 0x0463, 0x006F, 0x00EF))]
-    halves += rng.choice(([], NOP + RETURN, RETURN))
+    ends: List[Halves] = [[], NOP + RETURN, RETURN]
+    halves += rng.choice(ends)
     return file_with(halves, some_symbols(rng, halves, 6) + [Symbol(CODE_AT + 2)])
 
 
@@ -441,7 +443,8 @@ def declared_tables(rng: random.Random) -> bytes:
     halves: Halves = []
     jumps: List[int] = []
     for _ in range(count):
-        halves += rng.choice(([], table_jump(rng.choice((1, 7, None)), DATA_AT, 40), busy_code(rng, 3, 8)))
+        before: List[Halves] = [[], table_jump(rng.choice((1, 7, None)), DATA_AT, 40), busy_code(rng, 3, 8)]
+        halves += rng.choice(before)
         jumps.append(CODE_AT + 2 * len(halves))
         halves += rng.choice((immediate(0x67, 0, 0, 15, 0), [0x8782], immediate(0x67, 0, 6, 28, 0), immediate(0x67, 0, 0, 15, 4), RETURN))
     halves += RETURN * 8
@@ -518,7 +521,8 @@ def calls_from_behind(rng: random.Random) -> bytes:
 def symbols_on_nops(rng: random.Random) -> bytes:
     """One run of instructions that go straight on, with a symbol at each of many places."""
     count = rng.choice((10, 300, 5000))
-    halves = rng.choice((NOP * count, [0x0013] * count)) + rng.choice((RETURN, NOP, short_jump(-20), []))
+    ends: List[Halves] = [RETURN, NOP, short_jump(-20), []]
+    halves = rng.choice((NOP * count, [0x0013] * count)) + rng.choice(ends)
     share = rng.choice((0.1, 1.0))
     symbols = [Symbol(CODE_AT + 2 * place) for place in range(len(halves)) if rng.random() < share]
     rng.shuffle(symbols)

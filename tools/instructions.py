@@ -76,8 +76,8 @@ def row(name: str, opcode: int, funct3: str, funct7: str, rs2: str, operands: st
 def _table() -> Dict[int, List[Row]]:
     rows = [Row("ecall", 0xFFFFFFFF, 0x73, ""), Row("ebreak", 0xFFFFFFFF, 0x100073, "")]
     for item in _ROWS.strip().replace("\n", "|").split("|"):
-        name, opcode, *fields, operands = item.split(" ")
-        rows.append(row(name, int(opcode, 16), *fields, operands))
+        name, code, funct3, funct7, rs2, operands = item.split(" ")
+        rows.append(row(name, int(code, 16), funct3, funct7, rs2, operands))
     for name, number in ATOMIC.items():
         for width, funct3 in (("w", "2"), ("d", "3")):
             rs2, operands = ("0", "d,(s)") if name == "lr" else ("-", "d,t,(s)")

@@ -4,11 +4,14 @@ The listing shares nothing with `cfg`: it is what the checks from outside work b
 so who uses it says what a jump through a register goes through.
 """
 
+from __future__ import annotations
+
 import re
-from collections import namedtuple
+from typing import Dict, FrozenSet, Iterable, List, Mapping, NamedTuple, Optional, Set, Tuple
 
 import binutils
 import extensions
+from binutils import Line, Section
 from elf_file import File
 from instructions import Instruction, decoded
 
@@ -25,11 +28,18 @@ STRAIGHT = re.compile(
     r"f[ls][wd]|f(n?m(add|sub)|add|sub|mul|div|sqrt|sgnj[nx]?|min|max|eq|lt|le|class)\.[sd]|fmv\.[xwd]\.[xwd]|"
     r"fcvt\.([sd]|wu?|lu?)\.([sd]|wu?|lu?)|c\.f[ls]d(sp)?")
 
-# Where one instruction sends control: `to` is a target, `fall` where it goes on or returns to.
-Flow = namedtuple("Flow", "kind to fall", defaults=(None, None))
+
+class Flow(NamedTuple):
+    """Where one instruction sends control: `to` is a target, `fall` where it goes on or returns to. `targets` are those of a
+    jump table, where who uses the listing knows one."""
+
+    kind: str
+    to: Optional[int] = None
+    fall: Optional[int] = None
+    targets: Tuple[int, ...] = ()
 
 
-def by_profile(line):
+def by_profile(line: Line) -> Line:
     """A line of objdump's, or what this project's profile reads there. FENCE and FENCE.I with fields that the standard
     reserves are instructions, as the standard asks of implementations; objdump lists none. An instruction of floating
     point whose rounding mode is reserved is none; objdump lists it, with the mode `unknown`."""
@@ -41,13 +51,13 @@ def by_profile(line):
     return line
 
 
-def jumps(link, register):
+def jumps(link: str, register: str) -> bool:
     """Whether a JALR that is not paired is a jump: one that writes no register, or the end of an entry of a procedure linkage
     table, `jalr t1, t3` (RISC-V psABI)."""
     return link == "x0" or (link, register) == ("x6", "x28")
 
 
-def of_named(line, names):
+def of_named(line: Line, names: FrozenSet[str]) -> Optional[Line]:
     """The line of an instruction of an extension that the file names, or None. objdump may not know it: its registers are those of
     the tables here, first the one that is written, if there is one."""
     found = extensions.decoded(line.word, names)
@@ -63,35 +73,38 @@ def of_named(line, names):
 class Listing:
     """The code sections, seeds and instructions of a file."""
 
-    def __init__(self, path):
+    def __init__(self, path: str) -> None:
         self.path, self.names = path, File(path).extensions
         self.sections = list(binutils.code_sections(path).values())
         self.seeds = list(binutils.seeds(path))
-        self.lines, self.halves, self.by_bytes, self._alone = {}, {}, set(), {}
+        self.lines: Dict[int, Line] = {}
+        self.halves: Dict[int, int] = {}
+        self.by_bytes: Set[int] = set()
+        self._alone: Dict[int, Flow] = {}
         self.add(binutils.instructions(path))
 
-    def line(self, address):
+    def line(self, address: int) -> Line:
         """What stands at a code address. Where objdump lists nothing, since two streams overlap, it reads on from there."""
         if address not in self.lines:
             self.add(self.read_from([address]))
         return self.lines.get(address) or binutils.Line(2, 0, "none", [])
 
-    def flow_at(self, address):
+    def flow_at(self, address: int) -> Flow:
         """Where the instruction at an address sends control; what is no code stops."""
         if address not in self._alone:
             self._alone[address] = self.flow(address, self.line(address)) if self.code(address) is not None else Flow("stop")
         return self._alone[address]
 
-    def read_from(self, addresses):
+    def read_from(self, addresses: Iterable[int]) -> Dict[int, Line]:
         """objdump's reading from addresses on at which it lists no instruction: what it adds, by address."""
-        found = {}
+        found: Dict[int, Line] = {}
         for address in addresses:
             section = self.section(address)
             if section is not None:
                 found.update(binutils.instructions_from(self.path, address, section))
         return {address: line for address, line in found.items() if address not in self.lines}
 
-    def register_alone(self, address):
+    def register_alone(self, address: int) -> Optional[str]:
         """The register through which an instruction jumps to what is in it and to nothing else, if it is no return."""
         line = self.line(address)
         if line.mnemonic == "c.jr":
@@ -102,7 +115,7 @@ class Listing:
             return None
         return None if register in ("x0", "x1", "x5") or self.pair(address, register, 0) is not None else register
 
-    def add(self, lines):
+    def add(self, lines: Mapping[int, Line]) -> None:
         """Notes lines of objdump. What is no instruction by this project's profile has two bytes."""
         for address, line in lines.items():
             line = by_profile(line)
@@ -113,16 +126,16 @@ class Listing:
             of_extension = of_named(line, self.names) if self.names and not known else None
             self.lines[address] = line if known else of_extension or line._replace(length=2, mnemonic="none")
 
-    def section(self, address):
+    def section(self, address: int) -> Optional[Section]:
         """The code section with both bytes of a halfword at an even address, or None."""
         around = (s for s in self.sections if address in s.places and address + 1 in s.places)
         return next(around, None) if address % 2 == 0 else None
 
-    def code(self, address):
+    def code(self, address: int) -> Optional[int]:
         """The address, where it is one of code, or None."""
         return None if self.section(address) is None else address
 
-    def upper(self, address):
+    def upper(self, address: int) -> Optional[Tuple[str, int, bool]]:
         """The register and the upper 20 bits of the AUIPC or LUI at an address, and whether it is an AUIPC, or None.
         This project's profile asks for the four bytes alone, whether or not an instruction of objdump's starts there."""
         if address in self.lines:
@@ -135,9 +148,10 @@ class Listing:
         word = self.halves[address] | self.halves[address + 2] << 16
         return (f"x{word >> 7 & 31}", word >> 12, word & 0x7F == 0x17) if word & 0x7F in (0x17, 0x37) else None
 
-    def pair(self, address, register, offset):
+    def pair(self, address: int, register: str, offset: int) -> Optional[int]:
         """The target of a jump right behind the AUIPC or LUI of its register, or None."""
-        upper = self.upper(address - 4) if address - 4 in self.section(address).places else None
+        section = self.section(address)
+        upper = self.upper(address - 4) if section is not None and address - 4 in section.places else None
         if register == "x0" or upper is None or upper[0] != register:
             return None
         if address - 4 not in self.lines:
@@ -145,7 +159,7 @@ class Listing:
         base = address - 4 if upper[2] else 0
         return (base + ((upper[1] ^ 0x80000) - 0x80000 << 12) + offset) % 2**64 & ~1
 
-    def flow(self, address, line):
+    def flow(self, address: int, line: Line) -> Flow:
         behind, name = address + line.length, line.mnemonic
         if name in BRANCHES:
             taken, fall = self.code(int(line.operands[-1], 16)), self.code(behind)
@@ -159,26 +173,28 @@ class Listing:
             return Flow("stop")
         return Flow("fall", fall=behind)
 
-    def to_known(self, link, target, behind):
-        target = self.code(target)
+    def to_known(self, link: str, address: int, behind: int) -> Flow:
+        target = self.code(address)
         if link == "x0":
             return Flow("unknown" if target is None else "jump", target)
         return Flow("icall" if target is None else "call", target, self.code(behind))
 
-    def through_register(self, address, line, behind):
+    def through_register(self, address: int, line: Line, behind: int) -> Flow:
         if line.mnemonic == "jalr":
-            link, (offset, register) = line.operands[0], re.fullmatch(r"(-?\d+)\((x\d+)\)", line.operands[1]).groups()
+            found = re.fullmatch(r"(-?\d+)\((x\d+)\)", line.operands[1])
+            assert found is not None
+            link, offset, register = line.operands[0], int(found[1]), found[2]
         else:
             link, offset, register = "x0" if line.mnemonic == "c.jr" else "x1", 0, line.operands[0]
-        target = self.pair(address, register, int(offset))
+        target = self.pair(address, register, offset)
         if target is not None:
             return self.to_known(link, target, behind)
         if not jumps(link, register):
             return Flow("icall", fall=self.code(behind))
         if link == "x0" and register in ("x1", "x5"):
             return Flow("return")
-        return self.through_table(address, behind, register, int(offset))
+        return self.through_table(address, behind, register, offset)
 
-    def through_table(self, address, behind, register, offset):
+    def through_table(self, address: int, behind: int, register: str, offset: int) -> Flow:
         """The flow of a jump through a register that is no return: through a table, or unknown."""
         return Flow("unknown")

@@ -1,16 +1,19 @@
 """LLVM's disassembler, for comparisons of instructions that binutils may not know."""
 
+from __future__ import annotations
+
 import re
 import shutil
 import subprocess
 import tempfile
 from pathlib import Path
+from typing import Dict, List, Optional, Sequence, Tuple
 
 LEAST_VERSION = 19
 RV64GC = "+m,+a,+f,+d,+c,+zicsr,+zifencei"
 
 
-def tool(name):
+def tool(name: str) -> Optional[str]:
     """The program of this name, of version 19 or later, or None."""
     for path in (f"{name}-{LEAST_VERSION}", name):
         if shutil.which(path):
@@ -21,7 +24,7 @@ def tool(name):
     return None
 
 
-def missing():
+def missing() -> Optional[str]:
     """What is not installed, or None."""
     for name in ("llvm-objcopy", "llvm-objdump"):
         if tool(name) is None:
@@ -29,27 +32,28 @@ def missing():
     return None
 
 
-def texts(values, size, attributes):
+def texts(values: Sequence[int], size: int, attributes: str) -> List[Optional[str]]:
     """LLVM's text of each instruction of this size in bytes, or None for one that it does not know. A
     halfword is followed by a C.NOP."""
-    padding = b"" if size == 4 else b"\x01\x00"
+    padding, copy, dump = b"" if size == 4 else b"\x01\x00", tool("llvm-objcopy"), tool("llvm-objdump")
+    assert copy is not None and dump is not None
     with tempfile.TemporaryDirectory() as folder:
         binary, made = Path(folder) / "code", Path(folder) / "code.o"
         binary.write_bytes(b"".join(value.to_bytes(size, "little") + padding for value in values))
         subprocess.run(
-            [tool("llvm-objcopy"), "-I", "binary", "-O", "elf64-littleriscv", "--rename-section", ".data=.text,code", binary, made],
+            [copy, "-I", "binary", "-O", "elf64-littleriscv", "--rename-section", ".data=.text,code", binary, made],
             check=True,
         )
         shown = subprocess.run(
-            [tool("llvm-objdump"), "-D", "-z", f"--mattr={RV64GC},{attributes}", "-M", "no-aliases,numeric", made],
+            [dump, "-D", "-z", f"--mattr={RV64GC},{attributes}", "-M", "no-aliases,numeric", made],
             check=True, capture_output=True, text=True,
         ).stdout
-    found = {}
+    found: Dict[int, Tuple[Optional[int], str]] = {}
     for line in shown.splitlines():
         match = re.match(r"\s*([0-9a-f]+):\s+([0-9a-f]+)\s+(.*)$", line)
         if match:
             found[int(match[1], 16)] = (int(match[2], 16), " ".join(match[3].split(" #")[0].split()))
-    answers = []
+    answers: List[Optional[str]] = []
     for place, value in enumerate(values):
         shown_value, text = found.get(4 * place, (None, ""))
         answers.append(text if shown_value == value and not text.startswith("<unknown>") else None)

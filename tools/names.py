@@ -24,7 +24,7 @@ def demangle(wanted: bool) -> None:
         _run.stdout.close()
         _run.wait()
         _run = None
-    tool = next(filter(None, map(shutil.which, TOOLS)), None) if wanted else None
+    tool = next((name for name in TOOLS if shutil.which(name)), None) if wanted else None
     if tool is not None:
         _run = subprocess.Popen([tool], stdin=subprocess.PIPE, stdout=subprocess.PIPE, text=True, bufsize=1)
     elif wanted:

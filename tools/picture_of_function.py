@@ -90,14 +90,14 @@ class FunctionParts:
         if not self.functions:
             raise ReportError("this report has no functions, and one of kind graph is needed")
         try:
-            self.function = cfg_report.find_function(self.functions, self.wanted, self.named)
+            function = cfg_report.find_function(self.functions, self.wanted, self.named)
         except ReportError:
             if not self._holders:
                 raise
             # The function that begins nearest before the address, where several have the block.
-            self.function = max(self._holders, key=lambda one: (one.entry <= self._address, one.entry))
+            function = max(self._holders, key=lambda one: (one.entry <= self._address, one.entry))
             self._is_inside = True
-        self.body = set(self.function.blocks)
+        self.function, self.body = function, set(function.blocks)
 
     def lost(self) -> Optional[Lost]:
         """What is not reached of the function's symbol."""

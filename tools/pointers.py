@@ -17,11 +17,11 @@ OTHER_FORMS = (b".eh_frame", b".eh_frame_hdr", b".gcc_except_table")
 
 def array_entries(elf: Memory) -> List[int]:
     """The functions that run before and after the program, as its arrays list them."""
-    found = []
+    found: List[int] = []
     for section in elf.sections:
         if section.kind in ARRAYS or section.name in (b".preinit_array", b".init_array", b".fini_array", b".ctors", b".dtors"):
             words = (elf.word(at, 8) for at in range(section.address, section.end - 7, 8))
-            found += [word for word in words if word not in (None, 0, 2**64 - 1)]
+            found += [word for word in words if word is not None and word not in (0, 2**64 - 1)]
     return found
 
 

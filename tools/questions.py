@@ -43,7 +43,8 @@ class Questions:
             block = self.places.of(int(wanted, 16)) if all(digit in "0123456789abcdefABCDEF" for digit in wanted) else None
             if block is None:
                 raise
-            return max(self.homes[block.start], key=lambda one: (one.entry <= block.start, one.entry))
+            start = block.start
+            return max(self.homes[start], key=lambda one: (one.entry <= start, one.entry))
 
     def name(self, entry: int) -> str:
         function = self.functions.get(entry)
@@ -155,7 +156,7 @@ class Questions:
             why = [] if function.may_return else staying.why(function)
             doubt = staying.why_doubtful(function.entry)
             text = f": {'; '.join(why)}" if why else " may return"
-            told = {**({"why": why} if why else {}), **({"doubt": doubt} if doubt else {})}
+            told: Dict[str, object] = {name: found for name, found in (("why", why), ("doubt", doubt)) if found}
             yield Answer(f"{name} at {function.entry:x}{text}", {**fields, **told})
 
     def behind(self, wanted: Optional[str]) -> Iterator[Answer]:

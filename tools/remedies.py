@@ -3,7 +3,7 @@
 from __future__ import annotations
 
 import bisect
-from typing import Dict, Iterable, List, Optional, Tuple
+from typing import Dict, Iterable, List, Optional, Set, Tuple
 
 import extensions
 from cfg_report import Block, Report, ReportError
@@ -57,7 +57,7 @@ def what_to_try(path: str, reached: Ranges, has_open_ends: bool) -> str:
 
 def architecture_for(code: Code, report: Report) -> str:
     """The text of an architecture that names what the file names, and the extensions of what is not decoded."""
-    needed = set()
+    needed: Set[str] = set()
     for block in report.blocks.values():
         found = undecoded(code, block)
         needed |= (extensions.names_needed(found[1]) or set()) if found else set()

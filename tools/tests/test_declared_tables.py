@@ -178,7 +178,7 @@ class Told(WithFile):
 
     def test_tables_by_their_entries(self) -> None:
         path = self.path(Record(FIRST, DATA_AT, 0, 3, 8), Record(SECOND, DATA_AT, 0, 3, 8), Record(0x10014, DATA_AT, 0, 3, 7))
-        said = self.said_with("cfg_report.py", "--elf", path, "--tables", path)
+        said = self.said_with("check_report", "--elf", path, "--tables", path)
         self.assertEqual(said[0], "table 20000 of the jump at 10000 in main: table-open, declared, 3 entries of 8 bytes")
         self.assertEqual(said[-2:], ["record of the jump at 10010 in main+0x10, which does not count: no block ends there",
                                      "record of the jump at 10014 in main+0x14, which does not count: its entries have 7 bytes, and not 4 or 8"])

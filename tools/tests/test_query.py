@@ -104,7 +104,7 @@ class Edges(InFolder):
         self.assertIn({"record": "edge", "from": "0000000000010004", "to": "0000000000010018", "kind": "jump"}, items)
         function = next(item for item in items if item.get("name") == "f")
         self.assertEqual(function["blocks"], ["0000000000010000", "0000000000010004", "0000000000010018"])
-        for name, words in (("summary", [path]), ("draw", [path, "f"]), ("call_graph", [path]), ("cfg_report.py", [path]), ("coverage", ["--trace", known, path])):
+        for name, words in (("summary", [path]), ("draw", [path, "f"]), ("call_graph", [path]), ("check_report", [path]), ("coverage", ["--trace", known, path])):
             with self.subTest(name=name):
                 self.assertEqual(self.run_main(name, *words, "--edges", known)[0], 0)
         self.assertEqual(self.run_main("diff_reports", path, path, "--edges", known, known)[0], 0)

@@ -26,11 +26,11 @@ class Open(InFolder):
         self.path = self.file("report", small.report(FUNCTIONS, BLOCKS, EDGES))
 
     def test_entries(self) -> None:
-        said = self.said("cfg_report.py", "--tables", "--elf", self.elf_path, self.path)
+        said = self.said("check_report", "--tables", "--elf", self.elf_path, self.path)
         self.assertEqual(said, [
             "table 20000 of the jump at 10014 in f+0x14: table-open, 4 entries of 4 bytes",
             "    10018 f+0x18: 0, 2", "    1001c f+0x1c: 1", "    10020 g: 3, not sure: outside the symbol"])
-        said = self.said("cfg_report.py", "--tables", "--sure", "--elf", self.elf_path, self.path)
+        said = self.said("check_report", "--tables", "--sure", "--elf", self.elf_path, self.path)
         self.assertEqual(said[0], "table 20000 of the jump at 10014 in f+0x14: table-open, 3 entries of 4 bytes")
         self.assertEqual(len(said), 3)
 
@@ -38,7 +38,7 @@ class Open(InFolder):
         code = small.code("00100793 02A7E063 00020737 00351513 00E50533 00053783 00078067 00008067 00008067 00008067")
         parts = [Part(".text", CODE, 0x10000, code), Part(".rodata", READ_ONLY, 0x20000, small.doublewords(0x1001C, 0x10020, 0x1001C))]
         elf = self.file("elf8", small.elf(parts, [("f", 0x10000, len(code))]))
-        said = self.said("cfg_report.py", "--tables", "--elf", elf, self.row(33))
+        said = self.said("check_report", "--tables", "--elf", elf, self.row(33))
         self.assertEqual(said, ["table 20000 of the jump at 10018 in f+0x18: table, 2 entries of 8 bytes", "    1001c f+0x1c: 0", "    10020 f+0x20: 1"])
 
     def test_marks(self) -> None:
@@ -58,7 +58,7 @@ class Open(InFolder):
         self.assertEqual(len(edges), 2)
         self.assertFalse(any("->" in line for line in self.said("call_graph", "--sure", self.path)))
         self.assertNotIn("out10000", "\n".join(self.said("draw", "--sure", self.path, "f")))
-        self.assertIn("2 functions, 4 blocks, 2 edges", self.said("cfg_report.py", "--sure", self.path)[0])
+        self.assertIn("2 functions, 4 blocks, 2 edges", self.said("check_report", "--sure", self.path)[0])
 
     def test_blocks_behind_what_is_not_sure_go_too(self) -> None:
         # The table leads into the middle of g, whose call of h is then one of f.

@@ -26,7 +26,7 @@ from cfg_report import ReportError
 from elf_file import Code, Elf, gaps, joined
 
 SCRIPTS = {
-    "cfg_report.py": ["REPORT"], "summary": ["REPORT"], "to_json": ["REPORT"], "draw": ["REPORT", "10000"],
+    "check_report": ["REPORT"], "summary": ["REPORT"], "to_json": ["REPORT"], "draw": ["REPORT", "10000"],
     "call_graph": ["REPORT"], "diff_reports": ["REPORT", "REPORT"], "unresolved": ["ELF", "REPORT"],
     "query": ["where", "REPORT", "10000"], "coverage": ["--trace", "TRACE", "REPORT"],
 }

@@ -29,8 +29,8 @@ returns-in-Err-clause-answer g c =
 pub run_by-requires-clause-size : goal.run_by-requires-clause-size
 run_by-requires-clause-size g c = can-be-made (map (λ w. string_bytes w) c.args.words.now) (asked c.in-Ok.request) c.in-Ok.ensures.request
 
-pub run_by-2-requires-clause-size : goal.run_by-2-requires-clause-size
-run_by-2-requires-clause-size g c = can-be-made (map (λ w. string_bytes w) c.args.words.now) (asked c.in-Ok.request) c.in-Ok.ensures.request
+pub run_by-requires-2-clause-size : goal.run_by-requires-2-clause-size
+run_by-requires-2-clause-size g c = can-be-made (map (λ w. string_bytes w) c.args.words.now) (asked c.in-Ok.request) c.in-Ok.ensures.request
 
 pub returns-in-Err-clause-input : goal.returns-in-Err-clause-input
 returns-in-Err-clause-input g c =
