@@ -141,13 +141,14 @@ def listed(text: str) -> Dict[int, Line]:
     return found
 
 
-def knows(extension):
+def knows(extension: str) -> bool:
     """Whether the assembler knows an extension, and so objdump of the same package."""
-    done = subprocess.run([next(filter(shutil.which, ASSEMBLER)), f"-march=rv64gc_{extension}", "-o", os.devnull, "-"], input="", capture_output=True, text=True)
+    tool = next(filter(shutil.which, ASSEMBLER))
+    done = subprocess.run([tool, f"-march=rv64gc_{extension}", "-o", os.devnull, "-"], input="", capture_output=True, text=True)
     return done.returncode == 0
 
 
-def texts(values, extensions):
+def texts(values: Sequence[int], extensions: Sequence[str]) -> List[Optional[str]]:
     """objdump's text of each word of four bytes in a file that names these extensions beyond RV64GC, or None for one that it does
     not know or that has an operand which it does not know, as a rounding mode."""
     named = "_".join(["rv64gc", *extensions])
