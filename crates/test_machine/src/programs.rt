@@ -90,21 +90,30 @@ const NAMES_HEADER: usize = 0x3C8;
 /// `sh1add x5, x6, x7`, and `c.lbu x8, 0(x8)` with zeros after it.
 const EXTENDED: [[u8; 4]; 2] = [[0xB3, 0x22, 0x73, 0x20], [0x00, 0x80, 0, 0]];
 
+/// Puts these bytes into a file, from the offset `at` on, as far as it goes.
+fn put(file: &mut [u8], at: usize, bytes: &[u8]) {
+    for i in 0..bytes.len() {
+        if let Some(byte) = file.get_mut(at.saturating_add(i)) {
+            *byte = bytes[i];
+        }
+    }
+}
+
 /// An instruction of an extension is illegal, unless the file names the extension.
 #[test]
 fn instructions_of_extensions(rt: HostRuntime) -> Result<(), Fail> {
     let alloc = rt.alloc();
     for word in EXTENDED {
-        let mut file = FILE;
-        file[INSTRUCTION..INSTRUCTION + 4].copy_from_slice(&word);
+        let mut file = Vec::from_slice(alloc, &FILE)?;
+        put(&mut file, INSTRUCTION, &word);
         let image = Image::parse(alloc, Vec::from_slice(alloc, &file)?)?;
         holds(
             &rt,
             ends_so(alloc, &image, (0x100B0, Trap::Illegal, 2, 0x7FFF_0000)),
         );
-        file[NAMES..NAMES + 30].copy_from_slice(&ATTRIBUTES);
-        file[NAMES_HEADER + 4..NAMES_HEADER + 8].copy_from_slice(&0x7000_0003_u32.to_le_bytes());
-        let image = Image::parse(alloc, Vec::from_slice(alloc, &file)?)?;
+        put(&mut file, NAMES, &ATTRIBUTES);
+        put(&mut file, NAMES_HEADER + 4, &0x7000_0003_u32.to_le_bytes());
+        let image = Image::parse(alloc, file)?;
         holds(
             &rt,
             ends_so(alloc, &image, (0x100B0, Trap::Unsupported, 2, 0x7FFF_0000)),
