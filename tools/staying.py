@@ -6,7 +6,7 @@ is not to be relied on if such an end is one of these, which the scripts call do
 - an instruction that is not decoded, as one of an extension that the file does not name;
 - WFI, MRET, SRET or SFENCE.VMA, after which control does go on, there or elsewhere;
 - a call after which a landing pad stands, where what it throws is caught;
-- the code of Go's `morestack`, which comes back to its caller by ways of its own;
+- the code of Go's `morestack` and `mcall`, which come back to their callers by ways of their own;
 - an end of the code.
 
 What may be false by one of them is every function that may return if they did, through calls and tail calls.
@@ -25,7 +25,8 @@ from frames import frames, landing_pads
 from instructions import UNIMP
 from values import Code
 
-MORESTACK = (b"runtime.morestack", b"runtime.morestack_noctxt", b"runtime.morestack.abi0", b"runtime.morestack_noctxt.abi0")
+OF_GO = {f"runtime.{name}{end}".encode(): name.partition("_")[0] for name in ("morestack", "morestack_noctxt", "mcall") for end in ("", ".abi0")}
+OF_ITS_OWN = "which comes back by ways of its own"
 # Instructions of privileged modes that are not decoded, and after which control goes on to the next one.
 GOES_ON = ("wfi", "sfence.vma")
 # How many calls a chain of reasons names before it is cut short, and how many reasons are given of one function.
@@ -108,8 +109,8 @@ class Staying:
     def _doubts(self) -> Iterator[Tuple[int, Doubt]]:
         """The blocks whose ends are doubtful."""
         for entry, function in self.functions.items():
-            if function.name in MORESTACK and entry in self.report.blocks:
-                yield entry, Doubt(entry, entry, "it is Go's morestack, which comes back by ways of its own")
+            if function.name in OF_GO and not function.may_return and entry in self.report.blocks:
+                yield entry, Doubt(entry, entry, f"it is Go's {OF_GO[function.name]}, {OF_ITS_OWN}")
         for block in self.report.blocks.values():
             what = self._what(block)
             if what is not None:
@@ -255,16 +256,16 @@ def advice(staying: Staying, architecture: str) -> List[str]:
     architecture is given that names all that is decoded nowhere."""
     doubts = [doubt for _, doubt in staying.doubtful()]
     path = staying.elf.path if staying.elf else "ELF"
-    lists = []
-    if any("morestack" in doubt.what for doubt in doubts):
-        lists.append(f"{next(doubt for doubt in doubts if 'morestack' in doubt.what).function:x}")
+    lists = [f" {callee:x}" for callee in sorted({doubt.function for doubt in doubts if OF_ITS_OWN in doubt.what})]
     if any(map(_is_passed, doubts)):
         lists.append("")
     found = []
     if any("is caught" in doubt.what for doubt in doubts):
         found.append(f"tools/add_entries {path} -o more.elf --landing-pads")
-    for function in lists:
-        found += [f"tools/query behind {path} {function}".rstrip() + " > behind.list", f"tools/add_entries {path} -o more.elf --list behind.list"]
+    for number, function in enumerate(lists):
+        found.append(f"tools/query behind {path}{function} {'>>' if number else '>'} behind.list")
+    if lists:
+        found.append(f"tools/add_entries {path} -o more.elf --list behind.list")
     if any("of the extension" in doubt.what for doubt in doubts):
         found.append(f"tools/add_entries {path} -o more.elf --arch {architecture}")
     return found

@@ -70,6 +70,16 @@ class Doubts(InFolder):
         text = "\n".join(self.said("unresolved", self.words[1], self.words[2]))
         self.assertIn(f"    tools/query behind {self.words[1]} 10008 > behind.list\n    tools/add_entries {self.words[1]} -o more.elf --list behind.list", text)
 
+    def test_each_way_of_go(self) -> None:
+        code = small.code(CALL_8, RET, "0000006F", "004000EF", "0000006F")
+        functions = "10000 no-return f: 10000, 10008 no-return runtime.mcall: 10008, 1000c no-return g: 1000c, 10010 no-return runtime.morestack.abi0: 10010"
+        said = self.asked(code, functions, "10000 10004 call, 10008 1000c jump, 1000c 10010 call, 10010 10014 jump",
+                          "10000 10008 call, 10008 10008 jump, 1000c 10010 call, 10010 10010 jump",
+                          [("f", 0x10000, 8), ("runtime.mcall", 0x10008, 4), ("g", 0x1000C, 4), ("runtime.morestack.abi0", 0x10010, 4)])
+        self.assertIn("it is Go's mcall, which comes back by ways of its own", "\n".join(said))
+        text = "\n".join(self.said("unresolved", self.words[1], self.words[2]))
+        self.assertIn(f"behind {self.words[1]} 10008 > behind.list\n    tools/query behind {self.words[1]} 10010 >> behind.list\n    tools/add_entries", text)
+
     def test_behind_wfi(self) -> None:
         self.ends("10500073")
         self.assertEqual(self.said("query", "behind", *self.words), ["behind_1000c 1000c"])
