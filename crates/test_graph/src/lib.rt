@@ -9,7 +9,6 @@
 //! - `yardstick`: their graphs, as `test_yardstick` builds them.
 //! - `file_code`: the code of a file as a program, against walks that decode each instruction.
 //! - `reached_graphs`: the graphs of the code of files over arrays, against the yardstick.
-//! - `closed_marks`: the marks of their closed states, made by one worker and by several.
 //! - `address_maps`: many addresses of a map, of one page and of several, near and far.
 //! - `state_program`: a small program, for the tests of changes and of work that is left.
 //! - `state_changes`: each change of a state on it, one after the other.
@@ -23,8 +22,6 @@
 mod address_maps;
 #[cfg(test)]
 mod asserts;
-#[cfg(test)]
-mod closed_marks;
 #[cfg(test)]
 mod closed_states;
 #[cfg(test)]
