@@ -1,4 +1,4 @@
-/* Preloaded into a program by tools/sweep_memory: counts the requests for memory, and refuses one of them, or it and all
+/* Preloaded into a program by tools/maintain/sweep_memory: counts the requests for memory, and refuses one of them, or it and all
  * behind it. REFUSE_STATE names a file of three numbers of 64 bits, in the machine's order: how many requests there were,
  * which one is refused, counted from 1, and the last that is. */
 #include <errno.h>

@@ -5,9 +5,9 @@ from __future__ import annotations
 from typing import Dict, List, Optional, Set
 
 import rows  # noqa: F401  it puts the folder of the scripts on the path
-from certificate import Certificate, Lead, Part, Program, Return, cuts_of
-from listing import Listing
-from pattern_tables import Tables
+from cfgtools.checks.certificate import Certificate, Lead, Part, Program, Return, cuts_of
+from cfgtools.checks.listing import Listing
+from cfgtools.checks.pattern_tables import Tables
 
 
 def made(path: str) -> Certificate:

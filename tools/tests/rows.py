@@ -8,8 +8,14 @@ from pathlib import Path
 from typing import Dict, List, NamedTuple, Tuple
 
 TOOLS = Path(__file__).resolve().parent.parent
+MAINTAIN = TOOLS / "maintain"
 sys.path.insert(0, str(TOOLS))
 sys.dont_write_bytecode = True
+
+
+def script_path(name: str) -> Path:
+    """Where a script is: among those that users run, or among those for maintainers."""
+    return next(it for it in (TOOLS / name, MAINTAIN / name) if it.is_file())
 
 
 class Row(NamedTuple):

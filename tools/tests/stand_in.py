@@ -11,9 +11,9 @@ from typing import Dict, List, Set, Tuple
 sys.dont_write_bytecode = True
 sys.path.insert(0, str(Path(__file__).resolve().parent.parent))
 
-from declared_tables import Declared, jump_register
-from decoding import UNKNOWN, Insn, decode
-from elf_file import Memory
+from cfgtools.elf.declared_tables import Declared, jump_register
+from cfgtools.elf.elf_file import Memory
+from cfgtools.isa.decoding import UNKNOWN, Insn, decode
 
 EXITS = ("return", "unknown", "branch-out")
 

@@ -11,13 +11,13 @@ from pathlib import Path
 from typing import Dict, List, Sequence, Tuple
 
 import rows
-import cfg_report
+from cfgtools.reports import cfg_report
 import small_elf
-from cfg_report import ReportError
-from declared_tables import Declared, Record
-from elf_file import Memory
-from frames import Frame, frames, landing_pads
-from hostile import NOP, RETURN, Halves, add, branch, immediate, jump, short_jump, upper
+from cfgtools.elf.declared_tables import Declared, Record
+from cfgtools.elf.elf_file import Memory
+from cfgtools.elf.frames import Frame, frames, landing_pads
+from cfgtools.making.hostile import NOP, RETURN, Halves, add, branch, immediate, jump, short_jump, upper
+from cfgtools.reports.cfg_report import ReportError
 from small_elf import ALLOC, CODE_AT, DATA_AT, INIT_ARRAY, NOBITS, RELA, WRITE, Part, code, file_of, symbols, words
 from test_tools import InFolder
 
@@ -445,7 +445,7 @@ class Written(WithFile):
         os.chmod(path, 0o755)
         self.added(path, "--list", self.file("list", b"10002"))
         self.assertEqual(os.stat(self.folder / "out").st_mode & 0o777, 0o755)
-        import added_symbols
+        from cfgtools.elf import added_symbols
         largest = added_symbols.LARGEST
         self.addCleanup(setattr, added_symbols, "LARGEST", largest)
         added_symbols.LARGEST = len(Path(path).read_bytes()) + 10

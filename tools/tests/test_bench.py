@@ -13,12 +13,12 @@ from typing import Dict, List, Optional
 from unittest import mock
 
 import rows
-import binutils
-import cfg_report
-import contrived
-from elf_file import Elf
-from hostile import with_names
-from made import made_with_functions
+from cfgtools.checks import binutils
+from cfgtools.elf.elf_file import Elf
+from cfgtools.making import contrived
+from cfgtools.making.hostile import with_names
+from cfgtools.making.made import made_with_functions
+from cfgtools.reports import cfg_report
 from test_tools import script
 
 DUMP = rows.TOOLS.parent / "crates" / "dump_threads" / "out" / "dump_threads"
@@ -63,12 +63,12 @@ class Contrived(unittest.TestCase):
         self.path.write_bytes(with_names(file))
         report = Path(self.path).with_suffix(".report")
         report.write_bytes(subprocess.run([sys.executable, "-B", str(rows.TOOLS / "tests" / "stand_in.py"), str(self.path)], capture_output=True).stdout)
-        command = [sys.executable, "-B", str(rows.TOOLS / "compare_live"), "--report", str(report), "--print", str(self.path)]
+        command = [sys.executable, "-B", str(rows.MAINTAIN / "compare_live"), "--report", str(report), "--print", str(self.path)]
         text = subprocess.run(command, capture_output=True).stdout
         return list(cfg_report.load(io.BytesIO(text)).lives.values())
 
     def test_words(self) -> None:
-        command = [sys.executable, "-B", str(rows.TOOLS / "contrived.py")]
+        command = [sys.executable, "-B", str(rows.MAINTAIN / "contrived")]
         self.assertEqual(subprocess.run([*command, "rising", "5", str(self.path)]).returncode, 0)
         self.assertEqual(self.path.read_bytes(), contrived.rising(5))
         done = subprocess.run([*command, "no-shape", "5", str(self.path)], capture_output=True, text=True)
@@ -92,7 +92,7 @@ class Bench(unittest.TestCase):
     def said(self, wanted: str, *words: str) -> List[List[str]]:
         """The cells of the table."""
         cfg = self.program("cfg", f"[ $# = 0 ] && exit 1\necho \"$@\" >>'{self.folder}/words'\nexit 0")
-        command = [sys.executable, "-B", str(rows.TOOLS / "bench"), "--small", "--only", wanted, *words]
+        command = [sys.executable, "-B", str(rows.MAINTAIN / "bench"), "--small", "--only", wanted, *words]
         environment = dict(os.environ, CFG=cfg, PATH=str(self.folder))
         done = subprocess.run(command, env=environment, capture_output=True, text=True)
         self.assertEqual((done.returncode, done.stderr), (0, ""))
@@ -144,7 +144,7 @@ class WorkersOf(unittest.TestCase):
         path = Path(folder) / "made.elf"
         path.write_bytes(made_with_functions(4))
         environment = dict(os.environ, **({"DUMP_THREADS": str(program)} if program else {}))
-        command = [sys.executable, "-B", str(rows.TOOLS / "bench"), "--workers-of", str(workers), str(path)]
+        command = [sys.executable, "-B", str(rows.MAINTAIN / "bench"), "--workers-of", str(workers), str(path)]
         return subprocess.run(command, env=environment, capture_output=True, text=True)
 
     def answering(self, folder: str, text: str, status: int = 0) -> Path:
@@ -191,7 +191,7 @@ class LivesOf(unittest.TestCase):
         path = Path(folder) / "row.elf"
         path.write_bytes(rows.elf(40))
         environment = dict(os.environ, **({"DUMP_THREADS": str(program)} if program else {}))
-        command = [sys.executable, "-B", str(rows.TOOLS / "bench"), "--lives-of", str(path)]
+        command = [sys.executable, "-B", str(rows.MAINTAIN / "bench"), "--lives-of", str(path)]
         return subprocess.run(command, env=environment, capture_output=True, text=True)
 
     def answering(self, folder: str, script: str) -> Path:

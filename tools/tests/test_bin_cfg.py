@@ -56,8 +56,7 @@ class BinCfg(unittest.TestCase):
         self.addCleanup(folder.cleanup)
         self.top = Path(folder.name, "a folder")
         shutil.copytree(TOP / "bin", self.top / "bin")
-        (self.top / "tools").mkdir()
-        shutil.copy(TOP / "tools" / "sources.py", self.top / "tools")
+        shutil.copytree(rows.TOOLS / "cfgtools", self.top / "tools" / "cfgtools", ignore=shutil.ignore_patterns("__pycache__"))
         (self.top / "path").mkdir()
         for name in (*LIBRARIES, "cfg", "cfg_walk"):
             (self.top / "crates" / name / "src").mkdir(parents=True)

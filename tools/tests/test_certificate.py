@@ -12,11 +12,11 @@ from unittest import mock
 
 import rows
 import small
-import binutils
-import certificate as certificates
+from cfgtools.checks import certificate as certificates
+from cfgtools.checks import binutils
 import naive_certificates
-from certificate import Certificate, Lead, Part, Return
-from listing import Listing
+from cfgtools.checks.certificate import Certificate, Lead, Part, Return
+from cfgtools.checks.listing import Listing
 from test_tools import InFolder
 
 # The program, if it is built.

@@ -9,8 +9,8 @@ import unittest
 from typing import List
 
 import rows
-import cfg_report
-from cfg_report import Block, Edge, End, Function, Heading, ReportError
+from cfgtools.reports import cfg_report
+from cfgtools.reports.cfg_report import Block, Edge, End, Function, Heading, ReportError
 
 
 def load(text: bytes) -> cfg_report.Report:

@@ -7,8 +7,8 @@ import unittest
 from typing import List, Sequence, Tuple
 
 import small
-from elf_file import Memory
-import cfg_report
+from cfgtools.elf.elf_file import Memory
+from cfgtools.reports import cfg_report
 from test_tools import InFolder, script
 
 # A branch, a call, a return of two bytes before it, a table of one kept entry that may have more, and a stop.

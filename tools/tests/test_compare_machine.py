@@ -7,7 +7,7 @@ import stat
 import unittest
 
 import rows
-import binutils
+from cfgtools.checks import binutils
 from test_tools import InFolder, script
 
 DUMP = rows.TOOLS.parent / "crates" / "dump_instructions" / "out" / "dump_instructions"

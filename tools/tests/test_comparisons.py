@@ -12,8 +12,8 @@ import tempfile
 import unittest
 
 import rows
-import binutils
-from elf_file import Elf
+from cfgtools.checks import binutils
+from cfgtools.elf.elf_file import Elf
 from test_tools import InFolder, script
 
 TABLES = script("compare_tables")
@@ -24,7 +24,7 @@ class NoProgram(unittest.TestCase):
     def test_a_program_that_is_not_there(self) -> None:
         for name, *words in (("compare_blocks",), ("compare_decoder",), ("compare_expander",), ("compare_seeds",), ("compare_tables", "--dump")):
             with self.subTest(name=name):
-                done = subprocess.run([sys.executable, "-B", str(rows.TOOLS / name), *words, "/not/there"], capture_output=True, text=True)
+                done = subprocess.run([sys.executable, "-B", str(rows.script_path(name)), *words, "/not/there"], capture_output=True, text=True)
                 if "skipped" not in done.stdout:
                     self.assertEqual(done.returncode, 2)
                     self.assertIn(f"{name}: no program /not/there", done.stdout + done.stderr)
@@ -67,7 +67,7 @@ class WrittenTables(unittest.TestCase):
 
 class ManyFunctions(InFolder):
     def made(self, *words: str) -> "subprocess.CompletedProcess[str]":
-        return subprocess.run(["sh", str(rows.TOOLS / "many_functions"), *words], capture_output=True, text=True)
+        return subprocess.run(["sh", str(rows.MAINTAIN / "many_functions"), *words], capture_output=True, text=True)
 
     def test_words(self) -> None:
         for words in ((), ("3", "flat"), ("x", "flat", "f"), ("3", "wide", "f")):

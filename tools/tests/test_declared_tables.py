@@ -8,12 +8,12 @@ import unittest
 from typing import Dict, List, Tuple
 
 import small_elf
-from added_symbols import with_symbols
-from cfg_report import ReportError
-from declared_tables import COPIES, KIND, NAME, Declared, Declaring, Record, Wanted, free_address, jump_register, packed, records
-from declaring import listed
-from elf_file import Memory
-from hostile import NOP, RETURN, Halves, immediate, upper
+from cfgtools.elf.added_symbols import with_symbols
+from cfgtools.elf.declared_tables import COPIES, KIND, NAME, Declared, Declaring, Record, Wanted, free_address, jump_register, packed, records
+from cfgtools.elf.elf_file import Memory
+from cfgtools.entries.declaring import listed
+from cfgtools.making.hostile import NOP, RETURN, Halves, immediate, upper
+from cfgtools.reports.cfg_report import ReportError
 from small_elf import ALLOC, CODE_AT, DATA_AT, WRITE, Part, code, symbols, words
 from test_add_entries import JUMP_A5, WithFile
 
@@ -200,8 +200,7 @@ class FromOutside(WithFile):
     """What the checks from outside read, by readelf and objdump."""
 
     def test_the_same_is_read(self) -> None:
-        import listing
-        import pattern_tables
+        from cfgtools.checks import listing, pattern_tables
         found = [Record(FIRST, DATA_AT, 0, 2, 8), Record(SECOND, DATA_AT + 8, 0, 2**32 - 1, 8), Record(FIRST, DATA_AT, 0, 1, 8)]
         wrong = [Record(0x10014, DATA_AT, 0, 1, 8), Record(0x10016, DATA_AT + 4, 0, 1, 8)]
         path = self.elf_file([code(TEXT), Part(".rodata", address=DATA_AT, data=ENTRIES), section(*found), section(*wrong)])
@@ -216,8 +215,7 @@ class FromOutside(WithFile):
         self.assertEqual(pattern_tables.cuts({FIRST: first, SECOND: second}), {FIRST: 1})
 
     def test_certificates(self) -> None:
-        import certificate
-        import listing
+        from cfgtools.checks import certificate, listing
         import naive_certificates
         found = [Record(FIRST, DATA_AT, 0, 3, 8), Record(0x10014, DATA_AT, 0, 3, 8)]
         path = self.elf_file([code(TEXT), Part(".rodata", address=DATA_AT, data=ENTRIES), section(*found)])

@@ -9,17 +9,15 @@ import unittest
 from typing import List, Optional
 
 import rows
-import architecture
-import binutils
-import decoding
-import extensions
-import listing
+from cfgtools.checks import binutils, listing
+from cfgtools.elf import architecture
+from cfgtools.isa import decoding, extensions
 import small
 import small_elf
-from elf_file import Elf, Memory
-from hostile import RETURN
-from listing import Listing
-from pattern_tables import Table, Tables
+from cfgtools.checks.listing import Listing
+from cfgtools.checks.pattern_tables import Table, Tables
+from cfgtools.elf.elf_file import Elf, Memory
+from cfgtools.making.hostile import RETURN
 from small_elf import Part, code
 from test_add_entries import WithFile
 from test_tools import InFolder, script

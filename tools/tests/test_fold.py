@@ -6,8 +6,8 @@ import unittest
 
 import rows
 import small
-from cfg_report import Function
-from changed_graph import folded, is_guess
+from cfgtools.reports.cfg_report import Function
+from cfgtools.reports.changed_graph import folded, is_guess
 from test_cfg_report import load
 from test_tools import InFolder
 

@@ -14,8 +14,8 @@ from pathlib import Path
 from typing import List
 
 import rows
-import hostile
-from elf_file import Elf
+from cfgtools.elf.elf_file import Elf
+from cfgtools.making import hostile
 
 GOOD = rows.report(1)
 USAGE = "[ $# = 0 ] && exit 1"
@@ -86,7 +86,7 @@ class Fuzz(unittest.TestCase):
         program.write_text(f"#!/bin/sh\n{USAGE}\n{script}\n")
         program.chmod(0o755)
         (self.folder / "report").write_bytes(GOOD)
-        command = [sys.executable, "-B", str(rows.TOOLS / "fuzz"), "--count", "3", "--workers", "1,4"]
+        command = [sys.executable, "-B", str(rows.MAINTAIN / "fuzz"), "--count", "3", "--workers", "1,4"]
         environment = dict(os.environ, CFG=str(program))
         done = subprocess.run(command, cwd=self.folder, env=environment, capture_output=True, text=True)
         self.assertEqual((done.returncode, done.stderr), (status, ""))
@@ -118,7 +118,7 @@ class Fuzz(unittest.TestCase):
 
     def test_walks(self) -> None:
         program = self.folder / "cfg_walk"
-        command = [sys.executable, "-B", str(rows.TOOLS / "fuzz"), "--program", "cfg_walk", "--steps", "7", "--count", "2"]
+        command = [sys.executable, "-B", str(rows.MAINTAIN / "fuzz"), "--program", "cfg_walk", "--steps", "7", "--count", "2"]
         environment = dict(os.environ, CFG_WALK=str(program))
         for script, status, told in (
             ("[ $1 = 7 ] && printf 'at 0000000000010000\\nend steps\\n'", 0, "0 2 times"),
@@ -126,7 +126,7 @@ class Fuzz(unittest.TestCase):
             ("echo 'cfg_walk: malformed: Short' >&2; exit 2", 0, "2 Short 2 times"),
             ("printf 'at 0000000000010000\\n'", 1, "its trace is none: line 1: the trace is cut off"),
             ("echo 'cfg: malformed: Short' >&2; exit 2", 1, "status 2"),
-            ("exit 4", 1, "again: tools/fuzz --seed 1 --first 0 --count 1 --program cfg_walk --steps 7"),
+            ("exit 4", 1, "again: tools/maintain/fuzz --seed 1 --first 0 --count 1 --program cfg_walk --steps 7"),
         ):
             with self.subTest(script):
                 program.write_text(f"#!/bin/sh\n{USAGE}\n{script}\n")
@@ -136,7 +136,7 @@ class Fuzz(unittest.TestCase):
                 self.assertIn(told, done.stdout)
 
     def test_no_program(self) -> None:
-        command = [sys.executable, "-B", str(rows.TOOLS / "fuzz")]
+        command = [sys.executable, "-B", str(rows.MAINTAIN / "fuzz")]
         done = subprocess.run(command, env=dict(os.environ, CFG="/nowhere/cfg"), capture_output=True)
         self.assertEqual((done.returncode, done.stderr), (2, b"fuzz: /nowhere/cfg: No such file or directory\n"))
 
@@ -169,7 +169,7 @@ class Sweep(unittest.TestCase):
             line = f"{name}: out of memory\\n"
             words = [f"-DWITHOUT_FIRST={without_first}", f'-DLINE="{line}"', f"-DLENGTH={len(line) - 1}"]
             subprocess.run(["cc", *words, "-x", "c", "-", "-o", program], input=ASKS, text=True, check=True)
-            command = [sys.executable, "-B", str(rows.TOOLS / "sweep_memory"), "--program", name, "--workers", "1"]
+            command = [sys.executable, "-B", str(rows.MAINTAIN / "sweep_memory"), "--program", name, "--workers", "1"]
             return subprocess.run(command, env={**os.environ, name.upper(): program}, capture_output=True, text=True)
 
     def test_a_program(self) -> None:

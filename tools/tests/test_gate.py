@@ -162,7 +162,7 @@ class TryEdits(unittest.TestCase):
         file.write_text(text)
 
     def edits(self, *words: str) -> "subprocess.CompletedProcess[str]":
-        command = [sys.executable, str(self.top / "tools" / "try_edits"), "--results", str(self.top / "kept"), *words]
+        command = [sys.executable, str(self.top / "tools" / "maintain" / "try_edits"), "--results", str(self.top / "kept"), *words]
         path = f"{self.top}{os.pathsep}{os.environ['PATH']}"
         return subprocess.run(command, env=dict(os.environ, PATH=path), capture_output=True, text=True)
 
@@ -248,7 +248,7 @@ class CiRun(unittest.TestCase):
         for name in (".ci", "bin"):
             shutil.copytree(rows.TOOLS.parent / name, self.top / name)
         (self.top / "tools" / "tests").mkdir(parents=True)
-        shutil.copy(rows.TOOLS / "sources.py", self.top / "tools")
+        shutil.copytree(rows.TOOLS / "cfgtools", self.top / "tools" / "cfgtools", ignore=shutil.ignore_patterns("__pycache__"))
         (self.top / "tools" / "tests" / "test_one.py").write_text(OWN_TEST.format(passes))
         for name in ("cfg", "cfg_one", "cfg_walk", "cfg_check"):
             (self.top / "crates" / name / "src").mkdir(parents=True)

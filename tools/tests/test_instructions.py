@@ -5,8 +5,8 @@ from __future__ import annotations
 import unittest
 
 import rows
-import decoding
-from instructions import decode
+from cfgtools.isa import decoding
+from cfgtools.isa.instructions import decode
 
 # The bytes as a number, at address 10000, and the instruction.
 LISTED = """

@@ -9,11 +9,11 @@ import unittest
 from pathlib import Path
 
 import rows
-import cfg_report
-import listing
-import registers
+from cfgtools.checks import listing
+from cfgtools.isa import registers
+from cfgtools.reports import cfg_report
 import small
-from cfg_report import Function, Heading, Live, Lives, ReportError
+from cfgtools.reports.cfg_report import Function, Heading, Live, Lives, ReportError
 from test_cfg_report import load
 from test_tools import InFolder, script
 
@@ -240,7 +240,7 @@ class CompareLive(InFolder):
     def test_files_that_are_made(self) -> None:
         """A script stands in for cfg, which knows no jump tables."""
         cfg = self.folder / "cfg"
-        stand_in, live = rows.TOOLS / "tests" / "stand_in.py", rows.TOOLS / "compare_live"
+        stand_in, live = rows.TOOLS / "tests" / "stand_in.py", rows.MAINTAIN / "compare_live"
         cfg.write_text(f"""#!/bin/sh
 [ $# = 0 ] && exit 1
 [ "$1" = --report ] || exec '{sys.executable}' -B '{stand_in}' "$1"

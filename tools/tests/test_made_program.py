@@ -14,11 +14,11 @@ from pathlib import Path
 from typing import List
 
 import rows
-import cfg_report
-from binutils import OBJDUMP, instructions, missing
-from elf_file import Elf
-from hostile import with_names
-from made import made, made_with_functions
+from cfgtools.checks.binutils import OBJDUMP, instructions, missing
+from cfgtools.elf.elf_file import Elf
+from cfgtools.making.hostile import with_names
+from cfgtools.making.made import made, made_with_functions
+from cfgtools.reports import cfg_report
 
 CFG = rows.TOOLS.parent / "crates" / "cfg" / "out" / "cfg"
 
@@ -101,7 +101,7 @@ class MadeFile(InFolder):
 
 class Script(InFolder):
     def run_script(self, *words: str) -> "subprocess.CompletedProcess[str]":
-        command = [sys.executable, "-B", str(rows.TOOLS / "made_program"), *words]
+        command = [sys.executable, "-B", str(rows.MAINTAIN / "made_program"), *words]
         return subprocess.run(command, capture_output=True, text=True)
 
     def test_files(self) -> None:

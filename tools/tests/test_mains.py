@@ -131,7 +131,7 @@ class Runner:
     def compiled(self) -> str:
         """The library that refuses memory, or nothing where there is no C compiler."""
         path = str(self.folder / "refuse.so")
-        source = str(rows.TOOLS / "refuse_memory.c")
+        source = str(rows.MAINTAIN / "refuse_memory.c")
         if not shutil.which("cc"):
             return ""
         subprocess.run(["cc", "-O1", "-shared", "-fPIC", "-o", path, source], check=True)

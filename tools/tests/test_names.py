@@ -7,7 +7,7 @@ import unittest
 
 import rows
 import small
-from elf_file import Elf
+from cfgtools.elf.elf_file import Elf
 from test_tools import InFolder
 
 RET = "00008067"

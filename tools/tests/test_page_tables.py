@@ -1,4 +1,4 @@
-"""`tools/page_tables`: the tables of docs/ are those of the sources of today; and what it does with sources of its own."""
+"""`tools/maintain/page_tables`: the tables of docs/ are those of the sources of today; and what it does with sources of its own."""
 
 from __future__ import annotations
 
@@ -15,7 +15,7 @@ from typing import Dict, Set
 
 import rows
 
-SCRIPT = rows.TOOLS / "page_tables"
+SCRIPT = rows.MAINTAIN / "page_tables"
 CRATES = """# NAME: the libraries that it names.
 
 # Bytes. What is read.

@@ -10,11 +10,11 @@ import unittest
 from pathlib import Path
 
 import rows
-import binutils
+from cfgtools.checks import binutils
 import small
-from elf_file import Elf
-from hostile import code_bytes
-from instructions import Instruction, decode
+from cfgtools.elf.elf_file import Elf
+from cfgtools.isa.instructions import Instruction, decode
+from cfgtools.making.hostile import code_bytes
 from test_tools import InFolder, script
 
 SOURCE = r"""
@@ -94,11 +94,11 @@ class Runs(InFolder):
         path = binutils.compile_c(str(self.folder / "program.elf"), SOURCE, "-O2", "-march=rv64imac", "-mabi=lp64", "-nostdlib", "-static")
         assert path is not None
         self.elf = path
-        self.graph = self.file("graph", self.output("tests/stand_in.py", path))
-        self.live = self.file("live", self.output("compare_live", "--report", self.graph, "--print", path))
+        self.graph = self.file("graph", self.output(rows.TOOLS / "tests" / "stand_in.py", path))
+        self.live = self.file("live", self.output(rows.MAINTAIN / "compare_live", "--report", self.graph, "--print", path))
 
-    def output(self, name: str, *words: str) -> bytes:
-        return subprocess.run([sys.executable, "-B", str(rows.TOOLS / name), *words], capture_output=True, check=True).stdout
+    def output(self, program: Path, *words: str) -> bytes:
+        return subprocess.run([sys.executable, "-B", str(program), *words], capture_output=True, check=True).stdout
 
     def poison(self, live: str, *words: str) -> "tuple[int, list[str]]":
         done = self.run_process("poison", "--report", self.graph, "--live", live, *words, self.elf)

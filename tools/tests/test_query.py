@@ -13,8 +13,8 @@ from typing import Dict, List, Set
 from unittest import mock
 
 import small
-import progress as progress_module
-from body import Body
+from cfgtools.reports import progress as progress_module
+from cfgtools.reports.body import Body
 from test_tools import InFolder
 
 

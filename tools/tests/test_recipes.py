@@ -15,8 +15,8 @@ from pathlib import Path
 from typing import Dict, List
 
 import rows
-import binutils
-from elf_file import Elf
+from cfgtools.checks import binutils
+from cfgtools.elf.elf_file import Elf
 from test_using import blocks
 
 TOP = rows.TOOLS.parent
@@ -33,7 +33,7 @@ int main(void) { chosen(); return 0; }
 void _start(void) { call(93, main(), 0, 0); for (;;) { } }
 """
 # What stands in for `cfg`, which knows no jump tables.
-STAND_IN = f"""graph='{rows.TOOLS / "tests" / "stand_in.py"}' live='{rows.TOOLS / "compare_live"}'
+STAND_IN = f"""graph='{rows.TOOLS / "tests" / "stand_in.py"}' live='{rows.MAINTAIN / "compare_live"}'
 [ "$1" = --report ] || exec python3 -B "$graph" "$@"
 held=$(mktemp)
 python3 -B "$graph" "$4" > "$held" && python3 -B "$live" --report "$held" --print "$4"

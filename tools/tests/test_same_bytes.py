@@ -1,4 +1,4 @@
-"""What tools/same_bytes says of programs in the place of `cfg`: one that always prints the same, and one that does not."""
+"""What tools/maintain/same_bytes says of programs in the place of `cfg`: one that always prints the same, and one that does not."""
 
 from __future__ import annotations
 
@@ -37,7 +37,7 @@ class SameBytes(unittest.TestCase):
 
     def run_script(self, cfg: str, *words: str, thief: str = "/nowhere") -> "subprocess.CompletedProcess[str]":
         environment = dict(os.environ, CFG=cfg, DUMP_THREADS=thief)
-        command = [sys.executable, "-B", str(rows.TOOLS / "same_bytes"), *words]
+        command = [sys.executable, "-B", str(rows.MAINTAIN / "same_bytes"), *words]
         return subprocess.run(command, capture_output=True, text=True, env=environment)
 
     def test_programs_of_its_own(self) -> None:

@@ -8,7 +8,7 @@ from typing import List
 
 import small
 import small_elf
-from hostile import NOP, RETURN, jump, short_jump
+from cfgtools.making.hostile import NOP, RETURN, jump, short_jump
 from small import CODE, Part
 from small_elf import ALLOC, CODE_AT
 from test_add_entries import LandingPads, WithFile, record, shared, symbols

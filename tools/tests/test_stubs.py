@@ -10,17 +10,17 @@ import unittest
 from typing import List
 
 import rows
-import binutils
-import decoding
+from cfgtools.checks import binutils
+from cfgtools.isa import decoding
 import small
-from cfg_report import load
-from elf_file import Elf, Memory
-from hostile import NOP, RETURN, immediate, jump, upper
-from instructions import decode
-from listing import Listing
-from reached import Reached
+from cfgtools.checks.listing import Listing
+from cfgtools.elf.elf_file import Elf, Memory
+from cfgtools.entries.reached import Reached
+from cfgtools.isa.instructions import decode
+from cfgtools.making.hostile import NOP, RETURN, immediate, jump, upper
+from cfgtools.reports.cfg_report import load
 from small_elf import ALLOC, CODE_AT, DATA_AT, RELA, SYMTAB, STRTAB, WRITE, Part, code, words
-from stubs import Stub, stubs
+from cfgtools.elf.stubs import Stub, stubs
 from test_add_entries import WithFile
 
 T1, T3 = 6, 28

@@ -19,11 +19,9 @@ from typing import Dict, List, Optional, Tuple
 from unittest import mock
 
 import rows
-import cfg_report
-import names
-import progress
-from cfg_report import ReportError
-from elf_file import Code, Elf, gaps, joined
+from cfgtools.elf.elf_file import Code, Elf, gaps, joined
+from cfgtools.reports import cfg_report, names, progress
+from cfgtools.reports.cfg_report import ReportError
 
 SCRIPTS = {
     "check_report": ["REPORT"], "summary": ["REPORT"], "to_json": ["REPORT"], "draw": ["REPORT", "10000"],
@@ -37,8 +35,8 @@ LOADED: Dict[str, ModuleType] = {}
 
 
 def script(name: str) -> ModuleType:
-    """A script of the folder as a module."""
-    loader = importlib.machinery.SourceFileLoader(name, str(rows.TOOLS / name))
+    """A script as a module."""
+    loader = importlib.machinery.SourceFileLoader(name, str(rows.script_path(name)))
     spec = importlib.util.spec_from_loader(name, loader)
     assert spec is not None
     module = importlib.util.module_from_spec(spec)
@@ -95,7 +93,7 @@ class InFolder(unittest.TestCase):
 
     def run_process(self, name: str, *words: str, cfg: str = "/nowhere/cfg", given: bytes = b"") -> Done:
         """Runs a script as a process of its own."""
-        command = [sys.executable, "-B", str(rows.TOOLS / name), *words]
+        command = [sys.executable, "-B", str(rows.script_path(name)), *words]
         done = subprocess.run(command, input=given, capture_output=True, env=dict(os.environ, CFG=cfg))
         return subprocess.CompletedProcess(command, done.returncode, done.stdout.decode(), done.stderr.decode())
 

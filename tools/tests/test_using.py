@@ -15,7 +15,7 @@ from pathlib import Path
 from typing import Dict, List
 
 import rows
-import cfg_report
+from cfgtools.reports import cfg_report
 
 PAGE = (rows.TOOLS.parent / "docs" / "USING.md").read_text(encoding="utf-8")
 
@@ -66,8 +66,8 @@ class Calls(unittest.TestCase):
             self.assertIn(b"edge 0000000000010008 000000000001000c tail\n", Path(folder, "more.report").read_bytes())
 
     def test_names(self) -> None:
-        for module, name in re.findall(r"^\| `(?:(\w+)\.)?(\w+)[(`]", self.PAGE, re.MULTILINE):
-            found = cfg_report.load(io.BytesIO(rows.report(17))) if module == "report" else importlib.import_module(module or "cfg_report")
+        for module, name in re.findall(r"^\| `(?:([\w.]+)\.)?(\w+)[(`]", self.PAGE, re.MULTILINE):
+            found = cfg_report.load(io.BytesIO(rows.report(17))) if module == "report" else importlib.import_module(f"cfgtools.{module or 'reports.cfg_report'}")
             self.assertTrue(hasattr(found, name), f"{module}.{name}")
 
 

@@ -15,9 +15,9 @@ import subprocess
 import sys
 from typing import BinaryIO, Dict, Iterator, List, NamedTuple, NoReturn, Optional, Sequence, Set, Tuple, Union
 
-from cfg_report import Block, Edge, ReportError, program_of
-from listing import Flow, Listing
-from pattern_tables import Table, Tables, cuts
+from cfgtools.checks.listing import Flow, Listing
+from cfgtools.checks.pattern_tables import Table, Tables, cuts
+from cfgtools.reports.cfg_report import Block, Edge, ReportError, program_of
 
 FIRST_LINE = b"cfg-cert 1\n"
 MOST_RANK = 2**64 - 1

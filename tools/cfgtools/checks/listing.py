@@ -9,11 +9,11 @@ from __future__ import annotations
 import re
 from typing import Dict, FrozenSet, Iterable, List, Mapping, NamedTuple, Optional, Set, Tuple
 
-import binutils
-import extensions
-from binutils import Line, Section
-from elf_file import File
-from instructions import Instruction, decoded
+from cfgtools.checks import binutils
+from cfgtools.checks.binutils import Line, Section
+from cfgtools.elf.elf_file import File
+from cfgtools.isa import extensions
+from cfgtools.isa.instructions import Instruction, decoded
 
 JUMPS = {"jal", "jalr", "c.j", "c.jr", "c.jalr"}
 BRANCHES = {"beq", "bne", "blt", "bge", "bltu", "bgeu", "c.beqz", "c.bnez"}

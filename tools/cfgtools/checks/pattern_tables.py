@@ -10,10 +10,10 @@ from __future__ import annotations
 import struct
 from typing import Dict, Iterator, List, NamedTuple, Optional, Tuple
 
-import binutils
-import listing as listings
-from extensions import decode
-from instructions import Instruction, signed
+from cfgtools.checks import listing as listings
+from cfgtools.checks import binutils
+from cfgtools.isa.extensions import decode
+from cfgtools.isa.instructions import Instruction, signed
 
 # How many instructions a run to the jump has at most, and how far before the jump a test and a run may begin, in bytes.
 MOST_INSTRUCTIONS, FARTHEST_TEST, FARTHEST_RUN = 16, 68, 64

@@ -13,11 +13,10 @@ import struct
 import tempfile
 from typing import Iterable, Iterator, List, NamedTuple, Optional, Tuple
 
-import architecture
-import declared_tables
-from cfg_report import ReportError
-from declared_tables import Additions
-from elf_file import ALLOC, PROGBITS, SECTION_SIZE, STRTAB, SYMBOL_SIZE, SYMTAB, Header, Memory
+from cfgtools.elf import architecture, declared_tables
+from cfgtools.elf.declared_tables import Additions
+from cfgtools.elf.elf_file import ALLOC, PROGBITS, SECTION_SIZE, STRTAB, SYMBOL_SIZE, SYMTAB, Header, Memory
+from cfgtools.reports.cfg_report import ReportError
 
 LARGEST = 64 << 20
 MOST_SECTIONS = 0xFF00

@@ -10,8 +10,8 @@ from __future__ import annotations
 import struct
 from typing import Dict, Iterable, Iterator, List, NamedTuple, Optional, Tuple, Union
 
-from decoding import decode
-from elf_file import ALLOC, PROGBITS, WRITE, Elf, File, Header, Memory, joined
+from cfgtools.elf.elf_file import ALLOC, PROGBITS, WRITE, Elf, File, Header, Memory, joined
+from cfgtools.isa.decoding import decode
 
 KIND, NAME, COPIES = 0x8CF60001, b".cfg.tables", b".cfg.targets"
 MOST_ENTRIES = 65536

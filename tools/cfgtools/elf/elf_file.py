@@ -9,9 +9,9 @@ import struct
 import zlib
 from typing import Dict, FrozenSet, Iterator, List, NamedTuple, Optional, Set, Tuple
 
-import architecture
-import names
-from cfg_report import ReportError, name_field, read_name
+from cfgtools.elf import architecture
+from cfgtools.reports import names
+from cfgtools.reports.cfg_report import ReportError, name_field, read_name
 
 PROGBITS, SYMTAB, STRTAB, RELA, NOBITS = 1, 2, 3, 4, 8
 INIT_ARRAY, FINI_ARRAY, PREINIT_ARRAY = 14, 15, 16

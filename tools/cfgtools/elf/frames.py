@@ -6,8 +6,8 @@ from __future__ import annotations
 
 from typing import Dict, Iterator, List, NamedTuple, Optional, Tuple
 
-from cfg_report import ReportError
-from elf_file import NOBITS, Header, Memory
+from cfgtools.elf.elf_file import NOBITS, Header, Memory
+from cfgtools.reports.cfg_report import ReportError
 
 OMITTED = 0xFF
 ABSOLUTE, RELATIVE_TO_PLACE, RELATIVE_TO_TEXT, RELATIVE_TO_DATA, RELATIVE_TO_FUNCTION, ALIGNED = 0, 0x10, 0x20, 0x30, 0x40, 0x50

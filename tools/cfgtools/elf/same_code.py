@@ -5,9 +5,9 @@ from __future__ import annotations
 
 from typing import Dict, Hashable, Iterable, List, NamedTuple, Optional, Tuple
 
-from elf_file import Elf, Symbol
-from extensions import decode
-from instructions import Instruction
+from cfgtools.elf.elf_file import Elf, Symbol
+from cfgtools.isa.extensions import decode
+from cfgtools.isa.instructions import Instruction
 
 GLOBAL_POINTER = 3
 PAGE = 0x1000

@@ -7,8 +7,8 @@ from __future__ import annotations
 
 from typing import Iterator, NamedTuple, Optional
 
-from decoding import decode
-from elf_file import INDIRECT, Memory
+from cfgtools.elf.elf_file import INDIRECT, Memory
+from cfgtools.isa.decoding import decode
 
 # The bytes of `jalr t1, t3`.
 LAST = bytes.fromhex("67030e00")

@@ -6,11 +6,11 @@ import bisect
 import re
 from typing import Collection, Dict, Iterator, List, Mapping, Set, Tuple
 
-from cfg_report import Report, ReportError
-from declared_tables import Declaring, Wanted, jump_register
-from elf_file import Memory
-from reached import Reached
-from switch_cases import Known, Switches
+from cfgtools.elf.declared_tables import Declaring, Wanted, jump_register
+from cfgtools.elf.elf_file import Memory
+from cfgtools.entries.reached import Reached
+from cfgtools.entries.switch_cases import Known, Switches
+from cfgtools.reports.cfg_report import Report, ReportError
 
 Moves = Mapping[int, Collection[int]]
 

@@ -6,9 +6,9 @@ import array
 import sys
 from typing import Dict, Iterable, Iterator, List, Set, Tuple
 
-from decoding import CALLER_SAVED, LOAD_SIZES, STORES, Insn
-from elf_file import FINI_ARRAY, INIT_ARRAY, PREINIT_ARRAY, PROGBITS, Header, Memory
-from reached import APART, Reached
+from cfgtools.elf.elf_file import FINI_ARRAY, INIT_ARRAY, PREINIT_ARRAY, PROGBITS, Header, Memory
+from cfgtools.entries.reached import APART, Reached
+from cfgtools.isa.decoding import CALLER_SAVED, LOAD_SIZES, STORES, Insn
 
 ARRAYS = (PREINIT_ARRAY, INIT_ARRAY, FINI_ARRAY)
 # Sections whose words are read as something else.

@@ -6,9 +6,9 @@ import functools
 import re
 from typing import Dict, Iterator, List, Optional, Set, Tuple
 
-from cfg_report import EDGE_KINDS, Block, Changes, Report
-from decoding import ENDS, UNKNOWN, Insn, decode
-from elf_file import Memory
+from cfgtools.elf.elf_file import Memory
+from cfgtools.isa.decoding import ENDS, UNKNOWN, Insn, decode
+from cfgtools.reports.cfg_report import EDGE_KINDS, Block, Changes, Report
 
 APART, START, INSIDE = 0, 1, 2
 MARKED = re.compile(rb"[^\0]")

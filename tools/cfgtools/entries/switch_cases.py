@@ -11,9 +11,9 @@ from __future__ import annotations
 import bisect
 from typing import Dict, FrozenSet, Iterator, List, NamedTuple, Optional, Set, Tuple
 
-from cfg_report import Block
-from decoding import CALLER_SAVED, LOAD_SIZES, Insn
-from reached import START, Reached
+from cfgtools.entries.reached import START, Reached
+from cfgtools.isa.decoding import CALLER_SAVED, LOAD_SIZES, Insn
+from cfgtools.reports.cfg_report import Block
 
 DEEPEST, MOST_BLOCKS = 16, 4000
 # How many cases a switch has at the most: by a test, and without one.

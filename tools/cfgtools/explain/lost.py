@@ -5,7 +5,7 @@ from __future__ import annotations
 import bisect
 from typing import Dict, Iterable, List, NamedTuple, Optional, Tuple
 
-from elf_file import Elf, Symbol, gaps, joined, size_of
+from cfgtools.elf.elf_file import Elf, Symbol, gaps, joined, size_of
 
 Range = Tuple[int, int]
 

@@ -4,8 +4,8 @@ from __future__ import annotations
 
 from typing import Iterable, NoReturn, Optional
 
-from cfg_report import Block, ReportError
-from elf_file import Code, Elf
+from cfgtools.elf.elf_file import Code, Elf
+from cfgtools.reports.cfg_report import Block, ReportError
 
 # The opcodes, of 32 bits, and the compressed instructions with which a block of each kind may end: the latter by what a
 # mask leaves of them.

@@ -4,14 +4,14 @@ from __future__ import annotations
 
 from typing import List, NamedTuple, Optional, Tuple
 
-import extensions
-from cfg_report import Block
-from declared_tables import Declared
-from instructions import ARGUMENTS, NAMES, Instruction, signed
-from tables import Use, use_of_table
-from staying import undecoded
-from unsure import Unsure
-from values import CALL, CALLER, Code, Place, Setter, Values, copied
+from cfgtools.elf.declared_tables import Declared
+from cfgtools.explain.staying import undecoded
+from cfgtools.explain.tables import Use, use_of_table
+from cfgtools.explain.unsure import Unsure
+from cfgtools.explain.values import CALL, CALLER, Code, Place, Setter, Values, copied
+from cfgtools.isa import extensions
+from cfgtools.isa.instructions import ARGUMENTS, NAMES, Instruction, signed
+from cfgtools.reports.cfg_report import Block
 
 KINDS = ("unknown", "icall", "table-cut", "table-open", "branch-out", "stop")
 RETURN = bytes.fromhex("8280")

@@ -8,9 +8,9 @@ from __future__ import annotations
 
 from typing import Dict, FrozenSet, List, Set
 
-from cfg_report import Function, Report
-from staying import undecoded
-from values import Code
+from cfgtools.explain.staying import undecoded
+from cfgtools.explain.values import Code
+from cfgtools.reports.cfg_report import Function, Report
 
 WHY = "an instruction that is not decoded is reached from them"
 # How blocks end that count every register as read: what comes after them makes no difference.

@@ -5,17 +5,17 @@ from __future__ import annotations
 import bisect
 from typing import Dict, Iterable, List, Optional, Set, Tuple
 
-import extensions
-from cfg_report import Block, Report, ReportError
-from declared_tables import jump_register
-from elf_file import Memory, joined, size_of
-from frames import frames, landing_pads
-from pointers import array_entries, pointers_in_data
-from reached import Reached
-from staying import undecoded
-from stubs import stubs
-from values import Code
-from switch_cases import Switch, Switches
+from cfgtools.elf.declared_tables import jump_register
+from cfgtools.elf.elf_file import Memory, joined, size_of
+from cfgtools.elf.frames import frames, landing_pads
+from cfgtools.elf.stubs import stubs
+from cfgtools.entries.pointers import array_entries, pointers_in_data
+from cfgtools.entries.reached import Reached
+from cfgtools.entries.switch_cases import Switch, Switches
+from cfgtools.explain.staying import undecoded
+from cfgtools.explain.values import Code
+from cfgtools.isa import extensions
+from cfgtools.reports.cfg_report import Block, Report, ReportError
 
 Ranges = List[Tuple[int, int]]
 

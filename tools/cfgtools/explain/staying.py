@@ -17,13 +17,13 @@ from __future__ import annotations
 import bisect
 from typing import Dict, Iterator, List, NamedTuple, Optional, Set, Tuple
 
-import extensions
-from body import Body
-from cfg_report import Block, Edge, Function, Item, Report, ReportError, function_name
-from elf_file import Elf, Memory
-from frames import frames, landing_pads
-from instructions import UNIMP
-from values import Code
+from cfgtools.elf.elf_file import Elf, Memory
+from cfgtools.elf.frames import frames, landing_pads
+from cfgtools.explain.values import Code
+from cfgtools.isa import extensions
+from cfgtools.isa.instructions import UNIMP
+from cfgtools.reports.body import Body
+from cfgtools.reports.cfg_report import Block, Edge, Function, Item, Report, ReportError, function_name
 
 OF_GO = {f"runtime.{name}{end}".encode(): name.partition("_")[0] for name in ("morestack", "morestack_noctxt", "mcall") for end in ("", ".abi0")}
 OF_ITS_OWN = "which comes back by ways of its own"

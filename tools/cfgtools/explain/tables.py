@@ -9,12 +9,12 @@ from __future__ import annotations
 import bisect
 from typing import Dict, Iterable, Iterator, List, NamedTuple, Optional, Set, Tuple
 
-from cfg_report import TABLE_KINDS, Block, Report
-from declared_tables import Declared
-from elf_file import Elf
-from instructions import Instruction, signed
-from unsure import Unsure
-from values import INSTRUCTION, Code, Place, Setter, Values
+from cfgtools.elf.declared_tables import Declared
+from cfgtools.elf.elf_file import Elf
+from cfgtools.explain.unsure import Unsure
+from cfgtools.explain.values import INSTRUCTION, Code, Place, Setter, Values
+from cfgtools.isa.instructions import Instruction, signed
+from cfgtools.reports.cfg_report import TABLE_KINDS, Block, Report
 
 MOST_ENTRIES = 1024
 # Instructions that scale an index by the size of an entry and add an address.

@@ -9,8 +9,8 @@ from __future__ import annotations
 import bisect
 from typing import Dict, Iterable, List, Optional
 
-from cfg_report import Block, Edge, Function, Item
-from elf_file import Elf
+from cfgtools.elf.elf_file import Elf
+from cfgtools.reports.cfg_report import Block, Edge, Function, Item
 
 
 class Unsure:

@@ -4,11 +4,11 @@ from __future__ import annotations
 
 from typing import Callable, Dict, Iterator, List, NamedTuple, Optional, Set, Tuple
 
-from cfg_report import Block, Edge, Report
-from elf_file import Elf
-from extensions import decode
-from instructions import ARGUMENTS, KEPT_BY_CALLS, Instruction, signed
-from unsure import Unsure
+from cfgtools.elf.elf_file import Elf
+from cfgtools.explain.unsure import Unsure
+from cfgtools.isa.extensions import decode
+from cfgtools.isa.instructions import ARGUMENTS, KEPT_BY_CALLS, Instruction, signed
+from cfgtools.reports.cfg_report import Block, Edge, Report
 
 # How many blocks are looked at for one register, how many copies are followed, and how many may set one constant.
 MOST_BLOCKS, FARTHEST, MOST_SETTERS = 3000, 24, 8

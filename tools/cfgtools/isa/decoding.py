@@ -6,9 +6,9 @@ from __future__ import annotations
 import functools
 from typing import NamedTuple, Optional, Tuple
 
-import extensions
-from extensions import NONE, Names
-from instructions import KEPT_BY_CALLS, STUB_BASE, STUB_LINK, Row, decoded, immediate, signed
+from cfgtools.isa import extensions
+from cfgtools.isa.extensions import NONE, Names
+from cfgtools.isa.instructions import KEPT_BY_CALLS, STUB_BASE, STUB_LINK, Row, decoded, immediate, signed
 
 UNKNOWN = "?"
 CALLER_SAVED = frozenset(range(1, 32)) - KEPT_BY_CALLS

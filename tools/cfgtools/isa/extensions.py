@@ -9,8 +9,8 @@ from __future__ import annotations
 
 from typing import Dict, FrozenSet, Iterator, List, NamedTuple, Optional, Tuple
 
-import instructions
-from instructions import Instruction, Row, row
+from cfgtools.isa import instructions
+from cfgtools.isa.instructions import Instruction, Row, row
 
 Names = FrozenSet[str]
 NONE: Names = frozenset()

@@ -4,7 +4,7 @@ from __future__ import annotations
 
 from typing import List
 
-from instructions import NAMES
+from cfgtools.isa.instructions import NAMES
 
 # x1 to x31.
 EVERY = 0xFFFFFFFE

@@ -1,21 +1,16 @@
-#!/usr/bin/env python3
 """Makes bare ELF files that are legal and unpleasant to a builder of control-flow graphs, each for a size.
-
-    tools/contrived.py SHAPE N FILE
 
 Each shape is one function of this module, and what it costs to read grows as fast as N: a builder that takes time
 linear in its input takes four times as long where N is four times as great. The program is only read, never run.
+`tools/maintain/contrived` writes them to files.
 """
 
 from __future__ import annotations
 
 import struct
-import sys
 from typing import Callable, Dict, List, Sequence
 
-sys.dont_write_bytecode = True
-
-from hostile import (
+from cfgtools.making.hostile import (
     BREAK, CODE_AT, DATA_AT, NOP, RETURN, Halves, Symbol, add, branch, far, file_of, file_with, jump, sections_of,
     short_jump, table_jump,
 )
@@ -189,7 +184,7 @@ SORTING = """
 
 def sorting() -> bytes:
     """A program that puts 1,000 falling doublewords on the stack and sorts them by exchanges, again and again. It is one
-    for tools/bench to walk, and no shape: it has one size."""
+    for tools/maintain/bench to walk, and no shape: it has one size."""
     words = [int(word, 16) for word in SORTING.split()]
     return file_with([half for word in words for half in (word & 0xFFFF, word >> 16)])
 
@@ -201,16 +196,3 @@ SHAPES: Dict[str, Callable[[int], bytes]] = {
         joins_from_afar,
     )
 }
-
-
-def main() -> int:
-    if len(sys.argv) != 4 or sys.argv[1] not in SHAPES or not sys.argv[2].isdigit() or int(sys.argv[2]) < 1:
-        print(f"usage: tools/contrived.py SHAPE N FILE, with SHAPE one of {', '.join(SHAPES)}", file=sys.stderr)
-        return 2
-    with open(sys.argv[3], "wb") as file:
-        file.write(SHAPES[sys.argv[1]](int(sys.argv[2])))
-    return 0
-
-
-if __name__ == "__main__":
-    sys.exit(main())

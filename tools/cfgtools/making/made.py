@@ -10,7 +10,7 @@ from __future__ import annotations
 import struct
 from typing import List
 
-from hostile import (
+from cfgtools.making.hostile import (
     ALLOC, CODE, NULL, PROGBITS, STRTAB, Halves, Section, Symbol, add, branch, code_bytes, file_of, immediate, jump,
     symbol_table, upper,
 )

@@ -4,7 +4,7 @@ from __future__ import annotations
 
 from typing import Dict, FrozenSet, Iterable, Iterator, List, NamedTuple, Optional, Set
 
-from cfg_report import Function, Report
+from cfgtools.reports.cfg_report import Function, Report
 
 
 class Loop(NamedTuple):

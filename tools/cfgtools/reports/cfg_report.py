@@ -18,9 +18,9 @@ import subprocess
 import sys
 from typing import BinaryIO, Callable, Dict, Iterable, Iterator, List, NamedTuple, NoReturn, Optional, Set, Tuple, Union
 
-import names
+from cfgtools.reports import names
 
-TOP = os.path.dirname(os.path.dirname(os.path.abspath(__file__)))
+TOP = os.path.abspath(os.path.join(os.path.dirname(__file__), "..", "..", ".."))
 FIRST_LINE = b"cfg-report 2\n"
 
 BLOCK_KINDS = (

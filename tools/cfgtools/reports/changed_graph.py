@@ -14,7 +14,7 @@ import re
 import sys
 from typing import Dict, Iterable, List, NamedTuple, Optional, Set
 
-from cfg_report import EDGE_KINDS, LEAVES_FUNCTION, TABLE_KINDS, Block, Edge, Function, Report, ReportError
+from cfgtools.reports.cfg_report import EDGE_KINDS, LEAVES_FUNCTION, TABLE_KINDS, Block, Edge, Function, Report, ReportError
 
 
 class Known(NamedTuple):

@@ -6,8 +6,8 @@ import os
 import subprocess
 import sys
 
-import cfg_report
-from cfg_report import ReportError, TOP, program_of
+from cfgtools.reports import cfg_report
+from cfgtools.reports.cfg_report import ReportError, TOP, program_of
 
 
 PROGRAMS = ("cfg", "cfg_walk")

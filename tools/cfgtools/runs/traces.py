@@ -19,10 +19,10 @@ import sys
 import tempfile
 from typing import BinaryIO, Dict, Iterator, List, NamedTuple, Optional, Tuple
 
-from cfg_report import ReportError
-from decoding import Insn, decode
-from elf_file import Memory
-from progress import Progress
+from cfgtools.elf.elf_file import Memory
+from cfgtools.isa.decoding import Insn, decode
+from cfgtools.reports.cfg_report import ReportError
+from cfgtools.reports.progress import Progress
 
 MOST_KNOWN = 1 << 18
 JUMP, RETURN, OTHER = 0, 1, 2

@@ -9,8 +9,8 @@ import collections
 import re
 from typing import BinaryIO, Counter, Dict, Iterator, List, NamedTuple, NoReturn, Optional, Sequence, Tuple
 
-from cfg_report import BLOCK_KINDS, Function, Report, ReportError, function_name
-from progress import Progress
+from cfgtools.reports.cfg_report import BLOCK_KINDS, Function, Report, ReportError, function_name
+from cfgtools.reports.progress import Progress
 
 TRAPS = ("Fetch", "Illegal", "Breakpoint", "Ecall", "Csr", "Float", "Unsupported", "LoadFault", "StoreFault", "Misaligned")
 

@@ -12,14 +12,14 @@ import sqlite3
 from typing import Any, Callable, Dict, Iterator, List, Optional, Tuple
 from xml.sax.saxutils import quoteattr
 
-import registers
-from cfg_report import Block, Function, Report, ReportError, address, function_name
-from elf_file import Elf
-from picture import quoted
-from reasons import MEANT, Reasons
-from staying import Staying
-from unsure import Unsure
-from values import Code, last_instruction
+from cfgtools.elf.elf_file import Elf
+from cfgtools.explain.reasons import MEANT, Reasons
+from cfgtools.explain.staying import Staying
+from cfgtools.explain.unsure import Unsure
+from cfgtools.explain.values import Code, last_instruction
+from cfgtools.isa import registers
+from cfgtools.reports.cfg_report import Block, Function, Report, ReportError, address, function_name
+from cfgtools.shown.picture import quoted
 
 # The colours of edges in Graphviz source, as `draw` has them.
 COLOURS = {"fall": "gray35", "taken": "forestgreen", "jump": "royalblue", "tail": "purple", "call": "firebrick", "after": "darkorange",

@@ -13,8 +13,8 @@ import textwrap
 import time
 from typing import Iterable, Optional, Tuple
 
-from cfg_report import ReportError
-from progress import Progress
+from cfgtools.reports.cfg_report import ReportError
+from cfgtools.reports.progress import Progress
 
 SOURCES = (".dot", ".gv")
 PICTURES = (".svg", ".png", ".pdf")

@@ -6,11 +6,11 @@ import re
 from collections import Counter
 from typing import Counter as Counts, Dict, Iterable, List, NamedTuple, Optional, Set, Tuple
 
-import cfg_report
-from cfg_report import Block, Edge, End, Function, ReportError, function_name
-from elf_file import Elf
-from lost import Lost, LostCode
-from unsure import Unsure
+from cfgtools.elf.elf_file import Elf
+from cfgtools.explain.lost import Lost, LostCode
+from cfgtools.explain.unsure import Unsure
+from cfgtools.reports import cfg_report
+from cfgtools.reports.cfg_report import Block, Edge, End, Function, ReportError, function_name
 
 
 class Whole(NamedTuple):

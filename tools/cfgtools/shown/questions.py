@@ -5,13 +5,13 @@ from __future__ import annotations
 import re
 from typing import Any, Dict, Iterator, List, NamedTuple, Optional, Set, Tuple
 
-import cfg_report
-from body import Body
-from cfg_report import Block, Edge, Function, Report, ReportError, address, function_name
-from changed_graph import Places
-from elf_file import Elf
-from staying import Staying, behind
-from traces import Trace
+from cfgtools.elf.elf_file import Elf
+from cfgtools.explain.staying import Staying, behind
+from cfgtools.reports import cfg_report
+from cfgtools.reports.body import Body
+from cfgtools.reports.cfg_report import Block, Edge, Function, Report, ReportError, address, function_name
+from cfgtools.reports.changed_graph import Places
+from cfgtools.runs.traces import Trace
 
 OPEN_KINDS = ("icall", "unknown", "table-open", "table-cut")
 

@@ -6,14 +6,13 @@ import argparse
 import re
 from typing import BinaryIO, Iterator, Optional, Sequence, Tuple
 
-import cfg_report
-import names
-from cfg_report import Block, Heading, Item, Reader, Report, ReportError
-from changed_graph import folded, rebuilt, with_edges
-from elf_file import Elf
-from matching import Matching
-from progress import Progress
-from unsure import Unsure
+from cfgtools.elf.elf_file import Elf
+from cfgtools.explain.matching import Matching
+from cfgtools.explain.unsure import Unsure
+from cfgtools.reports import cfg_report, names
+from cfgtools.reports.cfg_report import Block, Heading, Item, Reader, Report, ReportError
+from cfgtools.reports.changed_graph import folded, rebuilt, with_edges
+from cfgtools.reports.progress import Progress
 
 REPORT_HELP = "a report, - for standard input, or an ELF file to run cfg on"
 

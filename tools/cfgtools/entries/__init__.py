@@ -1,0 +1,1 @@
+"""Where `tools/add_entries` finds entries and jump tables that `cfg` does not find."""

@@ -1,0 +1,1 @@
+"""What a report leaves open, why, and what would help."""

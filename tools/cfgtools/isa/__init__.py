@@ -1,0 +1,1 @@
+"""RISC-V instructions: their decoding, and sets of registers. It stands on nothing."""

@@ -1,0 +1,1 @@
+"""ELF files that are made for tests and measurements. It stands on nothing."""

@@ -1,0 +1,1 @@
+"""The words that scripts take, and what they show: answers, pictures, forms of other programs."""
