@@ -4,10 +4,13 @@ from __future__ import annotations
 
 from typing import Dict, List, Optional, Set
 
-import rows  # noqa: F401  it puts the folder of the scripts on the path
+import rows
 from cfgtools.checks.certificate import Certificate, Lead, Part, Program, Return, cuts_of
 from cfgtools.checks.listing import Listing
 from cfgtools.checks.pattern_tables import Tables
+
+# (it puts the folder of the scripts on the path)
+assert rows.TOOLS
 
 
 def made(path: str) -> Certificate:

@@ -11,12 +11,12 @@ from pathlib import Path
 from typing import Dict, List, Sequence, Tuple
 
 import rows
-from cfgtools.reports import cfg_report
 import small_elf
 from cfgtools.elf.declared_tables import Declared, Record
 from cfgtools.elf.elf_file import Memory
 from cfgtools.elf.frames import Frame, frames, landing_pads
 from cfgtools.making.hostile import NOP, RETURN, Halves, add, branch, immediate, jump, short_jump, upper
+from cfgtools.reports import cfg_report
 from cfgtools.reports.cfg_report import ReportError
 from small_elf import ALLOC, CODE_AT, DATA_AT, INIT_ARRAY, NOBITS, RELA, WRITE, Part, code, file_of, symbols, words
 from test_tools import InFolder

@@ -7,14 +7,13 @@ import os
 import struct
 import subprocess
 import unittest
-from typing import List, Tuple
+from typing import List
 from unittest import mock
 
 import rows
-import small
-from cfgtools.checks import certificate as certificates
-from cfgtools.checks import binutils
 import naive_certificates
+import small
+from cfgtools.checks import binutils, certificate as certificates
 from cfgtools.checks.certificate import Certificate, Lead, Part, Return
 from cfgtools.checks.listing import Listing
 from test_tools import InFolder

@@ -5,8 +5,8 @@ from __future__ import annotations
 import unittest
 
 import small
-from test_tools import InFolder
 from small import CODE, WRITABLE, Part
+from test_tools import InFolder
 
 # f: a jump through a register, and 12 bytes behind it; g: a return.
 JUMP, RET, NOP = "00058067", "00008067", "00000013"

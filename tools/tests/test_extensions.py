@@ -8,15 +8,14 @@ import subprocess
 import unittest
 from typing import List, Optional
 
-import rows
-from cfgtools.checks import binutils, listing
-from cfgtools.elf import architecture
-from cfgtools.isa import decoding, extensions
 import small
 import small_elf
+from cfgtools.checks import binutils, listing
 from cfgtools.checks.listing import Listing
 from cfgtools.checks.pattern_tables import Table, Tables
+from cfgtools.elf import architecture
 from cfgtools.elf.elf_file import Elf, Memory
+from cfgtools.isa import decoding, extensions
 from cfgtools.making.hostile import RETURN
 from small_elf import Part, code
 from test_add_entries import WithFile

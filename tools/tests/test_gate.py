@@ -102,14 +102,14 @@ class GateTimes(unittest.TestCase):
             return status, said.read()
 
     def test_it_runs_the_gate_and_ends_as_that_does(self) -> None:
-        for script, words, asked in (
+        for text, words, asked in (
             (FROM_NOTHING, [], "ci"),
             (FROM_NOTHING, ["--anew"], "ci"),
             (KEEPS, [], "ci"),
             (KEEPS, ["--anew", "low"], "ci --anew low"),
         ):
-            with self.subTest(words=words, keeps=script == KEEPS):
-                status, said = self.run_gate(script, *words)
+            with self.subTest(words=words, keeps=text == KEEPS):
+                status, said = self.run_gate(text, *words)
                 self.assertEqual(status, 3)
                 self.assertIn(f"2 passed, 0 failed: {asked}\n", said)
                 self.assertIn("| `low` |", said)

@@ -8,6 +8,8 @@ import rows
 from cfgtools.isa import decoding
 from cfgtools.isa.instructions import decode
 
+# (it puts the folder of the scripts on the path)
+assert rows.TOOLS
 # The bytes as a number, at address 10000, and the instruction.
 LISTED = """
 00000013 nop|00020737 lui a4,0x20|00351513 slli a0,a0,0x3|00053783 ld a5,0(a0)|00078067 jr a5|000780e7 jalr a5|00008067 ret

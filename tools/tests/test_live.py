@@ -9,10 +9,9 @@ import unittest
 from pathlib import Path
 
 import rows
+import small
 from cfgtools.checks import listing
 from cfgtools.isa import registers
-from cfgtools.reports import cfg_report
-import small
 from cfgtools.reports.cfg_report import Function, Heading, Live, Lives, ReportError
 from test_cfg_report import load
 from test_tools import InFolder, script

@@ -10,8 +10,8 @@ import unittest
 from pathlib import Path
 
 import rows
-from cfgtools.checks import binutils
 import small
+from cfgtools.checks import binutils
 from cfgtools.elf.elf_file import Elf
 from cfgtools.isa.instructions import Instruction, decode
 from cfgtools.making.hostile import code_bytes

@@ -10,17 +10,17 @@ import unittest
 from typing import List
 
 import rows
-from cfgtools.checks import binutils
-from cfgtools.isa import decoding
 import small
+from cfgtools.checks import binutils
 from cfgtools.checks.listing import Listing
 from cfgtools.elf.elf_file import Elf, Memory
+from cfgtools.elf.stubs import Stub, stubs
 from cfgtools.entries.reached import Reached
+from cfgtools.isa import decoding
 from cfgtools.isa.instructions import decode
 from cfgtools.making.hostile import NOP, RETURN, immediate, jump, upper
 from cfgtools.reports.cfg_report import load
 from small_elf import ALLOC, CODE_AT, DATA_AT, RELA, SYMTAB, STRTAB, WRITE, Part, code, words
-from cfgtools.elf.stubs import Stub, stubs
 from test_add_entries import WithFile
 
 T1, T3 = 6, 28

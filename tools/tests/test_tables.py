@@ -6,8 +6,8 @@ import json
 import unittest
 
 import small
-from test_tools import InFolder
 from small import CODE, READ_ONLY, Part
+from test_tools import InFolder
 
 # Row 32 of docs/ROWS.md: a table of four-byte entries at 20000 without a bound test. Of its entries here the first and the
 # third lead to f's return, the second to the next instruction, and the last into g, which begins with the return at 10020.

@@ -6,8 +6,8 @@ import unittest
 from typing import Sequence
 
 import small
-from test_tools import InFolder
 from small import CODE, READ_ONLY, WRITABLE, Part
+from test_tools import InFolder
 
 # lui a4,0x20; slli a0,a0,3; add a0,a0,a4; ld a5,0(a0); then jr a5, or jalr a5.
 ADDRESS, INDEX, JUMP, CALL = "00020737", "00351513 00E50533 00053783", "00078067", "000780E7"

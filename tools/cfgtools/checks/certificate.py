@@ -9,7 +9,6 @@ jump tables. The second one, under the cuts that the first one's tables give, is
 from __future__ import annotations
 
 import contextlib
-import os
 import re
 import subprocess
 import sys

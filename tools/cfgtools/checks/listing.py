@@ -7,7 +7,7 @@ so who uses it says what a jump through a register goes through.
 from __future__ import annotations
 
 import re
-from typing import Dict, FrozenSet, Iterable, List, Mapping, NamedTuple, Optional, Set, Tuple
+from typing import Dict, FrozenSet, Iterable, Mapping, NamedTuple, Optional, Set, Tuple
 
 from cfgtools.checks import binutils
 from cfgtools.checks.binutils import Line, Section

@@ -167,7 +167,7 @@ class Frames:
     def _shared_at(self, at: int) -> Shared:
         if at not in self._shared:
             if not 0 <= at < len(self._data):
-                raise Broken(f"a frame description whose common part is not in the section")
+                raise Broken("a frame description whose common part is not in the section")
             self._shared[at] = self._read_shared(at)
         return self._shared[at]
 

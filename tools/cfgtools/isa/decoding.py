@@ -8,7 +8,7 @@ from typing import NamedTuple, Optional, Tuple
 
 from cfgtools.isa import extensions
 from cfgtools.isa.extensions import NONE, Names
-from cfgtools.isa.instructions import KEPT_BY_CALLS, STUB_BASE, STUB_LINK, Row, decoded, immediate, signed
+from cfgtools.isa.instructions import KEPT_BY_CALLS, STUB_BASE, STUB_LINK, Row, decoded, immediate
 
 UNKNOWN = "?"
 CALLER_SAVED = frozenset(range(1, 32)) - KEPT_BY_CALLS

@@ -11,8 +11,7 @@ import struct
 from typing import Callable, Dict, List, Sequence
 
 from cfgtools.making.hostile import (
-    BREAK, CODE_AT, DATA_AT, NOP, RETURN, Halves, Symbol, add, branch, far, file_of, file_with, jump, sections_of,
-    short_jump, table_jump,
+    BREAK, CODE_AT, DATA_AT, NOP, RETURN, Halves, Symbol, add, branch, file_with, jump, short_jump, table_jump,
 )
 
 # A branch of four bytes over a jump of four: a way to the next such pair, and one to where the jump leads.

@@ -7,7 +7,6 @@ from typing import Any, Dict, Iterator, List, NamedTuple, Optional, Set, Tuple
 
 from cfgtools.elf.elf_file import Elf
 from cfgtools.explain.staying import Staying, behind
-from cfgtools.reports import cfg_report
 from cfgtools.reports.body import Body
 from cfgtools.reports.cfg_report import Block, Edge, Function, Report, ReportError, address, function_name
 from cfgtools.reports.changed_graph import Places
