@@ -5,6 +5,7 @@ from __future__ import annotations
 import os
 import shutil
 import subprocess
+import sys
 import tempfile
 import unittest
 from pathlib import Path
@@ -52,6 +53,32 @@ class Install(unittest.TestCase):
         said = subprocess.run([self.prefix / "bin" / "cfg-summary", elf], capture_output=True, text=True, env=environment, check=False)
         self.assertEqual((said.returncode, said.stderr), (0, ""))
         self.assertIn("functions", said.stdout)
+        shutil.rmtree(self.top)
+        self.assert_scripts_run()
+
+    def assert_scripts_run(self) -> None:
+        """Each script that is installed finds its modules, as does a reader of one's own."""
+        scripts = sorted((self.prefix / "bin").glob("cfg-*"))
+        self.assertEqual(len(scripts), 16)
+        for script in scripts:
+            said = subprocess.run([script, "--help"], cwd="/", capture_output=True, text=True, check=False)
+            self.assertEqual((said.returncode, said.stderr), (0, ""), script.name)
+            self.assertTrue(said.stdout.startswith(f"usage: {script.name} "), script.name)
+        environment = dict(os.environ, PYTHONPATH=str(self.prefix / "share" / "cfg" / "tools"))
+        command = [sys.executable, "-B", "-c", "from cfgtools.reports import cfg_report; print(cfg_report.FIRST_LINE)"]
+        said = subprocess.run(command, cwd="/", env=environment, capture_output=True, text=True, check=False)
+        self.assertEqual(said.stdout, "b'cfg-report 2\\n'\n")
+
+    def test_no_module_of_an_earlier_version_is_left(self) -> None:
+        program = self.top / "crates" / "cfg" / "out" / "cfg"
+        program.parent.mkdir(parents=True)
+        program.write_text("#!/bin/sh\n")
+        program.chmod(0o755)
+        self.install()
+        old = self.prefix / "share" / "cfg" / "tools" / "cfgtools" / "reports" / "old.py"
+        old.write_text("")
+        self.assertEqual(self.install().returncode, 0)
+        self.assertFalse(old.exists())
 
     def test_further_programs_that_are_built(self) -> None:
         for name in ("cfg", "cfg_walk", "cfg_check"):

@@ -83,6 +83,13 @@ ROWS = """<!-- made: rows -->
 | 8 | another byte | status 0 | stale |
 <!-- end -->
 """
+SCRIPTS = """<!-- made: scripts tools -->
+| Script | Does | See |
+|---|---|---|
+| `tools/second FILE` | stale | a page |
+| `tools/gone` | stale | |
+<!-- end -->
+"""
 GATE = """<!-- gate -->
 
 | Crate | Check | Its tests | Start of its edits | Edits | Seconds of these | Sum |
@@ -166,6 +173,17 @@ class Made(unittest.TestCase):
                       "functions 10000 may-return 1 -, in 10000; 10004 no-return 1 c, in 10004 |\n"
                       "|  | the same | status 2 |  |\n| 8 | another byte | status 0 |  |\n", page)
         self.assertEqual(self.tables.written(self.top, page).split(), "Row File Answer 7 two words the same status 2 8 another byte status 0".split())
+
+    def test_scripts(self) -> None:
+        for name, text in (("first", "#!/bin/sh\n# Makes a|b, or\n# nothing. More.\n#\n#     tools/first\nexit 1\n"),
+                           ("second", "#!/usr/bin/env python3\n\"\"\"Reads\na file.\n\n    tools/second FILE\n\"\"\"\n"), ("note", "")):
+            self.write({f"tools/{name}": text})
+            (self.top / "tools" / name).chmod(0o644 if name == "note" else 0o755)
+        page = self.tables.remade(self.top, SCRIPTS)
+        self.assertIn("| Script | Does | See |\n|---|---|---|\n| `tools/second FILE` | Reads a file | a page |\n"
+                      "| `tools/first` | Makes a\\|b, or nothing |  |\n\n<!-- end -->", page)
+        self.assertEqual(self.tables.remade(self.top, page), page)
+        self.assertEqual(self.tables.written(self.top, page).split(), "Script See `tools/second FILE` a page `tools/first`".split())
 
     def test_made_again_it_is_the_same(self) -> None:
         page = self.tables.remade(self.top, PAGE)
