@@ -6,7 +6,7 @@ from __future__ import annotations
 
 import sys
 from pathlib import Path
-from typing import Dict, List, Set, Tuple
+from typing import Dict, Iterator, List, Set, Tuple
 
 sys.dont_write_bytecode = True
 sys.path.insert(0, str(Path(__file__).resolve().parent.parent))
@@ -71,7 +71,7 @@ class Graph:
             return "icall", [(behind, "after")] if is_code(behind) else []
         return ("fall", [(behind, "fall")]) if is_code(behind) else ("stop", [])
 
-    def _blocks(self):
+    def _blocks(self) -> Iterator[Tuple[int, Tuple[int, str, List[Tuple[int, str]]]]]:
         for start in sorted(self.leaders & self.insns.keys()):
             at = start
             while True:

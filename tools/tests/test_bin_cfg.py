@@ -12,6 +12,7 @@ import tempfile
 import time
 import unittest
 from pathlib import Path
+from typing import Callable, List
 
 import rows
 
@@ -191,7 +192,8 @@ class BinCfg(unittest.TestCase):
 
     def test_a_source_that_is_gone_or_new(self) -> None:
         source = self.top / "crates" / "high" / "src"
-        for change in ((source / "more.rt").touch, (source / "more.rt").unlink):
+        changes: List[Callable[[], None]] = [(source / "more.rt").touch, (source / "more.rt").unlink]
+        for change in changes:
             self.run_cfg("a")
             time.sleep(0.1)
             change()

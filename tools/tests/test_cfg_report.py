@@ -3,6 +3,7 @@
 from __future__ import annotations
 
 import io
+import itertools
 import re
 import tracemalloc
 import unittest
@@ -60,18 +61,11 @@ class Whole(unittest.TestCase):
         blocks = (b"block %016x %016x return\n" % (place, place + 2) for place in range(0, 2 * count, 2))
         head = [b"cfg-report 2\n", b"entry %016x\n" % 0, b"blocks %d\n" % count]
 
-        class Lines(io.RawIOBase):
-            def __init__(self) -> None:
-                self.left = iter([*head, "blocks", b"end\n"])
+        lines = itertools.chain(head, blocks, [b"end\n"])
 
+        class Lines(io.RawIOBase):
             def readline(self, limit: int = -1) -> bytes:  # type: ignore[override]
-                line = next(self.left, b"")
-                if line == "blocks":
-                    line = next(blocks, None)
-                    if line is None:
-                        return next(self.left)
-                    self.left = iter(["blocks", b"end\n"])
-                return line  # type: ignore[return-value]
+                return next(lines, b"")
 
         tracemalloc.start()
         found = sum(isinstance(item, Block) for item in cfg_report.read(Lines()))  # type: ignore[arg-type]

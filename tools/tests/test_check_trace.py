@@ -34,12 +34,12 @@ def log(*steps: object) -> bytes:
 class CheckTrace(InFolder):
     def setUp(self) -> None:
         super().setUp()
-        self.elf = self.file("elf", small.elf([small.Part(".text", small.CODE, 0x10000, CODE)], [("f", 0x10000, 16), ("g", 0x10010, 4)]))
+        self.path = self.file("elf", small.elf([small.Part(".text", small.CODE, 0x10000, CODE)], [("f", 0x10000, 16), ("g", 0x10010, 4)]))
         self.report = self.file("report", small.report(FUNCTIONS, BLOCKS, EDGES))
 
     def checked(self, *steps: object, words: Sequence[str] = ()) -> Tuple[int, List[str]]:
         path = self.file("log", log(*steps))
-        return self.run_main("check_trace", "--report", self.report, "--log", path, *words, self.elf)[:2]
+        return self.run_main("check_trace", "--report", self.report, "--log", path, *words, self.path)[:2]
 
     def test_good_moves(self) -> None:
         self.assertEqual(self.checked(*ALL_GOOD), (0, [
@@ -51,7 +51,7 @@ class CheckTrace(InFolder):
     def test_each_move(self) -> None:
         tool = script("check_trace")
         with open(self.report, "rb") as stream:
-            graph = tool.Graph(cfg_report.load(stream), Memory(self.elf))
+            graph = tool.Graph(cfg_report.load(stream), Memory(self.path))
         for last, at, wanted in (
             (0x10000, 0x10004, tool.INSIDE), (0x10004, 0x10008, "along an edge: fall"), (0x10004, 0x1000C, "along an edge: taken"),
             (0x10004, 0x10010, tool.OUTLIER), (0x10000, 0x10008, tool.OUTLIER), (0x10000, 0x1000C, tool.OUTLIER),
@@ -87,7 +87,7 @@ class CheckTrace(InFolder):
 
     def test_returns_that_the_report_rules_out(self) -> None:
         code, functions, blocks, edges = self.RULED_OUT
-        self.elf = self.file("elf", small.elf([small.Part(".text", small.CODE, 0x10000, code)], [("main", 0x10000, 8), ("f", 0x10008, 8), ("g", 0x10010, 8)]))
+        self.path = self.file("elf", small.elf([small.Part(".text", small.CODE, 0x10000, code)], [("main", 0x10000, 8), ("f", 0x10008, 8), ("g", 0x10010, 8)]))
         self.report = self.file("report", small.report(functions, blocks, edges))
         status, said = self.checked(0x10000, 0x10008, 0x10010, 0x10014, 0x1000C, 0x10004, 0x30000)
         self.assertEqual(status, 1)
@@ -106,7 +106,7 @@ class CheckTrace(InFolder):
     def test_a_call_through_a_register_of_what_does_not_return(self) -> None:
         # jalr a5; ret; and at 10008 the same g.
         code = small.code("000780E7 00008067", "0AB56533 00008067")
-        self.elf = self.file("elf", small.elf([small.Part(".text", small.CODE, 0x10000, code)], [("main", 0x10000, 8), ("g", 0x10008, 8)]))
+        self.path = self.file("elf", small.elf([small.Part(".text", small.CODE, 0x10000, code)], [("main", 0x10000, 8), ("g", 0x10008, 8)]))
         self.report = self.file("report", small.report("10000 may-return main: 10000 10004, 10008 no-return g: 10008",
                                                        "10000 10004 icall, 10004 10008 return, 10008 1000a stop", "10000 10004 after"))
         status, said = self.checked(0x10000, 0x10008, 0x1000C, 0x10004)
@@ -125,7 +125,7 @@ class CheckTrace(InFolder):
 
     def test_words(self) -> None:
         self.assertEqual(self.checked(*ALL_GOOD, words=["--steps", "3"])[1][0], "3 steps in 1 thread, 2 different moves")
-        done = self.run_process("check_trace", "--report", self.report, "--log", self.file("no_log", b"nothing\n"), self.elf)
+        done = self.run_process("check_trace", "--report", self.report, "--log", self.file("no_log", b"nothing\n"), self.path)
         self.assertEqual(done.returncode, 2)
         self.assertIn("no step was logged", done.stderr)
 
@@ -134,7 +134,7 @@ class CheckTrace(InFolder):
         qemu = self.file("qemu", f'#!/bin/sh\n[ "$1" = -help ] && exit 0\n[ "$1 $2 $3 $5" = "-d exec,nochain,strace -D -singlestep" ] || exit 9\n'
                          f'cat {path} > "$4"\necho said by "$7" >&2\nexit 3\n'.encode())
         os.chmod(qemu, 0o755)
-        done = self.run_process("check_trace", "--report", self.report, "--qemu", qemu, self.elf, "a-word", "--steps")
+        done = self.run_process("check_trace", "--report", self.report, "--qemu", qemu, self.path, "a-word", "--steps")
         self.assertEqual((done.returncode, done.stderr), (0, "said by a-word\n"))
         self.assertEqual(done.stdout.splitlines()[:2], ["the program ended with status 3", "10 steps in 1 thread, 9 different moves"])
 

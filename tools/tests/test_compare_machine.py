@@ -5,6 +5,7 @@ from __future__ import annotations
 import os
 import stat
 import unittest
+from unittest import mock
 
 import rows
 from cfgtools.checks import binutils
@@ -67,9 +68,8 @@ print("\\n".join(lines) + "\\ntrap Ecall")
         return str(path)
 
     def said_of(self, machine: str, *words: str) -> "tuple[int, list[str]]":
-        os.environ["DUMP_INSTRUCTIONS"] = machine
-        self.addCleanup(os.environ.pop, "DUMP_INSTRUCTIONS", None)
-        done = self.run_process("compare_machine", "--programs", "1", "--length", "30", *words)
+        with mock.patch.dict(os.environ, DUMP_INSTRUCTIONS=machine):
+            done = self.run_process("compare_machine", "--programs", "1", "--length", "30", *words)
         self.assertEqual(done.stderr, "")
         return done.returncode, done.stdout.splitlines()
 

@@ -85,7 +85,7 @@ class Reading(WithFile):
 
 
 class Writing(WithFile):
-    def elf(self, *more: Part, halves: Halves = TEXT) -> Memory:
+    def made(self, *more: Part, halves: Halves = TEXT) -> Memory:
         return self.memory([code(halves), Part(".rodata", address=DATA_AT, data=ENTRIES), *symbols(3, ["main"], [CODE_AT]), *more])
 
     def written(self, elf: Memory, *tables: Wanted) -> Memory:
@@ -95,15 +95,15 @@ class Writing(WithFile):
             self.assertFalse(declaring.put("tables", table))
         return Memory(self.file("out", with_symbols(elf, [], None, declaring.additions())))
 
-    def declared(self, elf: Memory) -> Dict[int, Tuple[int, ...]]:
+    def declared_by(self, elf: Memory) -> Dict[int, Tuple[int, ...]]:
         found = Declared(elf)
         return {jump: found.targets(record) for jump, record in found.records.items()}
 
     def test_in_place_and_copied(self) -> None:
-        elf = self.elf()
+        elf = self.made()
         in_place = Wanted(FIRST, TARGETS, (DATA_AT, 8, 0))
         out = self.written(elf, in_place, Wanted(SECOND, TARGETS[::-1]))
-        self.assertEqual(self.declared(out), {FIRST: TARGETS, SECOND: TARGETS[::-1]})
+        self.assertEqual(self.declared_by(out), {FIRST: TARGETS, SECOND: TARGETS[::-1]})
         self.assertEqual(Declared(out).records[FIRST], Record(FIRST, DATA_AT, 0, 3, 8))
         copies = out.section(COPIES.decode())
         assert copies is not None
@@ -112,30 +112,30 @@ class Writing(WithFile):
         self.assertEqual(elf.data[62:], out.data[62:len(elf.data)])
         # What does not stand there as it is wanted is copied, and equal tables once.
         out = self.written(elf, Wanted(FIRST, TARGETS[1:], (DATA_AT, 8, 0)), Wanted(SECOND, TARGETS[1:]))
-        self.assertEqual(self.declared(out), {FIRST: TARGETS[1:], SECOND: TARGETS[1:]})
+        self.assertEqual(self.declared_by(out), {FIRST: TARGETS[1:], SECOND: TARGETS[1:]})
         self.assertEqual(len(out.contents(out.section(COPIES.decode()))), 16)  # type: ignore[arg-type]
 
     def test_records_that_are_there(self) -> None:
         wrong, other = Record(FIRST, DATA_AT, 0, 0, 8), Record(SECOND, DATA_AT, 0, 1, 8)
-        out = self.written(self.elf(section(wrong, other)), Wanted(FIRST, TARGETS, (DATA_AT, 8, 0)))
-        self.assertEqual(self.declared(out), {FIRST: TARGETS, SECOND: TARGETS[:1]})
+        out = self.written(self.made(section(wrong, other)), Wanted(FIRST, TARGETS, (DATA_AT, 8, 0)))
+        self.assertEqual(self.declared_by(out), {FIRST: TARGETS, SECOND: TARGETS[:1]})
         again = self.written(out, Wanted(SECOND, TARGETS))
-        self.assertEqual(self.declared(again), {FIRST: TARGETS, SECOND: TARGETS})
-        loaded = self.elf(section(wrong, flags=ALLOC, address=0x50000))
+        self.assertEqual(self.declared_by(again), {FIRST: TARGETS, SECOND: TARGETS})
+        loaded = self.made(section(wrong, flags=ALLOC, address=0x50000))
         with self.assertRaisesRegex(ReportError, "cannot grow"):
             self.written(loaded, Wanted(FIRST, TARGETS))
 
     def test_free_addresses(self) -> None:
-        self.assertEqual(free_address(self.elf(), 8), 0x21000)
+        self.assertEqual(free_address(self.made(), 8), 0x21000)
         high = Part(".high", address=2**64 - 4096, data=bytes(4095))
-        self.assertEqual(free_address(self.elf(high), 8), 0x21000)
-        self.assertEqual(free_address(self.elf(Part(".high", address=0x21000, data=bytes(5000)), high), 8), 0x23000)
+        self.assertEqual(free_address(self.made(high), 8), 0x21000)
+        self.assertEqual(free_address(self.made(Part(".high", address=0x21000, data=bytes(5000)), high), 8), 0x23000)
         segment = struct.pack("<IIQQQQQQ", 1, 4, 0, 0x20000, 0x20000, 0, 0x9000, 4096)
         path = self.elf_file([code(TEXT), Part(".rodata", address=DATA_AT, data=ENTRIES)], programs=segment)
         self.assertEqual(free_address(Memory(path), 8), 0x29000)
 
     def test_a_table_changes_only_so_often(self) -> None:
-        declaring = Declaring(self.elf())
+        declaring = Declaring(self.made())
         changes = [declaring.put("switches", Wanted(FIRST, TARGETS[:1] * number)) for number in range(1, 20)]
         self.assertEqual(sum(changes), Declaring.MOST_CHANGES)
         self.assertFalse(declaring.put("switches", Wanted(SECOND, ())))

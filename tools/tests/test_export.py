@@ -28,11 +28,16 @@ USING = (rows.TOOLS.parent / "docs" / "USING.md").read_text(encoding="utf-8")
 class Recorder:
     """Takes any call and any name, and notes the calls."""
 
-    def __init__(self) -> None:
+    def __init__(self, **numbers: int) -> None:
         self.calls: List[Any] = []
+        self.__dict__.update(numbers)
 
     def __getattr__(self, name: str) -> Any:
-        return lambda *words: self.calls.append((name, *words)) or len(self.calls)
+        def noted(*words: Any) -> int:
+            self.calls.append((name, *words))
+            return len(self.calls)
+
+        return noted
 
 
 class Export(InFolder):
@@ -84,9 +89,7 @@ class Export(InFolder):
         return said.getvalue()
 
     def test_ida(self) -> None:
-        funcs, names, xrefs = Recorder(), Recorder(), Recorder()
-        names.SN_NOWARN = names.SN_FORCE = 0
-        xrefs.fl_CN, xrefs.fl_JN, xrefs.XREF_USER = 16, 18, 32
+        funcs, names, xrefs = Recorder(), Recorder(SN_NOWARN=0, SN_FORCE=0), Recorder(fl_CN=16, fl_JN=18, XREF_USER=32)
         ua = types.SimpleNamespace(create_insn=lambda at: 4)
         said = self.run_as(self.out("ida"), {"ida_funcs": funcs, "ida_name": names, "ida_ua": ua, "ida_xref": xrefs}, {})
         self.assertEqual(said, "2 functions, 5 blocks, 2 edges\n")

@@ -79,7 +79,7 @@ class Rows(unittest.TestCase):
 
     @unittest.skipUnless(any(map(shutil.which, ASSEMBLER)), "llvm-mc is not installed")
     def test_words_are_those_of_an_assembler(self) -> None:
-        tool = next(filter(None, map(shutil.which, ASSEMBLER)))
+        tool = next(it for it in map(shutil.which, ASSEMBLER) if it)
         for name, items in groups():
             text = "".join(item[1] + "\n" for item in items)
             done = subprocess.run([tool, "-triple=riscv64", f"-mattr={FEATURES.get(name, '+' + name)}", "-show-encoding"],
@@ -103,6 +103,7 @@ class Rows(unittest.TestCase):
             assert one is not None
             self.assertEqual((set(one.read), one.written, one.pair), (read, written, pair), one.text)
             line = listing.of_named(binutils.Line(4, int(digits, 16), ".4byte", []), names)
+            assert line is not None
             self.assertEqual(script("compare_live").effects_of(line.mnemonic, line.operands),
                              (read - {0}, {register for register in (written, pair) if register}), one.text)
 

@@ -11,7 +11,7 @@ import sys
 import tempfile
 import unittest
 from pathlib import Path
-from typing import List, Tuple
+from typing import List, Set, Tuple
 from unittest import mock
 
 import rows
@@ -51,7 +51,7 @@ class GateTimes(unittest.TestCase):
             (["python3", *words[1:]], "/top", None),
             (["/kit/bin/rattle", "--help"], "/top", None),
         ]
-        begun = set()
+        begun: Set[str] = set()
         for given, at, told in cases:
             with self.subTest(given=given, at=at):
                 self.assertEqual(self.gate.told_by(given, at, begun), told)
@@ -102,12 +102,9 @@ class GateTimes(unittest.TestCase):
             return status, said.read()
 
     def test_it_runs_the_gate_and_ends_as_that_does(self) -> None:
-        for text, words, asked in (
-            (FROM_NOTHING, [], "ci"),
-            (FROM_NOTHING, ["--anew"], "ci"),
-            (KEEPS, [], "ci"),
-            (KEEPS, ["--anew", "low"], "ci --anew low"),
-        ):
+        runs: List[Tuple[str, List[str], str]] = [
+            (FROM_NOTHING, [], "ci"), (FROM_NOTHING, ["--anew"], "ci"), (KEEPS, [], "ci"), (KEEPS, ["--anew", "low"], "ci --anew low")]
+        for text, words, asked in runs:
             with self.subTest(words=words, keeps=text == KEEPS):
                 status, said = self.run_gate(text, *words)
                 self.assertEqual(status, 3)

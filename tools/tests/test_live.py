@@ -168,9 +168,9 @@ class NotReliedOn(InFolder):
         said = self.said("summary", "--live", self.path, cfg=self.cfg)
         self.assertIn("    and 2 that are not to be relied on, since an instruction that is not decoded is reached from them", said)
         self.assertIn("    1 or more free: 2 (100.0 %)", said)
-        said = "\n".join(self.said("draw", "--live", self.path, "f", cfg=self.cfg))
-        self.assertEqual(said.count("not to be relied on:"), 2)
-        self.assertEqual(said.count("free:"), 2)
+        drawn = "\n".join(self.said("draw", "--live", self.path, "f", cfg=self.cfg))
+        self.assertEqual(drawn.count("not to be relied on:"), 2)
+        self.assertEqual(drawn.count("free:"), 2)
 
 
 class Pictures(InFolder):

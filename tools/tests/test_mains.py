@@ -13,7 +13,7 @@ import subprocess
 import tempfile
 import unittest
 from pathlib import Path
-from typing import Callable, Dict, List, NamedTuple, Optional, Tuple, Union
+from typing import BinaryIO, Callable, Dict, List, NamedTuple, Optional, Tuple, Union
 
 import rows
 import small_elf
@@ -64,8 +64,10 @@ FILES: Dict[str, bytes] = {
 
 def cases() -> List[Case]:
     """The runs: those that each program answers alike, and its own."""
-    found = []
-    for program, before, text in (("cfg", [], REPORT), ("cfg_walk", ["10"], TRACE), ("cfg_check", ["make"], CERTIFICATE)):
+    found: List[Case] = []
+    begins: List[Tuple[str, List[Union[str, bytes]], bytes]] = [
+        ("cfg", [], REPORT), ("cfg_walk", ["10"], TRACE), ("cfg_check", ["make"], CERTIFICATE)]
+    for program, before, text in begins:
         def case(name: str, words: List[Union[str, bytes]], status: int, line: str = "", out: bytes = b"", how: str = "") -> None:
             error = f"{program}: {line}\n".encode() if line else b""
             found.append(Case(program, name, words, (status, out, USAGE[program] if status == 1 else error), how))
@@ -148,8 +150,8 @@ class Runner:
         if case.how == "little memory":
             limit = lambda: resource.setrlimit(resource.RLIMIT_AS, (LITTLE_MEMORY, LITTLE_MEMORY))
         with open("/dev/full", "wb") as full:
-            out = full if case.how == "full" else subprocess.PIPE
-            error = full if case.how == "full error" else subprocess.PIPE
+            out: Union[int, BinaryIO] = full if case.how == "full" else subprocess.PIPE
+            error: Union[int, BinaryIO] = full if case.how == "full error" else subprocess.PIPE
             done = subprocess.run([program, *case.words], cwd=self.folder, env=environment, stdin=subprocess.DEVNULL, stdout=out,
                                   stderr=error, preexec_fn=limit, timeout=60)
         return done.returncode, done.stdout or b"", done.stderr or b""

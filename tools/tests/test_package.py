@@ -10,6 +10,7 @@ import tarfile
 import tempfile
 import unittest
 from pathlib import Path
+from typing import Any, List, Tuple
 
 import rows
 
@@ -25,9 +26,9 @@ esac
 SOURCE = '#include <stdio.h>\nint other(void);\nint main(int n, char **words) { printf("%s:%s:%d\\n", NAME, n > 1 ? words[1] : "", other()); return n < 2; }\n'
 
 
-def run(*command: object, path: str = os.environ["PATH"], **how: object) -> "subprocess.CompletedProcess[str]":
+def run(*command: object, path: str = os.environ["PATH"], **how: Any) -> "subprocess.CompletedProcess[str]":
     environment = {"PATH": path, "HOME": "/nowhere", "LC_ALL": "C.UTF-8"}
-    return subprocess.run([str(it) for it in command], env=environment, capture_output=True, text=True, **how)  # type: ignore[call-overload, no-any-return]
+    return subprocess.run([str(it) for it in command], env=environment, capture_output=True, text=True, **how)
 
 
 def links_statically() -> bool:
@@ -173,7 +174,8 @@ class Package(InFolder):
 
     def test_words(self) -> None:
         self.note()
-        for words in (["--help"], [self.folder, self.folder]):
+        both: List[Tuple[object, ...]] = [("--help",), (self.folder, self.folder)]
+        for words in both:
             done = run("sh", self.top / "bin" / "package", *words, path=self.path)
             self.assertEqual((done.returncode, done.stdout, done.stderr), (1, "", "usage: bin/package [FOLDER]\n"))
         here = run("sh", self.top / "bin" / "package", path=self.path, cwd=self.folder)
@@ -225,7 +227,7 @@ class ProvedPackage(InFolder):
         elf = self.folder / "one.elf"
         for number in (1, 6, 12):
             elf.write_bytes(rows.elf(number))
-            for words in ([], ["--workers", "4"]):
+            for words in ((), ("--workers", "4")):
                 said = run(package / "bin" / "cfg", *words, elf, path="/nowhere")
                 self.assertEqual((said.returncode, said.stderr), (0, ""))
                 self.assertEqual(said.stdout.replace(" start\n", " -\n"), rows.report(number).decode())

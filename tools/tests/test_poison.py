@@ -93,7 +93,7 @@ class Runs(InFolder):
         super().setUp()
         path = binutils.compile_c(str(self.folder / "program.elf"), SOURCE, "-O2", "-march=rv64imac", "-mabi=lp64", "-nostdlib", "-static")
         assert path is not None
-        self.elf = path
+        self.path = path
         self.graph = self.file("graph", self.output(rows.TOOLS / "tests" / "stand_in.py", path))
         self.live = self.file("live", self.output(rows.MAINTAIN / "compare_live", "--report", self.graph, "--print", path))
 
@@ -101,7 +101,7 @@ class Runs(InFolder):
         return subprocess.run([sys.executable, "-B", str(program), *words], capture_output=True, check=True).stdout
 
     def poison(self, live: str, *words: str) -> "tuple[int, list[str]]":
-        done = self.run_process("poison", "--report", self.graph, "--live", live, *words, self.elf)
+        done = self.run_process("poison", "--report", self.graph, "--live", live, *words, self.path)
         self.assertEqual(done.stderr, "")
         return done.returncode, done.stdout.splitlines()
 

@@ -202,10 +202,10 @@ class Names(InFolder):
         path = str(self.folder) + os.pathsep + os.environ["PATH"]
         self.assertIn("f() at 10000", self.run_script("query", "where", "--demangle", report, "10000", path=path).stdout.replace("is in ", ""))
         self.assertIn('digraph "f()"', self.run_script("draw", "--demangle", report, "f()", path=path).stdout)
-        for name, words in (("summary", []), ("to_json", []), ("call_graph", [])):
+        for name in ("summary", "to_json", "call_graph"):
             with self.subTest(name=name):
-                self.assertIn("f()", self.run_script(name, "--demangle", *words, report, path=path).stdout)
-                self.assertIn("_Z1fv", self.run_script(name, *words, report, path=path).stdout)
+                self.assertIn("f()", self.run_script(name, "--demangle", report, path=path).stdout)
+                self.assertIn("_Z1fv", self.run_script(name, report, path=path).stdout)
 
 
 if __name__ == "__main__":

@@ -70,8 +70,8 @@ class Open(InFolder):
         self.assertIn('    f10000 -> f1002c [color=deeppink, style=dotted, label="?"];', drawn)
         self.assertIn("    f10020 -> f1002c [color=firebrick];", drawn)
         self.assertFalse(any("f10000 -> " in line for line in self.said("call_graph", "--sure", path)))
-        functions = [json.loads(line) for line in self.said("to_json", "--sure", path) if '"function"' in line]
-        self.assertEqual(functions[0]["blocks"], ["0000000000010000", "0000000000010018"])
+        items = [json.loads(line) for line in self.said("to_json", "--sure", path) if '"function"' in line]
+        self.assertEqual(items[0]["blocks"], ["0000000000010000", "0000000000010018"])
 
     def test_numbers_in_pictures(self) -> None:
         drawn = "\n".join(self.said("draw", "--elf", self.elf_path, self.path, "f"))

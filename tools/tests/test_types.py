@@ -64,10 +64,10 @@ def in_cycles(left: Imports) -> List[str]:
 
 class Types(InFolder):
     @unittest.skipUnless(shutil.which("mypy"), "mypy is not installed")
-    def test_every_script(self) -> None:
+    def test_types(self) -> None:
         words = ["mypy", "--cache-dir", str(self.folder), "--scripts-are-modules", "--disallow-untyped-defs", "--disallow-incomplete-defs"]
-        environment = dict(os.environ, MYPYPATH=str(rows.TOOLS))
-        done = subprocess.run([*words, *scripts(*FOLDERS)], cwd=rows.TOOLS, env=environment, capture_output=True, text=True)
+        environment = dict(os.environ, MYPYPATH=os.pathsep.join(map(str, (rows.TOOLS, TESTS))))
+        done = subprocess.run([*words, *scripts(*FOLDERS, TESTS)], cwd=rows.TOOLS, env=environment, capture_output=True, text=True)
         self.assertEqual(done.returncode, 0, done.stdout)
 
     @unittest.skipUnless(shutil.which(LINTER[0]), "neither ruff nor pyflakes3 is installed")
