@@ -93,6 +93,7 @@ pub(crate) fn section_bytes(image: &Image, s: Section) -> &[u8]
 
 /// The length of the instruction at an offset of a section's bytes, if control goes straight on
 /// after it, by the extensions of the forms.
+#[inline(always)]
 pub(crate) fn length_at(forms: &mut StraightForms, code: &[u8], at: usize) -> Option<u8>
     requires { at + 2 ≤ length code.now }
     ensures answer { IsStraightLength forms.old (u16_at code.now at) (word_of code.now at) result }

@@ -94,10 +94,8 @@ module _ (bytes : List ℕ) (cuts : ℕ → Option ℕ) where
     apart : a + (placed_at bytes a).length ≡ next
     apart = straight-behind bytes a (placed_at bytes a).length (cuts a) (table_at bytes a) (raw_flow_at bytes a) next is
 
-    pub next-length : length_at (program_under bytes cuts) a ≡ Some (next - a)
-    next-length =
-        let size : (placed_at bytes a).length ≡ next - a = omega (arith, apart) in
-        length-program bytes cuts a code (placed_at bytes a) refl ∙ ap Some size
+    pub next-size : (placed_at bytes a).length ≡ next - a
+    next-size = omega (arith, apart)
 
     pub next-small : (a ≤ next) × (next - a < 256)
     next-small = elim (placed-size bytes a) [

@@ -191,6 +191,7 @@ impl<'a> Code<'a> {
     }
 
     /// The flow of the instruction at `a`, which is decoded.
+    #[inline(never)]
     fn decoded_flow(&self, a: u64) -> Flow
         requires { IsTrue (is_code self.now.bytes a) }
         ensures { flow_at (program_of self.now) a ≡ Some result }
@@ -200,11 +201,12 @@ impl<'a> Code<'a> {
         self.flow_by(a, behind, placed.flow)
     }
 
-    /// The length of the instruction at `a`. It is decoded only if its first halfword does not tell
-    /// its length: what is no instruction has the length 2.
-    fn end_length(&self, a: u64) -> u8
+    /// The length of the instruction at `a`. Most often its first halfword tells it: what is no
+    /// instruction has the length 2.
+    fn told_length(&self, a: u64) -> u8
         requires { IsTrue (is_code self.now.bytes a) }
-        ensures { result ≡ (placed_at self.now.bytes a).length }
+        ensures length { result ≡ (placed_at self.now.bytes a).length }
+        ensures lawful { IsLawful (program_of self.now) }
     {
         let read = self.index.bytes_at(a);
         if read.half & 0b11 != 0b11 {
@@ -212,7 +214,19 @@ impl<'a> Code<'a> {
         } else if is_jump_word(read.half) {
             jump_length(read.word)
         } else {
-            insn_at(self.image, a).length
+            self.word_length(a)
+        }
+    }
+
+    /// The length of the instruction at `a`, which is decoded if control does not go straight on
+    /// after it.
+    fn word_length(&self, a: u64) -> u8
+        requires { IsTrue (is_code self.now.bytes a) }
+        ensures { result ≡ (placed_at self.now.bytes a).length }
+    {
+        match self.index.next(a) {
+            Some(next) => (next - a) as u8,
+            None => insn_at(self.image, a).length,
         }
     }
 
@@ -256,6 +270,7 @@ impl<'a> Chains for Code<'a> {
     }
 
     // Only what ends its chain is decoded.
+    #[inline(always)]
     fn flow(&self, a: u64) -> Flow {
         match self.index.next(a) {
             Some(next) => Flow::Straight { next },
@@ -264,10 +279,7 @@ impl<'a> Chains for Code<'a> {
     }
 
     fn length(&self, a: u64) -> u8 {
-        match self.index.next(a) {
-            Some(next) => (next - a) as u8,
-            None => self.end_length(a),
-        }
+        self.told_length(a)
     }
 
     fn target(&self, a: u64, i: u32) -> u64 {

@@ -44,8 +44,20 @@ pub fn push_end_field(page: &mut Page, kind: EndKind)
     ensures text { page.new ≡ page.old ++ (codes " " ++ end_word kind ++ codes "\n") }
     ensures most { length page.new ≤ length page.old + 12 }
 {
-    push_field(page, end_word(kind));
-    page.push(b"\n");
+    match kind {
+        EndKind::Fall => page.push(b" fall\n"),
+        EndKind::Branch => page.push(b" branch\n"),
+        EndKind::BranchOut => page.push(b" branch-out\n"),
+        EndKind::Jump => page.push(b" jump\n"),
+        EndKind::Call => page.push(b" call\n"),
+        EndKind::IndirectCall => page.push(b" icall\n"),
+        EndKind::Return => page.push(b" return\n"),
+        EndKind::Table => page.push(b" table\n"),
+        EndKind::TableCut => page.push(b" table-cut\n"),
+        EndKind::TableOpen => page.push(b" table-open\n"),
+        EndKind::Unknown => page.push(b" unknown\n"),
+        EndKind::Stop => page.push(b" stop\n"),
+    }
 }
 
 /// Appends the last field of an edge's line, the word for the kind of the edge. A space comes
@@ -110,17 +122,27 @@ fn byte_digits(byte: u8) -> [u8; 2]
     [*high, *low]
 }
 
+/// The two hexadecimal digits of each of two bytes. They are copied by twos, and not each alone.
+#[inline(always)]
+fn two_bytes_digits(one: u8, other: u8) -> [u8; 4]
+    ensures { result ≡ hex_digits 2 one ++ hex_digits 2 other }
+{
+    let mut digits = *b"0000";
+    digits[..2].copy_from_slice(&byte_digits(one));
+    digits[2..].copy_from_slice(&byte_digits(other));
+    digits
+}
+
 /// The eight hexadecimal digits of half an address or of a mask of registers, the highest first.
 #[inline(always)]
 fn half_digits(half: u32) -> [u8; 8]
     ensures { result ≡ hex_digits 8 half }
 {
     let [a, b, c, d] = half.to_be_bytes();
-    let [a1, a0] = byte_digits(a);
-    let [b1, b0] = byte_digits(b);
-    let [c1, c0] = byte_digits(c);
-    let [d1, d0] = byte_digits(d);
-    [a1, a0, b1, b0, c1, c0, d1, d0]
+    let mut digits = *b"00000000";
+    digits[..4].copy_from_slice(&two_bytes_digits(a, b));
+    digits[4..].copy_from_slice(&two_bytes_digits(c, d));
+    digits
 }
 
 /// An address as sixteen hexadecimal digits, the highest first. Most addresses lie below 2^32, and

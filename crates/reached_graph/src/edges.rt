@@ -40,6 +40,9 @@ fn sort_from(edges: &mut Vec<Edge>, from: usize)
     ensures { (edge : _) → Contains edges.new.items edge ↔ Contains edges.old.items edge }
 {
     let from = from.min(edges.len());
+    if edges.len() - from < 2 {
+        return;
+    }
     edges[from..].sort_unstable();
 }
 
@@ -55,11 +58,9 @@ fn callee_returns<F: Fn(u64) -> bool>(flow: Flow, returns: &F) -> bool
 }
 
 /// The same edges, each once, by the start of the block that they leave, then of the block that
-/// they enter, then by kind. The first sort makes use of the order that they have. If memory for it
-/// is missing, the second one does all.
-pub(crate) fn by_source(mut edges: Vec<Edge>) -> Vec<Edge>
+/// they enter, then by kind. That takes one pass if they are in this order but for double ones.
+pub(crate) fn by_source(edges: Vec<Edge>) -> Vec<Edge>
     ensures { Lists EdgeBefore (Contains edges.items) result.items }
 {
-    let _ = edges.sort();
     edges_in_order(edges)
 }

@@ -123,6 +123,7 @@ fn jalr_word_flow(image: &Image, a: u64, word: u32) -> PlacedFlow
 }
 
 /// That of what a whole word is, which is decoded.
+#[inline(never)]
 fn flow_of_whole(image: &Image, a: u64, insn: Option<Insn>) -> PlacedFlow
     ensures { result ≡ flow_of_whole image.now a insn }
 {

@@ -70,6 +70,7 @@ impl StraightForms {
 
     /// The length of the instruction that begins with the halfword `half`, if control goes straight
     /// on after it. `word` are its four bytes, if all of them are there.
+    #[inline(always)]
     pub fn length(&mut self, half: u16, word: Option<u32>) -> Option<u8>
         ensures answer { IsStraightLength self.old half word result }
         ensures kept { self.new ≡ self.old }
@@ -85,6 +86,7 @@ impl StraightForms {
     }
 
     // Whether control goes straight on after a halfword as a 16-bit instruction.
+    #[inline(always)]
     fn short_goes_on(&mut self, half: u16) -> bool
         ensures answer { result ≡ short_goes_on self.old half }
         ensures kept { self.new ≡ self.old }
@@ -98,6 +100,7 @@ impl StraightForms {
 
     // The same, decoded, and kept in mind if there is room for it.
     #[cold]
+    #[inline(never)]
     fn decode(&mut self, half: u16) -> bool
         ensures answer { result ≡ short_goes_on self.old half }
         ensures kept { self.new ≡ self.old }

@@ -77,6 +77,8 @@ pub(crate) fn word_goes_on(extensions: &Extensions, word: u32) -> bool
 }
 
 // Whether a word is an instruction of an extension that is named. Each of these goes straight on.
+#[cold]
+#[inline(never)]
 fn is_extension(extensions: &Extensions, word: u32) -> bool
     ensures { result ≡ is_some (extension_instruction extensions.now word) }
 {
