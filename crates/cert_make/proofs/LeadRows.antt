@@ -37,14 +37,12 @@ same_stand code xs ys same all i d lt =
 pub first_at : (code : InstructionMap) (start : List LeadLine) → LeadsRise start → All (λ (l : LeadLine). IsSome (code l.at)) start → AreLeadsAt code start start
 first_at code start up stand = record { same = refl; rising = up; stand = stand }
 
-pub next_at : (code : InstructionMap) (seeds : List ℕ) (start lines slice next : List LeadLine) → AreLeadsAt code start lines → slice ≡ lines → AreLeadsSettledBy code seeds slice slice next → AreLeadsAt code start next
-next_at code seeds start lines slice next are same from_slice =
-    let step : AreLeadsSettledBy code seeds lines lines next = subst (λ (ls : List LeadLine). AreLeadsSettledBy code seeds ls ls next) same from_slice in
-    record {
-      same = step.same ∙ are.same;
-      rising = same_rise lines next step.same are.rising;
-      stand = same_stand code lines next step.same are.stand;
-    }
+pub next_at : (code : InstructionMap) (seeds : List ℕ) (start lines next : List LeadLine) → AreLeadsAt code start lines → AreLeadsSettledBy code seeds lines lines next → AreLeadsAt code start next
+next_at code seeds start lines next are step = record {
+  same = step.same ∙ are.same;
+  rising = same_rise lines next step.same are.rising;
+  stand = same_stand code lines next step.same are.stand;
+}
 
 -- where two tables have the same addresses and ranks, a line is settled by both or by none
 
@@ -79,14 +77,11 @@ settled_by_same code seeds xs ys same alike l settled = record {
   least = λ rank why lt fits. settled.least rank why lt (leads_weaker code seeds (IsLeadBelow xs rank) (IsLeadBelow ys rank) (moved xs ys same alike rank) l.at why fits);
 }
 
-pub at_rest : (code : InstructionMap) (seeds : List ℕ) (start lines slice next other one : List LeadLine) → AreLeadsAt code start lines → slice ≡ lines → AreLeadsSettledBy code seeds slice slice next → other ≡ lines → one ≡ next → LeadsHaveSameRanks one other → AreLeadsSettledBy code seeds next start next
-at_rest code seeds start lines slice next other one are same from_slice is also alike =
-    let step : AreLeadsSettledBy code seeds lines lines next = subst (λ (ls : List LeadLine). AreLeadsSettledBy code seeds ls ls next) same from_slice in
-    let ranks : LeadsHaveSameRanks next lines = subst (λ (ls : List LeadLine). LeadsHaveSameRanks next ls) is (subst (λ (ls : List LeadLine). LeadsHaveSameRanks ls other) also alike) in
-    record {
-      same = step.same ∙ are.same;
-      settled = λ i d lt. settled_by_same code seeds next lines step.same ranks (get_or next i d) (step.settled i d lt);
-    }
+pub at_rest : (code : InstructionMap) (seeds : List ℕ) (start lines next : List LeadLine) → AreLeadsAt code start lines → AreLeadsSettledBy code seeds lines lines next → LeadsHaveSameRanks next lines → AreLeadsSettledBy code seeds next start next
+at_rest code seeds start lines next are step ranks = record {
+  same = step.same ∙ are.same;
+  settled = λ i d lt. settled_by_same code seeds next lines step.same ranks (get_or next i d) (step.settled i d lt);
+}
 
 pub long_enough : (code : InstructionMap) (seeds : List ℕ) (lines slice next other one : List LeadLine) → slice ≡ lines → AreLeadsSettledBy code seeds slice slice next → other ≡ lines → one ≡ next → length one ≤ length other
 long_enough code seeds lines slice next other one same step is also =
