@@ -1,6 +1,6 @@
 -- Tables of lines at the same addresses.
-use Rattle.std.proofs.Common.{◌≡◌, ℕ, ◌+◌, ◌<◌, ◌≤◌, List, Option, Some, ◌∷◌, [], ◌++◌, map, length, take, get_or, refl, sym, subst, ap, ◌∙◌, arith}
-use Rattle.std.specs.Prelude.{All, IfSome, IsSome}
+use Rattle.std.proofs.Common.{◌≡◌, ℕ, ◌+◌, ◌<◌, ◌≤◌, List, ◌∷◌, [], ◌++◌, map, length, take, get_or, refl, sym, subst, ap, ◌∙◌, arith}
+use Rattle.std.specs.Prelude.{All, IsSome}
 use Rattle.std.proofs.lemmas.List.{take_more, take_all, length-map, map-append, get_or_default}
 use Rattle.std.proofs.Math.ListN.{get_or-map}
 use Rattle.std.proofs.lemmas.List.Elements.{All-push}
@@ -83,14 +83,6 @@ at_rest code seeds start lines next are step ranks = record {
   settled = λ i d lt. settled_by_same code seeds next lines step.same ranks (get_or next i d) (step.settled i d lt);
 }
 
-pub long_enough : (code : InstructionMap) (seeds : List ℕ) (lines slice next other one : List LeadLine) → slice ≡ lines → AreLeadsSettledBy code seeds slice slice next → other ≡ lines → one ≡ next → length one ≤ length other
-long_enough code seeds lines slice next other one same step is also =
-    let a : length next ≡ length slice = same_length slice next step.same in
-    let b : length slice ≡ length lines = ap length same in
-    let c : length other ≡ length lines = ap length is in
-    let e : length one ≡ length next = ap length also in
-    omega arith
-
 pub none_yet : (code : InstructionMap) (seeds : List ℕ) (lines : List LeadLine) → AreLeadsSettledBy code seeds lines [] []
 none_yet code seeds lines = record { same = refl; settled = λ i d lt. absurd (omega arith) }
 
@@ -103,11 +95,7 @@ one_more code seeds lines some next i l lt before at settled = record {
 pub all_done : (code : InstructionMap) (seeds : List ℕ) (lines next : List LeadLine) (i : ℕ) → length lines ≤ i → AreLeadsSettledBy code seeds lines (take i lines) next → AreLeadsSettledBy code seeds lines lines next
 all_done code seeds lines next i long are = subst (λ (ls : List LeadLine). AreLeadsSettledBy code seeds lines ls next) (take_all i lines long) are
 
-found : {X : Type 0} (P : X → Type 0) (o : Option X) (x : X) → o ≡ Some x → IfSome o P → P x
-found P o x is all = subst (λ (p : Option _). IfSome p P) is all
-
-pub one_added : (code : InstructionMap) (seeds : List ℕ) (lines next more : List LeadLine) (i : ℕ) (o : Option LeadLine) (l : LeadLine) → i < length lines → AreLeadsSettledBy code seeds lines (take i lines) next
-    → o ≡ Some l → IfSome o (IsSettledLeadFor code seeds lines (get_or lines i no_lead).at) → more ≡ next ++ l ∷ [] → AreLeadsSettledBy code seeds lines (take (i + 1) lines) more
-one_added code seeds lines next more i o l lt before is all added =
-    let here = found (IsSettledLeadFor code seeds lines (get_or lines i no_lead).at) o l is all in
+pub one_added : (code : InstructionMap) (seeds : List ℕ) (lines next more : List LeadLine) (i : ℕ) (l : LeadLine) → i < length lines → AreLeadsSettledBy code seeds lines (take i lines) next
+    → IsSettledLeadFor code seeds lines (get_or lines i no_lead).at l → more ≡ next ++ l ∷ [] → AreLeadsSettledBy code seeds lines (take (i + 1) lines) more
+one_added code seeds lines next more i l lt before here added =
     subst (AreLeadsSettledBy code seeds lines (take (i + 1) lines)) (sym added) (one_more code seeds lines lines next i l lt before here.0 here.1)

@@ -1,10 +1,8 @@
 -- The line that a step finds for a leader.
-use Rattle.std.proofs.Common.{◌≡◌, ℕ, ◌+◌, ◌<◌, ◌≤◌, ◌⊎◌, List, [], ◌∷◌, ◌++◌, Option, Some, None, length, take, get_or, refl, sym, subst, ap, ◌∙◌, arith, inl, inr, ⊎_elim}
+use Rattle.std.proofs.Common.{◌≡◌, ℕ, ◌+◌, ◌<◌, ◌≤◌, List, Option, Some, None, length, get_or, refl, sym, subst, ap, ◌∙◌, arith, ⊎_elim}
 use Rattle.std.specs.Prelude.{All, Contains, IfSome, MatchOption}
-use Rattle.std.proofs.lemmas.List.{take_more, take_all}
-use Rattle.std.proofs.lemmas.List.Elements.{All-contains, All-push, Contains-append_left, Contains-push}
+use Rattle.std.proofs.lemmas.List.Elements.{All-contains}
 use Rattle.cfg_model.specs.Program.Instructions.{InstructionMap}
-use Rattle.cfg_model.proofs.Graphs.Lists.{Contains-none}
 use Rattle.cert_text.specs.declared.lines.LeadLine.{LeadLine}
 use Rattle.cert_text.specs.declared.lines.LeadWhy.{LeadWhy}
 use Rattle.cert_text.specs.declared.lines.LeadWhy.TheVariants.{Seed, From, Join}
@@ -14,7 +12,6 @@ use Rattle.cert_make.specs.declared.firsts.Offer.{Offer}
 use Rattle.cert_make.specs.declared.joins.Meeting.{Meeting}
 use Rattle.cert_make.specs.Reason.{LeadsFor, MeetsBy}
 use Rattle.cert_make.specs.First.{LeadWhyBefore}
-use Rattle.cert_make.specs.Inner.Returns.{IsNotAfter}
 use Rattle.cert_make.specs.Inner.Offers.{LeadsTo}
 use Rattle.cert_make.specs.Inner.Settled.{IsSettledLead, IsSettledLeadFor, IsNearestLead, NoneLeads, AreNearestLeads, IsFirstJoin, NoneJoin, AreJoins, HasNoLeadReason, IsJoinAt}
 

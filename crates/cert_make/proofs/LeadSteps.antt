@@ -1,6 +1,6 @@
 -- Steps over the lines of all leaders: whatever ranks they begin with, as many steps as there are
 -- lines settle all.
-use Rattle.std.proofs.Common.{◌≡◌, ℕ, zero, suc, ◌+◌, ◌<◌, ◌≤◌, ◌^◌, ◌-◌, List, length, get_or, map, refl, sym, subst, ap, ◌∙◌, arith, inl, inr}
+use Rattle.std.proofs.Common.{◌≡◌, ℕ, suc, ◌+◌, ◌<◌, ◌≤◌, ◌^◌, ◌-◌, List, length, map, refl, sym, subst, arith, inl, inr}
 use Rattle.std.specs.Prelude.{◌↔◌, All, Contains}
 use Rattle.std.proofs.lemmas.Bool.{cases_lt}
 use Rattle.std.proofs.lemmas.List.Elements.{All-contains, All-weaker}
@@ -9,14 +9,14 @@ use Rattle.cert_text.specs.declared.lines.LeadWhy.{LeadWhy}
 use Rattle.cfg_model.specs.Program.Instructions.{InstructionMap}
 use Rattle.cfg_model.specs.Graph.Leader.{IsLeader}
 use Rattle.outline_funcs.proofs.Search.{one_by_key}
-use Rattle.cert_laws.specs.Lines.{IsLead, IsLeadBelow}
+use Rattle.cert_laws.specs.Lines.{IsLeadBelow}
 use Rattle.cert_places.specs.Places.{LeadsRise}
 use Rattle.cert_make.specs.Reason.{LeadsFor}
 use Rattle.cert_make.specs.Rank.{LeadsBelow}
 use Rattle.cert_make.specs.Inner.Settled.{AreLeadsSettledBy, HasNoLeadReason, IsSettledLead, LeadsHaveSameRanks, ListAllLeaders}
 use Rattle.cert_make.proofs.Ranks.{leads_weaker}
 use Rattle.cert_make.proofs.RankedLeads.{leaders_have_ranks, ranked_leads}
-use Rattle.cert_make.proofs.CanonicalLeads.{at_listed, listed_at}
+use Rattle.cert_make.proofs.CanonicalLeads.{lead_in, listed_at}
 use Rattle.cert_make.proofs.ExactLeads.{lead_at_of}
 use Rattle.cert_make.proofs.LeadRows.{AreLeadsAt, at_index, at_rest, next_at, same_length, same_rise}
 use Rattle.cert_make.proofs.Steps.{AreRanks, HasLeast, IsTable, ListsBelow, SettledTo, has_reason, none_settled, ranks_stay, step_settles}
@@ -71,7 +71,7 @@ module _ (code : InstructionMap) (seeds : List ℕ) where
   has_one lines rising all most low l listed none =
       let here : IsLeader code seeds l.at = (table lines rising all).among l listed in
       let reason : HasReason code seeds (IsLeadBelow lines most) l.at =
-          has_reason lead_at_of lead_rank_of (IsLeader code seeds) (IsLeader code seeds) (HasReason code seeds) (LeadsBelow code seeds) IsLeadBelow ranks says lines (table lines rising all) most low l.at here in
+      has_reason lead_at_of lead_rank_of (IsLeader code seeds) (IsLeader code seeds) (HasReason code seeds) (LeadsBelow code seeds) IsLeadBelow ranks says lines (table lines rising all) most low l.at here in
       none most reason.0 reason.1
 
   module _ (lines next : List LeadLine) (rising : LeadsRise lines) (next_rising : LeadsRise next) (all : ListAllLeaders code seeds lines) (all_next : ListAllLeaders code seeds next) (step : All (IsSettledLead code seeds lines) next) where
@@ -85,7 +85,7 @@ module _ (code : InstructionMap) (seeds : List ℕ) where
     same_ranks : map lead_at_of next ≡ map lead_at_of lines → AreLeadsTo (length lines) lines → LeadsHaveSameRanks next lines
     same_ranks same settled i d within =
         ranks_stay lead_at_of lead_rank_of (IsLeader code seeds) (IsLeader code seeds) (HasReason code seeds) (LeadsBelow code seeds) IsLeadBelow ranks says lines (table lines rising all) settled next (table next next_rising all_next) all_least
-            (same_length lines next same) (λ n e lt. sym (at_index lines next same n e lt)) i d within
+        (same_length lines next same) (λ n e lt. sym (at_index lines next same n e lt)) i d within
 
   -- the ranks of a step are at most one above those before it
   module _ (lines : List LeadLine) (most : ℕ) (low : All (λ (l : LeadLine). l.rank < most) lines) where
@@ -102,9 +102,6 @@ module _ (code : InstructionMap) (seeds : List ℕ) where
     next_low next step = All-weaker (IsSettledLead code seeds lines) (λ (l : LeadLine). l.rank < most + 1) next_rank next step
 
 -- ---- the loop over the steps
-
-lead_in : (lines : List LeadLine) (a : ℕ) → IsLead lines a → Contains (map lead_at_of lines) a
-lead_in lines a lead = subst (λ (x : ℕ). Contains (map lead_at_of lines) x) lead.address (at_listed lines lead.line lead.listed)
 
 pub all_leads_at : (code : InstructionMap) (seeds : List ℕ) (start lines : List LeadLine) → map lead_at_of lines ≡ map lead_at_of start → ListAllLeaders code seeds start → ListAllLeaders code seeds lines
 all_leads_at code seeds start lines same all a = (

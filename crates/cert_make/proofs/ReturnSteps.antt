@@ -1,6 +1,6 @@
 -- Steps over the lines of all terminators that return: whatever ranks they begin with, as many steps
 -- as there are lines settle all.
-use Rattle.std.proofs.Common.{◌≡◌, ℕ, zero, suc, ◌+◌, ◌<◌, ◌≤◌, ◌^◌, ◌-◌, List, [], ◌∷◌, ◌++◌, length, get_or, map, take, refl, sym, subst, ap, ◌∙◌, arith, inl, inr}
+use Rattle.std.proofs.Common.{◌≡◌, ℕ, suc, ◌+◌, ◌<◌, ◌≤◌, ◌^◌, ◌-◌, List, [], ◌∷◌, ◌++◌, length, get_or, map, take, refl, sym, subst, ap, ◌∙◌, arith, inl, inr}
 use Rattle.std.specs.Prelude.{◌↔◌, All, Contains, MatchOption, Option, Some, None, unwrap_or}
 use Rattle.std.specs.List.{AllZip}
 use Rattle.std.proofs.lemmas.Bool.{cases_lt}
@@ -15,7 +15,7 @@ use Rattle.cfg_model.specs.Program.Status.{Returns}
 use Rattle.cfg_model.proofs.Program.Along.{returns_along}
 use Rattle.cfg_model.proofs.Graphs.LeaderFacts.{reached_along}
 use Rattle.outline_funcs.proofs.Search.{one_by_key}
-use Rattle.cert_laws.specs.Lines.{IsReturn, IsReturnBelow}
+use Rattle.cert_laws.specs.Lines.{IsReturnBelow}
 use Rattle.cert_places.specs.Places.{ReturnsRise}
 use Rattle.cert_places.proofs.Placed.{no_return}
 use Rattle.cert_make.specs.Reason.{EndCounts, ReturnsFor}
@@ -99,7 +99,7 @@ module _ (code : InstructionMap) (seeds : List ℕ) where
     has_one : (k : ℕ) → ReturnsReached code seeds k → HasNoReason code lines k → ⊥
     has_one k here none =
         let reason : HasReason code (IsReturnBelow lines most) k =
-            has_reason at_of rank_of (ReturnsReached code seeds) (Returns code) (HasReason code) (ReturnsBelow code) IsReturnBelow ranks says lines (table lines rising all) most low k here in
+        has_reason at_of rank_of (ReturnsReached code seeds) (Returns code) (HasReason code) (ReturnsBelow code) IsReturnBelow ranks says lines (table lines rising all) most low k here in
         none most reason.0 reason.1
 
     settled_line : (old new : ReturnLine) → Contains lines old → IsNextReturn code lines old new → IsSettledReturn code lines new
@@ -123,7 +123,7 @@ module _ (code : InstructionMap) (seeds : List ℕ) where
     pub same_ranks : map at_of next ≡ map at_of lines → (most : ℕ) → All (λ (l : ReturnLine). l.rank < most) lines → AreReturnsTo (length lines) lines → AllZip (IsNextReturn code lines) lines next → HaveSameRanks next lines
     same_ranks same most low settled step i d within =
         ranks_stay at_of rank_of (ReturnsReached code seeds) (Returns code) (HasReason code) (ReturnsBelow code) IsReturnBelow ranks says lines (table lines rising all) settled next (table next next_rising all_next) (all_least most low step)
-            (same_length lines next same) (λ n e lt. sym (at_index lines next same n e lt)) i d within
+        (same_length lines next same) (λ n e lt. sym (at_index lines next same n e lt)) i d within
 
 -- ---- one step, whatever the terminators are
 

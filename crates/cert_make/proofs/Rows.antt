@@ -1,15 +1,14 @@
 -- Tables of lines at the same addresses.
-use Rattle.std.proofs.Common.{◌≡◌, ℕ, ◌+◌, ◌<◌, ◌≤◌, List, Option, Some, ◌∷◌, [], ◌++◌, map, length, take, get_or, refl, sym, subst, ap, ◌∙◌, arith}
-use Rattle.std.specs.Prelude.{All, IfSome, IsSome}
-use Rattle.std.proofs.lemmas.List.{take_more, take_all, length-map, map-append, get_or_default}
+use Rattle.std.proofs.Common.{◌≡◌, ℕ, ◌<◌, List, map, length, get_or, refl, sym, subst, ap, ◌∙◌, arith}
+use Rattle.std.specs.Prelude.{All, IsSome}
+use Rattle.std.proofs.lemmas.List.{length-map, get_or_default}
 use Rattle.std.proofs.Math.ListN.{get_or-map}
-use Rattle.std.proofs.lemmas.List.Elements.{All-push}
 use Rattle.cert_text.specs.declared.lines.ReturnLine.{ReturnLine}
 use Rattle.cfg_model.specs.Program.Instructions.{InstructionMap}
 use Rattle.cert_places.specs.Places.{ReturnsRise}
 use Rattle.cert_places.proofs.Adjacent.{rise_on, rise_next}
 use Rattle.cert_places.proofs.Placed.{no_return}
-use Rattle.cert_make.specs.Inner.Returns.{IsSettledReturn, IsSettledFor, AreSettledBy, HaveSameRanks}
+use Rattle.cert_make.specs.Inner.Returns.{IsSettledReturn, AreSettledBy, HaveSameRanks}
 use Rattle.cert_make.proofs.Ranks.{returns_weaker}
 use Rattle.cert_laws.specs.Lines.{IsReturnBelow}
 

@@ -3,7 +3,7 @@ use Rattle.cert_text.specs.declared.lines.LeadLine.{LeadLine}
 use Rattle.cert_text.specs.declared.lines.ReturnLine.{ReturnLine}
 use Rattle.cert_laws.specs.Lines.{IsReturn}
 use Rattle.cert_make.specs.Canonical.{ReturnsReached}
-use Rattle.cert_make.proofs.CanonicalLeads.{start_rises, start_stands, returns_stand, returns_tell, canonical_leads}
+use Rattle.cert_make.proofs.CanonicalLeads.{all_listed, start_rises, start_stands, returns_stand, returns_tell, canonical_leads}
 use Rattle.cert_make.proofs.ExactLeads.{lead_at_of}
 use Rattle.cert_make.proofs.Linked.{links_same}
 use Rattle.cert_make.proofs.leads.lead_lines.Goals as goal
@@ -26,6 +26,11 @@ settled_leads-requires-clause-leads g c κs within =
       rise = start_rises c.args.leaders.now c.in_ok-start.start.items at c.requires.leaders_rise;
       known = start_stands (g.C.Chains.map c.args.code.now) c.args.leaders.now c.in_ok-start.start.items at c.requires.known;
     }
+
+pub settled_leads-requires-clause-leaders : goal.settled_leads-requires-clause-leaders
+settled_leads-requires-clause-leaders g c κs within =
+    all_listed (g.C.Chains.map c.args.code.now) c.args.seeds.now c.args.leaders.now c.in_ok-start.start.items
+    (c.in_ok-start.ensures.same ∙ ap (λ (ls : List LeadLine). map lead_at_of ls) c.as_slice-2.ensures.value ∙ c.in_ok-plain.ensures) c.requires.leaders
 
 pub settled_leads-requires-clause-links : goal.settled_leads-requires-clause-links
 settled_leads-requires-clause-links g c κs within =

@@ -1,4 +1,4 @@
-use Rattle.std.proofs.Common.{◌≤◌, List, length, ap, arith, subst}
+use Rattle.std.proofs.Common.{◌≤◌, List, length, arith, subst}
 use Rattle.std.proofs.lemmas.Result.{IfOk-weaker}
 use Rattle.cert_text.specs.declared.lines.LeadLine.{LeadLine}
 use Rattle.cert_make.specs.Inner.Settled.{AreLeadsSettledBy, LeadsHaveSameRanks}

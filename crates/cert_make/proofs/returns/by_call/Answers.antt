@@ -1,4 +1,4 @@
-use Rattle.std.proofs.Common.{◌<◌, ◌≤◌, ◌+◌, ◌^◌, ◌-◌, ℕ, refl, arith, rules}
+use Rattle.std.proofs.Common.{◌+◌, ◌^◌, ◌-◌, refl, arith, rules}
 use Rattle.cert_make.proofs.Settling.{no_return_after, no_target, rank_below, settled_by_call}
 use Rattle.cert_make.proofs.returns.by_call.Goals as goal
 
