@@ -11,7 +11,7 @@ module _ {X : Type 0} (map : InstructionMap) (number : ℕ → ℕ) (count : ℕ
       let before : i < length xs = omega (arith, lt) in
       let low : i ≤ number (key (get_or xs i d)) = number_at xs rise stand i d before in
       let higher : number (key (get_or xs i d)) < number (key (get_or xs (suc i) d)) =
-          up.rise (key (get_or xs i d)) (key (get_or xs (suc i) d)) (stand i d before) (stand (suc i) d lt) (rise i (suc i) d (omega arith) lt) in
+      up.rise (key (get_or xs i d)) (key (get_or xs (suc i) d)) (stand i d before) (stand (suc i) d lt) (rise i (suc i) d (omega arith) lt) in
       omega (arith, low, higher)
 
   pub no_more : (xs : List X) → AllPairs (λ x y. key x < key y) xs → All (λ x. IsSome (map (key x))) xs → length xs ≤ count
