@@ -71,8 +71,7 @@ impl Blocks {
 }
 
 /// The blocks of these leaders; `None` exactly if two of them share an address. Each address is
-/// walked once, whatever the leaders are. [`Memory`] too if there are 2^32 leaders or more, which
-/// alone take 160 GiB.
+/// walked once, whatever the leaders are. [`Memory`] if memory ran out.
 /// Time: O(leaders + bytes of code). Memory: eight bytes for each halfword of code, and 40 for each
 /// leader.
 pub(crate) fn blocks_of<C: Numbered>(
@@ -85,9 +84,7 @@ pub(crate) fn blocks_of<C: Numbered>(
         (¬ BlocksAreApart (C.map code.now) leads.now)
         (AreBlocks (C.map code.now) (C.number code.now) leads.now)) }
 {
-    if leads.len() > u32::MAX as usize {
-        return Err(Memory);
-    }
+    know_few(code, leads);
     let mut owners = Owners::new(alloc, code)?;
     let mut runs = Vec::with_capacity(alloc, leads.len())?;
     for i in 0..leads.len() {
@@ -97,6 +94,15 @@ pub(crate) fn blocks_of<C: Numbered>(
         }
     }
     Ok(Some(Blocks { owners, runs }))
+}
+
+/// Each leader has a number of its own, so their places have 32 bits: asking the program how many
+/// numbers it has says so.
+fn know_few<C: Numbered>(code: &C, _leads: &[LeadLine])
+    requires { AreLeads (C.map code.now) _leads.now }
+    ensures { length _leads.now < 2 ^ 32 }
+{
+    code.numbers();
 }
 
 /// Walks the block of the leader at place `i`, and marks its addresses; `None` if one of them lies

@@ -45,7 +45,7 @@ pub fn part_is_valid<C: Numbered>(
 
 /// The blocks and edges of the program `code`, whose seeds are these, if the part of a certificate is
 /// valid for it; `None` exactly if it is not. Nothing is asked of the part or the seeds. [`Memory`]
-/// if memory ran out, or if there are 2^32 leaders or more, which alone take 160 GiB.
+/// if memory ran out.
 ///
 /// Time: O(bytes of code + n · log n), where n counts the lines, the seeds, and the addresses that
 /// the ends of the leaders' chains name or have in their jump tables. Each address of code is walked

@@ -21,7 +21,7 @@ use Rattle.cert_places.proofs.Adjacent.{rise_on}
 use Rattle.cert_places.proofs.Placed.{no_lead}
 use Rattle.cert_make.specs.Canonical.{IsLeadLine, ListsLines, ReturnsReached}
 use Rattle.cert_make.specs.Inner.Offers.{TellCall}
-use Rattle.cert_make.specs.Inner.Settled.{AreLeadsSettledBy}
+use Rattle.cert_make.specs.Inner.Settled.{AreLeadsSettledBy, ListAllLeaders}
 use Rattle.cert_make.proofs.RankedReturns.{ranked_returns, return_has_rank}
 use Rattle.cert_make.proofs.ExactLeads.{lead_at_of, right_leads}
 
@@ -35,7 +35,7 @@ start_stands code leaders start same known i d lt =
     let is : get_or leaders i (lead_at_of d) ≡ (get_or start i d).at = ap (λ (ns : List ℕ). get_or ns i (lead_at_of d)) (sym same) ∙ get_or-map lead_at_of start i d in
     subst (λ (a : ℕ). IsSome (code a)) is (known i (lead_at_of d) (omega arith))
 
-pub at_listed : (lines : List LeadLine) (l : LeadLine) → Contains lines l → Contains (map lead_at_of lines) l.at
+at_listed : (lines : List LeadLine) (l : LeadLine) → Contains lines l → Contains (map lead_at_of lines) l.at
 at_listed lines l listed =
     let long : length (map lead_at_of lines) ≡ length lines = length-map lines lead_at_of in
     (listed.0, let lt = listed.1 in omega arith, get_or_default (map lead_at_of lines) listed.0 l.at l.at (let lt = listed.1 in omega arith) ∙ get_or-map lead_at_of lines listed.0 l ∙ ap lead_at_of listed.2)
@@ -50,6 +50,16 @@ listed_at lines k listed =
       listed = (listed.0, inside, get_or_default lines listed.0 (get_or lines listed.0 no_lead) no_lead inside);
       address = sym (get_or-map lead_at_of lines listed.0 no_lead) ∙ get_or_default (map lead_at_of lines) listed.0 no_lead.at k lt ∙ listed.2;
     }
+
+pub lead_in : (lines : List LeadLine) (a : ℕ) → IsLead lines a → Contains (map lead_at_of lines) a
+lead_in lines a lead = subst (λ (x : ℕ). Contains (map lead_at_of lines) x) lead.address (at_listed lines lead.line lead.listed)
+
+-- the lines of all leaders
+pub all_listed : (code : InstructionMap) (seeds leaders : List ℕ) (lines : List LeadLine) → map lead_at_of lines ≡ leaders → ((a : ℕ) → Contains leaders a ↔ IsLeader code seeds a) → ListAllLeaders code seeds lines
+all_listed code seeds leaders lines at exact a = (
+  λ lead. (exact a).0 (subst (λ (xs : List ℕ). Contains xs a) at (lead_in lines a lead)),
+  λ here. listed_at lines a (subst (λ (xs : List ℕ). Contains xs a) (sym at) ((exact a).1 here)),
+)
 
 -- an instruction stands at each of the returns
 pub returns_stand : (code : InstructionMap) (seeds : List ℕ) (returns : List ReturnLine) → ((k : ℕ) → IsReturn returns k ↔ ReturnsReached code seeds k) → All (λ (l : ReturnLine). IsSome (code l.at)) returns

@@ -13,7 +13,7 @@ use Rattle.cert_places.specs.Places.{ReturnsRise}
 use Rattle.cert_places.proofs.Adjacent.{rise_on}
 use Rattle.cert_places.proofs.Placed.{no_return}
 use Rattle.cert_make.specs.Canonical.{IsReturnLine, ListsLines, ReturnsReached}
-use Rattle.cert_make.specs.Inner.Returns.{AreSettledBy}
+use Rattle.cert_make.specs.Inner.Returns.{AreSettledBy, ListAllReturns}
 use Rattle.cert_make.proofs.Rows.{at_of}
 use Rattle.cert_make.proofs.ExactReturns.{right}
 
@@ -28,7 +28,7 @@ start_stands code returns start same ends i d lt =
     terminator_stands code (get_or start i d).at (subst (IsTerminator code) is (ends i (at_of d) (omega arith)))
 
 -- an address of a line, and back
-pub at_listed : (lines : List ReturnLine) (l : ReturnLine) → Contains lines l → Contains (map at_of lines) l.at
+at_listed : (lines : List ReturnLine) (l : ReturnLine) → Contains lines l → Contains (map at_of lines) l.at
 at_listed lines l listed =
     let long : length (map at_of lines) ≡ length lines = length-map lines at_of in
     (listed.0, let lt = listed.1 in omega arith, get_or_default (map at_of lines) listed.0 l.at l.at (let lt = listed.1 in omega arith) ∙ get_or-map at_of lines listed.0 l ∙ ap at_of listed.2)
@@ -43,6 +43,16 @@ listed_at lines k listed =
       listed = (listed.0, inside, get_or_default lines listed.0 (get_or lines listed.0 no_return) no_return inside);
       address = sym (get_or-map at_of lines listed.0 no_return) ∙ get_or_default (map at_of lines) listed.0 no_return.at k lt ∙ listed.2;
     }
+
+pub return_in : (lines : List ReturnLine) (k : ℕ) → IsReturn lines k → Contains (map at_of lines) k
+return_in lines k return = subst (λ (a : ℕ). Contains (map at_of lines) a) return.address (at_listed lines return.line return.listed)
+
+-- the lines of all that return
+pub all_listed : (code : InstructionMap) (seeds returns : List ℕ) (lines : List ReturnLine) → map at_of lines ≡ returns → ((k : ℕ) → Contains returns k ↔ ReturnsReached code seeds k) → ListAllReturns code seeds lines
+all_listed code seeds returns lines at exact k = (
+  λ return. (exact k).0 (subst (λ (ks : List ℕ). Contains ks k) at (return_in lines k return)),
+  λ here. listed_at lines k (subst (λ (ks : List ℕ). Contains ks k) (sym at) ((exact k).1 here)),
+)
 
 pub canonical_returns : (code : InstructionMap) (returns : List ℕ) (start lines : List ReturnLine) → map at_of start ≡ returns → IsStrictlyIncreasing returns → AreSettledBy code lines start lines → (seeds : List ℕ) → ((k : ℕ) → Contains returns k ↔ ReturnsReached code seeds k)
     → ListsLines at_of (ReturnsReached code seeds) (IsReturnLine code) lines

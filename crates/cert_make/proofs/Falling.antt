@@ -10,12 +10,12 @@ use Rattle.cfg_model.proofs.Graphs.LeaderFacts.{has_length}
 use Rattle.cert_text.specs.declared.lines.LeadLine.{LeadLine}
 use Rattle.cert_laws.specs.Lines.{IsLead}
 use Rattle.cert_places.specs.Places.{AreLeads, IsPlace}
-use Rattle.cert_places.proofs.Placed.{no_lead, place_at, place_of_line, one_place}
+use Rattle.cert_places.proofs.Placed.{place_at, place_of_line, one_place}
 use Rattle.cert_make.specs.Reason.{MeetsBy}
 use Rattle.cert_make.specs.declared.fronts.Source.{Source}
 use Rattle.cert_make.specs.declared.runs.Run.{Run}
 use Rattle.cert_make.specs.Inner.Runs.{AreRuns, IsUpstream, run_at}
-use Rattle.cert_make.specs.Inner.Fronts.{IsFrontOf, IsSource, Falls, AreFrontsAfter, AreFallen, AreOpen}
+use Rattle.cert_make.specs.Inner.Fronts.{IsFrontOf, IsSource, Falls, AreFallen, AreOpen}
 use Rattle.cert_make.proofs.Along.{falls_before, falls_meet, later, meet_falls, onward, upstream_made, upstream_parts}
 use Rattle.cert_make.proofs.Sources.{front_same, front_both, front_through, front_empty}
 

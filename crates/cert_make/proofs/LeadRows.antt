@@ -1,6 +1,6 @@
 -- Tables of lines at the same addresses.
-use Rattle.std.proofs.Common.{◌≡◌, ℕ, ◌+◌, ◌<◌, ◌≤◌, List, Option, Some, ◌∷◌, [], ◌++◌, map, length, take, get_or, refl, sym, subst, ap, ◌∙◌, arith}
-use Rattle.std.specs.Prelude.{All, IfSome, IsSome}
+use Rattle.std.proofs.Common.{◌≡◌, ℕ, ◌+◌, ◌<◌, ◌≤◌, List, ◌∷◌, [], ◌++◌, map, length, take, get_or, refl, sym, subst, ap, ◌∙◌, arith}
+use Rattle.std.specs.Prelude.{All, IsSome}
 use Rattle.std.proofs.lemmas.List.{take_more, take_all, length-map, map-append, get_or_default}
 use Rattle.std.proofs.Math.ListN.{get_or-map}
 use Rattle.std.proofs.lemmas.List.Elements.{All-push}
@@ -37,14 +37,12 @@ same_stand code xs ys same all i d lt =
 pub first_at : (code : InstructionMap) (start : List LeadLine) → LeadsRise start → All (λ (l : LeadLine). IsSome (code l.at)) start → AreLeadsAt code start start
 first_at code start up stand = record { same = refl; rising = up; stand = stand }
 
-pub next_at : (code : InstructionMap) (seeds : List ℕ) (start lines slice next : List LeadLine) → AreLeadsAt code start lines → slice ≡ lines → AreLeadsSettledBy code seeds slice slice next → AreLeadsAt code start next
-next_at code seeds start lines slice next are same from_slice =
-    let step : AreLeadsSettledBy code seeds lines lines next = subst (λ (ls : List LeadLine). AreLeadsSettledBy code seeds ls ls next) same from_slice in
-    record {
-      same = step.same ∙ are.same;
-      rising = same_rise lines next step.same are.rising;
-      stand = same_stand code lines next step.same are.stand;
-    }
+pub next_at : (code : InstructionMap) (seeds : List ℕ) (start lines next : List LeadLine) → AreLeadsAt code start lines → AreLeadsSettledBy code seeds lines lines next → AreLeadsAt code start next
+next_at code seeds start lines next are step = record {
+  same = step.same ∙ are.same;
+  rising = same_rise lines next step.same are.rising;
+  stand = same_stand code lines next step.same are.stand;
+}
 
 -- where two tables have the same addresses and ranks, a line is settled by both or by none
 
@@ -79,22 +77,11 @@ settled_by_same code seeds xs ys same alike l settled = record {
   least = λ rank why lt fits. settled.least rank why lt (leads_weaker code seeds (IsLeadBelow xs rank) (IsLeadBelow ys rank) (moved xs ys same alike rank) l.at why fits);
 }
 
-pub at_rest : (code : InstructionMap) (seeds : List ℕ) (start lines slice next other one : List LeadLine) → AreLeadsAt code start lines → slice ≡ lines → AreLeadsSettledBy code seeds slice slice next → other ≡ lines → one ≡ next → LeadsHaveSameRanks one other → AreLeadsSettledBy code seeds next start next
-at_rest code seeds start lines slice next other one are same from_slice is also alike =
-    let step : AreLeadsSettledBy code seeds lines lines next = subst (λ (ls : List LeadLine). AreLeadsSettledBy code seeds ls ls next) same from_slice in
-    let ranks : LeadsHaveSameRanks next lines = subst (λ (ls : List LeadLine). LeadsHaveSameRanks next ls) is (subst (λ (ls : List LeadLine). LeadsHaveSameRanks ls other) also alike) in
-    record {
-      same = step.same ∙ are.same;
-      settled = λ i d lt. settled_by_same code seeds next lines step.same ranks (get_or next i d) (step.settled i d lt);
-    }
-
-pub long_enough : (code : InstructionMap) (seeds : List ℕ) (lines slice next other one : List LeadLine) → slice ≡ lines → AreLeadsSettledBy code seeds slice slice next → other ≡ lines → one ≡ next → length one ≤ length other
-long_enough code seeds lines slice next other one same step is also =
-    let a : length next ≡ length slice = same_length slice next step.same in
-    let b : length slice ≡ length lines = ap length same in
-    let c : length other ≡ length lines = ap length is in
-    let e : length one ≡ length next = ap length also in
-    omega arith
+pub at_rest : (code : InstructionMap) (seeds : List ℕ) (start lines next : List LeadLine) → AreLeadsAt code start lines → AreLeadsSettledBy code seeds lines lines next → LeadsHaveSameRanks next lines → AreLeadsSettledBy code seeds next start next
+at_rest code seeds start lines next are step ranks = record {
+  same = step.same ∙ are.same;
+  settled = λ i d lt. settled_by_same code seeds next lines step.same ranks (get_or next i d) (step.settled i d lt);
+}
 
 pub none_yet : (code : InstructionMap) (seeds : List ℕ) (lines : List LeadLine) → AreLeadsSettledBy code seeds lines [] []
 none_yet code seeds lines = record { same = refl; settled = λ i d lt. absurd (omega arith) }
@@ -108,11 +95,7 @@ one_more code seeds lines some next i l lt before at settled = record {
 pub all_done : (code : InstructionMap) (seeds : List ℕ) (lines next : List LeadLine) (i : ℕ) → length lines ≤ i → AreLeadsSettledBy code seeds lines (take i lines) next → AreLeadsSettledBy code seeds lines lines next
 all_done code seeds lines next i long are = subst (λ (ls : List LeadLine). AreLeadsSettledBy code seeds lines ls next) (take_all i lines long) are
 
-found : {X : Type 0} (P : X → Type 0) (o : Option X) (x : X) → o ≡ Some x → IfSome o P → P x
-found P o x is all = subst (λ (p : Option _). IfSome p P) is all
-
-pub one_added : (code : InstructionMap) (seeds : List ℕ) (lines next more : List LeadLine) (i : ℕ) (o : Option LeadLine) (l : LeadLine) → i < length lines → AreLeadsSettledBy code seeds lines (take i lines) next
-    → o ≡ Some l → IfSome o (IsSettledLeadFor code seeds lines (get_or lines i no_lead).at) → more ≡ next ++ l ∷ [] → AreLeadsSettledBy code seeds lines (take (i + 1) lines) more
-one_added code seeds lines next more i o l lt before is all added =
-    let here = found (IsSettledLeadFor code seeds lines (get_or lines i no_lead).at) o l is all in
+pub one_added : (code : InstructionMap) (seeds : List ℕ) (lines next more : List LeadLine) (i : ℕ) (l : LeadLine) → i < length lines → AreLeadsSettledBy code seeds lines (take i lines) next
+    → IsSettledLeadFor code seeds lines (get_or lines i no_lead).at l → more ≡ next ++ l ∷ [] → AreLeadsSettledBy code seeds lines (take (i + 1) lines) more
+one_added code seeds lines next more i l lt before here added =
     subst (AreLeadsSettledBy code seeds lines (take (i + 1) lines)) (sym added) (one_more code seeds lines lines next i l lt before here.0 here.1)

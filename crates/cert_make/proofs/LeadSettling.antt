@@ -1,10 +1,8 @@
 -- The line that a step finds for a leader.
-use Rattle.std.proofs.Common.{◌≡◌, ℕ, ◌+◌, ◌<◌, ◌≤◌, ◌⊎◌, List, [], ◌∷◌, ◌++◌, Option, Some, None, length, take, get_or, refl, sym, subst, ap, ◌∙◌, arith, inl, inr, ⊎_elim}
+use Rattle.std.proofs.Common.{◌≡◌, ℕ, ◌+◌, ◌<◌, ◌≤◌, List, Option, Some, None, length, get_or, refl, sym, subst, ap, ◌∙◌, arith, ⊎_elim}
 use Rattle.std.specs.Prelude.{All, Contains, IfSome, MatchOption}
-use Rattle.std.proofs.lemmas.List.{take_more, take_all}
-use Rattle.std.proofs.lemmas.List.Elements.{All-contains, All-push, Contains-append_left, Contains-push}
+use Rattle.std.proofs.lemmas.List.Elements.{All-contains}
 use Rattle.cfg_model.specs.Program.Instructions.{InstructionMap}
-use Rattle.cfg_model.proofs.Graphs.Lists.{Contains-none}
 use Rattle.cert_text.specs.declared.lines.LeadLine.{LeadLine}
 use Rattle.cert_text.specs.declared.lines.LeadWhy.{LeadWhy}
 use Rattle.cert_text.specs.declared.lines.LeadWhy.TheVariants.{Seed, From, Join}
@@ -14,9 +12,8 @@ use Rattle.cert_make.specs.declared.firsts.Offer.{Offer}
 use Rattle.cert_make.specs.declared.joins.Meeting.{Meeting}
 use Rattle.cert_make.specs.Reason.{LeadsFor, MeetsBy}
 use Rattle.cert_make.specs.First.{LeadWhyBefore}
-use Rattle.cert_make.specs.Inner.Returns.{IsNotAfter}
 use Rattle.cert_make.specs.Inner.Offers.{LeadsTo}
-use Rattle.cert_make.specs.Inner.Settled.{IsSettledLead, IsSettledLeadFor, IsNearestLead, NoneLeads, AreNearestLeads, IsFirstJoin, NoneJoin, AreJoins, IsJoinAt}
+use Rattle.cert_make.specs.Inner.Settled.{IsSettledLead, IsSettledLeadFor, IsNearestLead, NoneLeads, AreNearestLeads, IsFirstJoin, NoneJoin, AreJoins, HasNoLeadReason, IsJoinAt}
 
 -- ---- lines
 
@@ -88,25 +85,29 @@ IsLine l a rank why = (l.at ≡ a) × (l.rank ≡ rank) × (l.why ≡ why)
 line_is : (l : LeadLine) (a rank : ℕ) (why : LeadWhy) → IsLine l a rank why → l ≡ lead_of a rank why
 line_is l a rank why is = ap (λ (x : ℕ). lead_of x l.rank l.why) is.0 ∙ ap (λ (r : ℕ). lead_of a r l.why) is.1 ∙ ap (λ (w : LeadWhy). lead_of a rank w) is.2
 
-settled_is : (code : InstructionMap) (seeds : List ℕ) (lines : List LeadLine) (a rank : ℕ) (why : LeadWhy) (o : Option LeadLine) → IfSome o (λ l. IsLine l a rank why) → IsSettledLead code seeds lines (lead_of a rank why) → IfSome o (IsSettledLeadFor code seeds lines a)
-settled_is code seeds lines a rank why None is settled = tt
-settled_is code seeds lines a rank why (Some l) is settled =
+settled_is : (code : InstructionMap) (seeds : List ℕ) (lines : List LeadLine) (a rank : ℕ) (why : LeadWhy) (l : LeadLine) → IsLine l a rank why → IsSettledLead code seeds lines (lead_of a rank why) → IsSettledLeadFor code seeds lines a l
+settled_is code seeds lines a rank why l is settled =
     subst (IsSettledLeadFor code seeds lines a) (sym (line_is l a rank why is)) (refl, settled)
 
 ways_later : (code : InstructionMap) (lines : List LeadLine) (a rank : ℕ) (o : Option Offer) → NearOr code lines a o → IfSome o (λ w. rank < w.rank) → (more p : ℕ) → IsLeadBelow lines more p → LeadsTo code p a → rank + 1 < more
 ways_later code lines a rank None none lower more p below way = absurd (none more p below way)
 ways_later code lines a rank (Some w) near lower more p below way = let lt : w.rank < more = (near.first more p below way).0 in omega arith
 
-pub chosen_join : (code : InstructionMap) (seeds : List ℕ) (lines : List LeadLine) (a rank first second : ℕ) (near : Option Offer) (o : Option LeadLine) → (Contains seeds a → ⊥) → NearOr code lines a near → IsFirstJoin code lines a rank first second → IfSome near (λ w. rank < w.rank)
-    → IfSome o (λ l. IsLine l a (rank + 1) (Join first second)) → IfSome o (IsSettledLeadFor code seeds lines a)
-chosen_join code seeds lines a rank first second near o no_seed is_near join lower is =
-    settled_is code seeds lines a (rank + 1) (Join first second) o is (settled_join code seeds lines a no_seed rank first second join (ways_later code lines a rank near is_near lower))
+pub chosen_join : (code : InstructionMap) (seeds : List ℕ) (lines : List LeadLine) (a rank first second : ℕ) (near : Option Offer) (l : LeadLine) → (Contains seeds a → ⊥) → NearOr code lines a near → IsFirstJoin code lines a rank first second → IfSome near (λ w. rank < w.rank)
+    → IsLine l a (rank + 1) (Join first second) → IsSettledLeadFor code seeds lines a l
+chosen_join code seeds lines a rank first second near l no_seed is_near join lower is =
+    settled_is code seeds lines a (rank + 1) (Join first second) l is (settled_join code seeds lines a no_seed rank first second join (ways_later code lines a rank near is_near lower))
 
-pub chosen_way : (code : InstructionMap) (seeds : List ℕ) (lines : List LeadLine) (a : ℕ) (w : Offer) (o : Option LeadLine) → (Contains seeds a → ⊥) → NearOr code lines a (Some w)
+pub chosen_way : (code : InstructionMap) (seeds : List ℕ) (lines : List LeadLine) (a : ℕ) (w : Offer) (l : LeadLine) → (Contains seeds a → ⊥) → NearOr code lines a (Some w)
     → ((more p q : ℕ) → IsLeadBelow lines more p → IsLeadBelow lines more q → MeetsBy code 2 p a → MeetsBy code 4 q a → w.rank < more)
-    → IfSome o (λ l. IsLine l a (w.rank + 1) (From w.lead)) → IfSome o (IsSettledLeadFor code seeds lines a)
-chosen_way code seeds lines a w o no_seed near joins is =
-    settled_is code seeds lines a (w.rank + 1) (From w.lead) o is (settled_way code seeds lines a no_seed w.rank w.lead near joins)
+    → IsLine l a (w.rank + 1) (From w.lead) → IsSettledLeadFor code seeds lines a l
+chosen_way code seeds lines a w l no_seed near joins is =
+    settled_is code seeds lines a (w.rank + 1) (From w.lead) l is (settled_way code seeds lines a no_seed w.rank w.lead near joins)
+
+pub none_chosen : (code : InstructionMap) (seeds : List ℕ) (lines : List LeadLine) (a : ℕ) → (Contains seeds a → ⊥) → NoneLeads lines (λ p. LeadsTo code p a) → NoneJoin code lines a → HasNoLeadReason code seeds lines a
+none_chosen code seeds lines a no_seed near join rank Seed reason = no_seed reason
+none_chosen code seeds lines a no_seed near join rank (From p) reason = near rank p reason.0 reason.1
+none_chosen code seeds lines a no_seed near join rank (Join p q) reason = join rank p q reason.0 reason.1 reason.2 reason.3
 
 pub joins_later : (code : InstructionMap) (lines : List LeadLine) (a rank first second other : ℕ) → IsFirstJoin code lines a rank first second → other ≤ rank → (more p q : ℕ) → IsLeadBelow lines more p → IsLeadBelow lines more q → MeetsBy code 2 p a → MeetsBy code 4 q a → other < more
 joins_later code lines a rank first second other join le more p q one two three four =
@@ -121,6 +122,28 @@ matched o N P x is m = subst (λ p. MatchOption p N P) is m
 
 pub unmatched : {X : Type 0} (o : Option X) (N : Type 0) (P : X → Type 0) → o ≡ None → MatchOption o N P → N
 unmatched o N P is m = subst (λ p. MatchOption p N P) is m
+
+-- ---- the ranks of what is found are those of the table
+
+pub near_low : (code : InstructionMap) (lines : List LeadLine) (a most : ℕ) (o : Option Offer) → All (λ (l : LeadLine). l.rank < most) lines → NearOr code lines a o → IfSome o (λ w. w.rank < most)
+near_low code lines a most None low near = tt
+near_low code lines a most (Some w) low near =
+    let line = near.listed.line in
+    let least : w.rank < line.rank + 1 = (near.first (line.rank + 1) w.lead (record { line = line; listed = near.listed.listed; address = near.listed.address; lower = omega arith }) near.leads).0 in
+    let lt : line.rank < most = All-contains (λ (l : LeadLine). l.rank < most) lines line low near.listed.listed in
+    omega (arith, least, lt)
+
+pub join_low : (code : InstructionMap) (lines : List LeadLine) (a most : ℕ) (o : Option Meeting) → All (λ (l : LeadLine). l.rank < most) lines
+    → MatchOption o (NoneJoin code lines a) (λ j. IsFirstJoin code lines a j.rank j.first j.second) → IfSome o (λ j. j.rank < most)
+join_low code lines a most None low join = tt
+join_low code lines a most (Some j) low join =
+    let Low : LeadLine → Type 0 = λ l. l.rank < most in
+    let one = join.first_least in
+    let two = join.second_least in
+    let first_low : one.listed.line.rank < most = All-contains Low lines one.listed.line low one.listed.listed in
+    let second_low : two.listed.line.rank < most = All-contains Low lines two.listed.line low two.listed.listed in
+    join.below most j.first j.second (record { line = one.listed.line; listed = one.listed.listed; address = one.listed.address; lower = first_low })
+    (record { line = two.listed.line; listed = two.listed.listed; address = two.listed.address; lower = second_low }) one.leads two.leads
 
 -- ---- what is read for a leader
 

@@ -26,3 +26,7 @@ pub mod Walked
 pub mod Along
 pub mod Sources
 pub mod Falling
+pub mod Gapless
+pub mod Steps
+pub mod ReturnSteps
+pub mod LeadSteps

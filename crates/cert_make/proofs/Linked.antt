@@ -1,33 +1,31 @@
 -- What the links of leaders tell, whatever the ranks.
-use Rattle.std.proofs.Common.{◌≡◌, ℕ, ◌+◌, ◌<◌, ◌≤◌, ◌⊎◌, ◌↔◌, List, [], Option, Some, None, length, map, get_or, refl, sym, ap, ◌∙◌, subst, inl, inr, arith, ⊎_elim}
+use Rattle.std.proofs.Common.{◌≡◌, ℕ, ◌+◌, ◌<◌, ◌≤◌, List, Option, Some, None, length, map, get_or, refl, sym, ap, ◌∙◌, subst, inl, inr, arith}
 use Rattle.std.specs.Prelude.{All, Contains, IsSome, MatchOption}
 use Rattle.std.proofs.lemmas.List.{get_or_default, length-map}
-use Rattle.std.proofs.lemmas.List.Elements.{All-from_get_or}
 use Rattle.std.proofs.Math.ListN.{get_or-map}
 use Rattle.cfg_model.specs.Program.Instructions.{InstructionMap}
-use Rattle.cfg_model.specs.Program.Chain.{GoesOnTo, IsTerminator, IsTerminatorOf}
+use Rattle.cfg_model.specs.Program.Chain.{IsTerminatorOf}
 use Rattle.cfg_model.specs.Program.Meeting.{IsStop}
-use Rattle.cfg_model.specs.Graph.Block.{RunsTo, IsLastOf}
+use Rattle.cfg_model.specs.Graph.Block.{RunsTo}
 use Rattle.cfg_model.proofs.Graphs.Lists.{Contains-none}
 use Rattle.cfg_model.proofs.Program.ChainEnds.{one_end}
 use Rattle.cert_text.specs.declared.lines.LeadLine.{LeadLine}
 use Rattle.cert_text.specs.declared.lines.ReturnLine.{ReturnLine}
 use Rattle.cert_laws.specs.Lines.{IsLead, IsLeadBelow}
 use Rattle.cert_ends.proofs.ListedEnds.{terminator_stands}
-use Rattle.cert_places.specs.Places.{AreLeads, IsPlace}
+use Rattle.cert_places.specs.Places.{IsPlace}
 use Rattle.cert_places.proofs.Placed.{no_lead}
 use Rattle.cert_make.specs.declared.chain_ends.Ends.{Ends}
 use Rattle.cert_make.specs.declared.exits.Exit.{Exit}
 use Rattle.cert_make.specs.declared.firsts.Offer.{Offer}
 use Rattle.cert_make.specs.declared.links.Links.{Links}
-use Rattle.cert_make.specs.declared.runs.Run.{Run}
 use Rattle.cert_make.specs.Reason.{GoesTo}
 use Rattle.cert_make.specs.Inner.Returns.{IsNotAfter}
 use Rattle.cert_make.specs.Inner.Ends.{AreEnds, AreExits, IsExit}
 use Rattle.cert_make.specs.Inner.Links.{AreLinks}
 use Rattle.cert_make.specs.Inner.Offers.{AreFirsts, AreWithin, IsFirstOf, IsHandedOn, IsOwnOffer, IsUpTo, LeadsTo, TellCall, exit_at}
 use Rattle.cert_make.specs.Inner.Places.{IsAt, at}
-use Rattle.cert_make.specs.Inner.Runs.{AreRuns, GoesInto, IsRun}
+use Rattle.cert_make.specs.Inner.Runs.{GoesInto}
 use Rattle.cert_make.specs.Inner.Settled.{AreNearestLeads, IsNearestLead, NoneLeads}
 use Rattle.cert_make.proofs.ExactLeads.{lead_at_of}
 use Rattle.cert_make.proofs.Offered.{through}

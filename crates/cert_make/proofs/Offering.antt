@@ -1,19 +1,14 @@
 -- Where the ends of chains go, calls among them.
-use Rattle.std.proofs.Common.{◌≡◌, ℕ, ◌+◌, ◌⊎◌, ◌↔◌, List, [], ◌∷◌, ◌++◌, Option, Some, length, take, get_or, ◌<◌, refl, sym, subst, ap, ◌∙◌, inl, inr, ⊎_elim}
+use Rattle.std.proofs.Common.{◌≡◌, ℕ, ◌⊎◌, ◌↔◌, List, [], ◌∷◌, ◌++◌, Option, Some, sym, subst, ap, ◌∙◌, inl, inr, ⊎_elim}
 use Rattle.std.specs.Prelude.{Contains}
-use Rattle.std.proofs.lemmas.List.{take_more}
-use Rattle.std.proofs.lemmas.List.Elements.{Contains-append_left, Contains-push, Contains-push_cases}
-use Rattle.cert_text.specs.declared.lines.LeadLine.{LeadLine}
 use Rattle.cfg_model.specs.declared.flow.Flow.{Flow}
 use Rattle.cfg_model.specs.declared.flow.Flow.TheVariants.{Call}
 use Rattle.cfg_model.specs.Graph.Listing.{Gains}
 use Rattle.cfg_model.specs.Program.Instructions.{InstructionMap, flow_at}
-use Rattle.cfg_model.specs.Program.Chain.{IsTerminatorOf}
 use Rattle.cfg_model.specs.Program.Successors.{IsCall, successors_of}
 use Rattle.cfg_model.specs.Program.Status.{Returns}
 use Rattle.cfg_model.specs.Builder.Waits.{IsTarget}
 use Rattle.cfg_model.proofs.Graphs.Gaining.{Gains-then, Gains-same, Gains-pushed}
-use Rattle.cfg_model.proofs.Program.ChainEnds.{one_end}
 use Rattle.cert_make.specs.Reason.{GoesTo}
 
 -- ---- a call

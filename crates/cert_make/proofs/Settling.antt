@@ -1,5 +1,5 @@
 -- The line that a step finds for a terminator.
-use Rattle.std.proofs.Common.{◌≡◌, ℕ, ◌+◌, ◌<◌, ◌≤◌, List, [], ◌∷◌, ◌++◌, Option, Some, refl, sym, subst, ◌∙◌, arith, inl, inr}
+use Rattle.std.proofs.Common.{◌≡◌, ℕ, ◌+◌, ◌<◌, ◌≤◌, List, [], ◌∷◌, ◌++◌, Option, Some, None, refl, sym, subst, ◌∙◌, arith, inl, inr}
 use Rattle.std.specs.Prelude.{All, Contains}
 use Rattle.std.proofs.lemmas.List.Elements.{All-contains, All-push, Contains-append_left, Contains-push}
 use Rattle.cert_text.specs.declared.lines.ReturnLine.{ReturnLine}
@@ -17,7 +17,7 @@ use Rattle.cert_laws.specs.Lines.{IsReturn, IsReturnBelow}
 use Rattle.cert_places.specs.Places.{ReturnsRise}
 use Rattle.cert_make.specs.Reason.{ReturnsFor}
 use Rattle.cert_make.specs.First.{ReturnWhyBefore}
-use Rattle.cert_make.specs.Inner.Returns.{EndIsBelow, EndHasRank, EndHasNone, ComesAfter, IsNotAfter, IsNearest, IsSettledReturn}
+use Rattle.cert_make.specs.Inner.Returns.{EndIsBelow, EndHasRank, EndHasNone, ComesAfter, HasNoReason, IsNotAfter, IsNearest, IsSettledReturn}
 
 -- ---- the rank at the end of a chain
 
@@ -34,6 +34,15 @@ pub end_none : (map : InstructionMap) (lines : List ReturnLine) (a k : ℕ) → 
 end_none map lines a k ends none other h =
     let here : h.0 ≡ k = one_end map a h.0 k h.1 ends in
     none (record { line = h.2.line; listed = h.2.listed; address = h.2.address ∙ here })
+
+-- the rank at the end of a chain is one of the table
+pub rank_below : (map : InstructionMap) (lines : List ReturnLine) (rank a most : ℕ) → All (λ (l : ReturnLine). l.rank < most) lines → EndHasRank map lines rank a → rank < most
+rank_below map lines rank a most low has =
+    let below : EndIsBelow map lines (rank + 1) a = (has (rank + 1)).1 (omega arith) in
+    let line = below.2.line in
+    let least : rank < line.rank + 1 = (has (line.rank + 1)).0 (below.0, below.1, record { line = line; listed = below.2.listed; address = below.2.address; lower = omega arith }) in
+    let lt : line.rank < most = All-contains (λ (l : ReturnLine). l.rank < most) lines line low below.2.listed in
+    omega (arith, least, lt)
 
 -- ---- one that returns by itself
 
@@ -64,6 +73,27 @@ same_target map k target other fall more one two = let e : Some (Call other more
 
 same_fall : (map : InstructionMap) (k target other fall more : ℕ) → IsCall map k target (Some fall) → IsCall map k other (Some more) → more ≡ fall
 same_fall map k target other fall more one two = let e : Some (Call other (Some more)) ≡ Some (Call target (Some fall)) = sym two ∙ one in cc
+
+-- a call has no reason if it does not come back
+pub no_fall : (map : InstructionMap) (lines : List ReturnLine) (k target : ℕ) → IsCall map k target None → HasNoReason map lines k
+no_fall map lines k target call rank Itself reason = no_leave map k target None call reason
+no_fall map lines k target call rank (To to) reason = no_way map k target None call to reason.0
+no_fall map lines k target call rank CallBoth reason = let e : Some (Call reason.0 (Some reason.1)) ≡ Some (Call target None) = sym reason.2 ∙ call in cc
+
+module _ (map : InstructionMap) (lines : List ReturnLine) (k target fall : ℕ) (call : IsCall map k target (Some fall)) where
+  no_reason : ((rank : ℕ) → EndIsBelow map lines rank target → EndIsBelow map lines rank fall → ⊥) → HasNoReason map lines k
+  no_reason none rank Itself reason = no_leave map k target (Some fall) call reason
+  no_reason none rank (To to) reason = no_way map k target (Some fall) call to reason.0
+  no_reason none rank CallBoth reason =
+      let to : reason.0 ≡ target = same_target map k target reason.0 (Some fall) (Some reason.1) call reason.2 in
+      let back : reason.1 ≡ fall = same_fall map k target reason.0 fall reason.1 call reason.2 in
+      none rank (subst (EndIsBelow map lines rank) to reason.3) (subst (EndIsBelow map lines rank) back reason.4)
+
+  pub no_target : EndHasNone map lines target → HasNoReason map lines k
+  no_target none = no_reason (λ rank one other. none rank one)
+
+  pub no_return_after : EndHasNone map lines fall → HasNoReason map lines k
+  no_return_after none = no_reason (λ rank one other. none rank other)
 
 module _ (map : InstructionMap) (lines : List ReturnLine) (k target fall one other : ℕ)
     (call : IsCall map k target (Some fall)) (first : EndHasRank map lines one target) (second : EndHasRank map lines other fall) where
@@ -108,6 +138,13 @@ module _ (map : InstructionMap) (lines : List ReturnLine) (k rank to : ℕ)
     why = record { fits = (near.listed, (near.has (rank + 1)).1 (omega arith)); first = none_before_to };
     least = λ more why lt reason. let above : rank < more = to_above more why reason in omega arith;
   }
+
+-- one of which no successor returns has no reason
+pub no_successor : (map : InstructionMap) (lines : List ReturnLine) (k : ℕ) (xs : List ℕ) → xs ≡ successors_of map k → (ReturnsByItself map k → ⊥) → ((target : ℕ) (fall : Option ℕ) → IsCall map k target fall → ⊥) → All (EndHasNone map lines) xs → HasNoReason map lines k
+no_successor map lines k xs are stays no_call none rank Itself reason = stays reason
+no_successor map lines k xs are stays no_call none rank (To to) reason =
+    All-contains (EndHasNone map lines) xs to none (subst (λ (ys : List ℕ). Contains ys to) (sym are) reason.0) rank reason.1
+no_successor map lines k xs are stays no_call none rank CallBoth reason = no_call reason.0 (Some reason.1) reason.2
 
 -- ---- the nearest of some addresses
 

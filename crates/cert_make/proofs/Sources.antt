@@ -1,6 +1,6 @@
 -- Fronts of sources, and what they tell of joins.
-use Rattle.std.proofs.Common.{◌≡◌, ℕ, ◌+◌, ◌<◌, ◌≤◌, ◌⊎◌, List, [], ◌∷◌, ◌++◌, Option, Some, None, length, take, get_or, refl, sym, subst, ap, ◌∙◌, inl, inr, arith}
-use Rattle.std.specs.Prelude.{◌↔◌, All, Contains, IfSome, MatchOption, slice_get}
+use Rattle.std.proofs.Common.{◌≡◌, ℕ, ◌+◌, ◌<◌, ◌≤◌, ◌⊎◌, List, [], ◌∷◌, ◌++◌, Option, Some, None, length, take, get_or, refl, sym, subst, inl, inr, arith}
+use Rattle.std.specs.Prelude.{◌↔◌, Contains, IfSome, MatchOption, slice_get}
 use Rattle.std.specs.List.Sorted.{IsPermutation}
 use Rattle.std.proofs.lemmas.List.{take_more, take_all}
 use Rattle.std.proofs.lemmas.Option.{slice_get_within, get_or_from_slice_get}
@@ -9,7 +9,7 @@ use Rattle.std.proofs.lemmas.List.Elements.{Contains-append_cases, Contains-appe
 use Rattle.cfg_model.specs.Program.Instructions.{InstructionMap}
 use Rattle.cfg_model.proofs.Graphs.Lists.{Contains-none}
 use Rattle.cert_text.specs.declared.lines.LeadLine.{LeadLine}
-use Rattle.cert_laws.specs.Lines.{IsLead, IsLeadBelow}
+use Rattle.cert_laws.specs.Lines.{IsLeadBelow}
 use Rattle.cert_make.specs.Reason.{MeetsBy}
 use Rattle.cert_make.specs.declared.fronts.Source.{Source}
 use Rattle.cert_make.specs.declared.joins.Meeting.{Meeting}

@@ -19,7 +19,7 @@ struct Blocks {
 /// The ranks of these leaders, by levels. [`Memory`] if memory ran out.
 ///
 /// `links` are those of the leaders, and `seeds` rise.
-/// Time: O(seeds + leaders + ways). Memory: 34 bytes for each leader.
+/// Time: O(seeds + leaders + ways). Memory: 26 bytes for each leader.
 pub(crate) fn lead_ranks(
     alloc: Global,
     seeds: &[u64],
@@ -93,7 +93,7 @@ fn fill(numbers: &mut Vec<usize>, last: usize, number: usize) -> Result<(), Memo
 fn cover(
     runs: &[Run],
     place: usize,
-    rank: u64,
+    rank: u32,
     blocks: &mut Blocks,
     levels: &mut Levels,
 ) -> Result<bool, Memory> {
@@ -148,7 +148,7 @@ fn take_exits(
     links: &Links,
     starts: &[usize],
     place: usize,
-    rank: u64,
+    rank: u32,
     levels: &mut Levels,
 ) -> Result<(), Memory> {
     let Some(end) = links.ends.of.get(place) else {

@@ -3,8 +3,8 @@
 //! As with the terminators that return, a table of all leaders that is settled by itself has the
 //! canonical ranks and reasons, whatever it was before.
 
-ghost use Rattle.std.specs.Prelude.{◌≡◌, ◌+◌, ◌≤◌, ◌↔◌, ℕ, List, All, Contains, IfOk, IfSome, IsSome};
-ghost use Rattle.std.specs.Prelude.{IsTrue, MatchOption, length, map};
+ghost use Rattle.std.specs.Prelude.{◌≡◌, ◌+◌, ◌-◌, ◌^◌, ◌<◌, ◌≤◌, ◌↔◌, ℕ, List, All, Contains, IfOk};
+ghost use Rattle.std.specs.Prelude.{IfSome, IsSome, IsTrue, MatchOption, length, map};
 ghost use Rattle.std.specs.List.Sorted.{IsStrictlyIncreasing};
 ghost use Rattle.cfg_model.specs.Graph.Leader.{IsLeader};
 ghost use Rattle.cfg_model.specs.Program.Instructions.{InstructionMap};
@@ -16,8 +16,8 @@ ghost use Rattle.cert_make.specs.Canonical.{IsLeadLine, ListsLines, ReturnsReach
 ghost use Rattle.cert_make.specs.Inner.Links.{AreLinks};
 ghost use Rattle.cert_make.specs.Inner.Offers.{LeadsTo};
 ghost use Rattle.cert_make.specs.Inner.Settled.{AreLeadsSettledBy, AreNearestLeads, IsFirstJoin};
-ghost use Rattle.cert_make.specs.Inner.Settled.{IsNearestLead, IsSettledLeadFor};
-ghost use Rattle.cert_make.specs.Inner.Settled.{LeadsHaveSameRanks, NoneJoin, NoneLeads};
+ghost use Rattle.cert_make.specs.Inner.Settled.{HasNoLeadReason, IsNearestLead, IsSettledLeadFor};
+ghost use Rattle.cert_make.specs.Inner.Settled.{LeadsHaveSameRanks, ListAllLeaders, NoneJoin, NoneLeads};
 
 use crate::firsts::{Offer, nearest_to_ends, nearest_to_leads};
 use crate::joins::{Meeting, joins_of};
@@ -32,8 +32,7 @@ use reached_terms::Numbered;
 use std::alloc::Global;
 
 /// The lines of these leaders. If they are all of the program from these seeds, these are the lines
-/// of the canonical part. [`Memory`] if memory ran out, or if there are 2^32 - 1 leaders or lines of
-/// returns or more.
+/// of the canonical part. [`Memory`] if memory ran out.
 ///
 /// `returns` are the lines of the terminators that return: they tell which calls come back.
 /// Time: the instructions of all blocks, and the ways from the ends of the leaders' chains, each of
@@ -85,14 +84,15 @@ fn first_lead_lines(alloc: Global, leaders: &[u64]) -> Result<Vec<LeadLine>, Mem
 
 /// The same lines with these ranks.
 fn ranked(alloc: Global, lines: &[LeadLine], ranks: &Levels) -> Result<Vec<LeadLine>, Memory>
-    ensures { IfOk result (λ v. map (λ (l : LeadLine). l.at) v.items
+    ensures same { IfOk result (λ v. map (λ (l : LeadLine). l.at) v.items
         ≡ map (λ (l : LeadLine). l.at) lines.now) }
+    ensures ranks { IfOk result (λ v. All (λ (l : LeadLine). l.rank < 2 ^ 32) v.items) }
 {
     let mut next = Vec::new(alloc);
     for (i, line) in lines.iter().enumerate() {
         next.push(LeadLine {
             at: line.at,
-            rank: ranks.rank(i),
+            rank: u64::from(ranks.rank(i)),
             why: line.why,
         })?;
     }
@@ -110,20 +110,23 @@ fn settled_leads<C: Chains>(
 ) -> Result<Vec<LeadLine>, Memory>
     requires seeds { IsStrictlyIncreasing seeds.now }
     requires leads { AreLeads (C.map code.now) start.items }
+    requires leaders { ListAllLeaders (C.map code.now) seeds.now start.items }
+    requires ranks { All (λ (l : LeadLine). l.rank < 2 ^ 32) start.items }
     requires links { AreLinks (C.map code.now) start.items links.now }
     ensures { IfOk result
         (λ v. AreLeadsSettledBy (C.map code.now) seeds.now v.items start.items v.items) }
 {
     let mut lines = start;
-    // Each step settles one rank more, and there are no more ranks than lines.
-    for _step in 0..=lines.len() {
+    for _step in 0..lines.len() {
         let next = lead_step(alloc, code, seeds, links, lines.as_slice())?;
         if leads_have_same_ranks(next.as_slice(), lines.as_slice()) {
             return Ok(next);
         }
         lines = next;
     }
-    Err(Memory)
+    // Each step settled one rank more, and there are no more ranks than lines: only the reasons may
+    // still be those by other ranks.
+    lead_step(alloc, code, seeds, links, lines.as_slice())
 }
 
 /// Whether the lines of two tables have the same ranks, one by one.
@@ -139,7 +142,8 @@ fn leads_have_same_ranks(one: &[LeadLine], other: &[LeadLine]) -> bool
     true
 }
 
-/// The lines of the same leaders by these lines. [`Memory`] if memory ran out.
+/// The lines of the same leaders by these lines, which have to be all leaders of the program.
+/// [`Memory`] if memory ran out.
 fn lead_step<C: Chains>(
     alloc: Global,
     code: &C,
@@ -149,6 +153,8 @@ fn lead_step<C: Chains>(
 ) -> Result<Vec<LeadLine>, Memory>
     requires seeds { IsStrictlyIncreasing seeds.now }
     requires leads { AreLeads (C.map code.now) lines.now }
+    requires leaders { ListAllLeaders (C.map code.now) seeds.now lines.now }
+    requires ranks { All (λ (l : LeadLine). l.rank < 2 ^ 64 - 1) lines.now }
     requires links { AreLinks (C.map code.now) lines.now links.now }
     ensures { IfOk result
         (λ v. AreLeadsSettledBy (C.map code.now) seeds.now lines.now lines.now v.items) }
@@ -160,8 +166,8 @@ fn lead_step<C: Chains>(
     for (i, line) in lines.iter().enumerate() {
         match lead_line(seeds, line.at, ends[i], joins[i]) {
             Some(line) => next.push(line)?,
-            // Not met: each of them is a leader, so that it has a reason by the others.
-            None => return Err(Memory),
+            // Each of them is a leader, so that it has a reason by the others.
+            None => unreachable!(),
         }
     }
     Ok(next)
@@ -184,20 +190,24 @@ fn nearest_by_end<C: Chains>(
     Ok(nearest)
 }
 
-/// The line of the leader `a`, if it is a seed or there is a reason by the leaders that are found.
+/// The line of the leader `a`; `None` exactly if it is no seed, and none of the leaders that are
+/// found is a reason.
 fn lead_line(
     seeds: &[u64],
     a: u64,
     nearest: Option<Offer>,
     join: Option<Meeting>,
 ) -> Option<LeadLine>
-    requires { IsStrictlyIncreasing seeds.now }
+    requires seeds { IsStrictlyIncreasing seeds.now }
+    requires near_rank { IfSome nearest (λ o. o.rank < 2 ^ 64 - 1) }
+    requires join_rank { IfSome join (λ j. j.rank < 2 ^ 64 - 1) }
     ensures { (code : InstructionMap) (lines : List LeadLine)
         → MatchOption nearest (NoneLeads lines (λ p. LeadsTo code p a))
         (λ o. IsNearestLead lines (λ p. LeadsTo code p a) o.rank o.lead)
         → MatchOption join (NoneJoin code lines a)
         (λ j. IsFirstJoin code lines a j.rank j.first j.second)
-        → IfSome result (IsSettledLeadFor code seeds.now lines a) }
+        → MatchOption result (HasNoLeadReason code seeds.now lines a)
+        (IsSettledLeadFor code seeds.now lines a) }
 {
     if is_seed(seeds, a) {
         return Some(LeadLine {
@@ -209,33 +219,38 @@ fn lead_line(
     by_reason(a, nearest, join)
 }
 
-/// The line of a leader that is no seed.
+/// The line of a leader that is no seed; `None` exactly if nothing is found.
 fn by_reason(a: u64, nearest: Option<Offer>, join: Option<Meeting>) -> Option<LeadLine>
+    requires near_rank { IfSome nearest (λ o. o.rank < 2 ^ 64 - 1) }
+    requires join_rank { IfSome join (λ j. j.rank < 2 ^ 64 - 1) }
     ensures { (code : InstructionMap) (seeds : List ℕ) (lines : List LeadLine) → ¬ Contains seeds a
         → MatchOption nearest (NoneLeads lines (λ p. LeadsTo code p a))
         (λ o. IsNearestLead lines (λ p. LeadsTo code p a) o.rank o.lead)
         → MatchOption join (NoneJoin code lines a)
         (λ j. IsFirstJoin code lines a j.rank j.first j.second)
-        → IfSome result (IsSettledLeadFor code seeds lines a) }
+        → MatchOption result (HasNoLeadReason code seeds lines a)
+        (IsSettledLeadFor code seeds lines a) }
 {
     match nearest {
         Some(way) => match join {
-            Some(join) => by_first(a, way, join),
-            None => by_way(a, way),
+            Some(join) => Some(by_first(a, way, join)),
+            None => Some(by_way(a, way)),
         },
         None => match join {
-            Some(join) => by_join(a, join),
+            Some(join) => Some(by_join(a, join)),
             None => None,
         },
     }
 }
 
 /// The line of a leader that is no seed, by a way or a join.
-fn by_first(a: u64, way: Offer, join: Meeting) -> Option<LeadLine>
+fn by_first(a: u64, way: Offer, join: Meeting) -> LeadLine
+    requires way_rank { way.rank < 2 ^ 64 - 1 }
+    requires join_rank { join.rank < 2 ^ 64 - 1 }
     ensures { (code : InstructionMap) (seeds : List ℕ) (lines : List LeadLine) → ¬ Contains seeds a
         → IsNearestLead lines (λ p. LeadsTo code p a) way.rank way.lead
         → IsFirstJoin code lines a join.rank join.first join.second
-        → IfSome result (IsSettledLeadFor code seeds lines a) }
+        → IsSettledLeadFor code seeds lines a result }
 {
     if join.rank < way.rank {
         by_join(a, join)
@@ -253,30 +268,29 @@ fn is_seed(seeds: &[u64], a: u64) -> bool
 }
 
 /// The line of a leader by a join.
-fn by_join(a: u64, join: Meeting) -> Option<LeadLine>
-    ensures { IfSome result (λ l. (l.at ≡ a) × (l.rank ≡ join.rank + 1)
-        × (l.why ≡ Join join.first join.second)) }
+fn by_join(a: u64, join: Meeting) -> LeadLine
+    requires { join.rank < 2 ^ 64 - 1 }
+    ensures { (result.at ≡ a) × (result.rank ≡ join.rank + 1)
+        × (result.why ≡ Join join.first join.second) }
 {
-    let rank = join.rank.checked_add(1)?;
-    Some(LeadLine {
+    LeadLine {
         at: a,
-        rank,
+        rank: join.rank + 1,
         why: LeadWhy::Join {
             first: join.first,
             second: join.second,
         },
-    })
+    }
 }
 
 /// The line of a leader by a way from another.
-fn by_way(a: u64, way: Offer) -> Option<LeadLine>
-    ensures { IfSome result (λ l. (l.at ≡ a) × (l.rank ≡ way.rank + 1)
-        × (l.why ≡ From way.lead)) }
+fn by_way(a: u64, way: Offer) -> LeadLine
+    requires { way.rank < 2 ^ 64 - 1 }
+    ensures { (result.at ≡ a) × (result.rank ≡ way.rank + 1) × (result.why ≡ From way.lead) }
 {
-    let rank = way.rank.checked_add(1)?;
-    Some(LeadLine {
+    LeadLine {
         at: a,
-        rank,
+        rank: way.rank + 1,
         why: LeadWhy::From { lead: way.lead },
-    })
+    }
 }

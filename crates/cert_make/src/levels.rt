@@ -8,14 +8,14 @@ use std::alloc::Global;
 /// The ranks of lines, by their places, as far as they are known.
 #[derive(Drop)]
 pub(crate) struct Levels {
-    ranks: Vec<Option<u64>>,
+    ranks: Vec<Option<u32>>,
     /// The places of the lines that have ranks, in the order in which they got them.
     order: Vec<usize>,
 }
 
 impl Levels {
     /// No line of so many has a rank.
-    /// Memory: 24 bytes for each line.
+    /// Memory: 16 bytes for each line.
     pub(crate) fn new(alloc: Global, count: usize) -> Result<Levels, Memory> {
         Ok(Levels {
             ranks: vec![in alloc; None; count]?,
@@ -24,7 +24,7 @@ impl Levels {
     }
 
     /// Gives the line at this place its rank, unless it has one.
-    pub(crate) fn give(&mut self, place: usize, rank: u64) -> Result<(), Memory> {
+    pub(crate) fn give(&mut self, place: usize, rank: u32) -> Result<(), Memory> {
         if let Some(None) = self.ranks.get(place) {
             self.order.push(place)?;
             self.ranks[place] = Some(rank);
@@ -33,13 +33,13 @@ impl Levels {
     }
 
     /// The line that was given its rank after so many others: its place and its rank.
-    pub(crate) fn nth(&self, n: usize) -> Option<(usize, u64)> {
+    pub(crate) fn nth(&self, n: usize) -> Option<(usize, u32)> {
         let place = *self.order.get(n)?;
         Some((place, self.rank(place)))
     }
 
     /// The rank of the line at this place, or 0.
-    pub(crate) fn rank(&self, place: usize) -> u64 {
+    pub(crate) fn rank(&self, place: usize) -> u32 {
         match self.ranks.get(place) {
             Some(Some(rank)) => *rank,
             _ => 0,

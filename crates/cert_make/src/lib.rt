@@ -19,7 +19,9 @@
 //! a table to another, and the maker stops at one whose ranks a step leaves as they are.
 //!
 //! The table begins with ranks that are handed out by levels. They are meant to be the right ones,
-//! so that one step is enough, but nothing rests on that: a step settles one rank at least.
+//! so that one step is enough, but nothing rests on that: each step settles the next rank, whatever
+//! the others are, and no rank is left out below the greatest one. So as many steps as there are
+//! lines settle all of them (`proofs/Steps`, `proofs/Gapless`).
 #![tactic(auto)]
 
 mod chain_ends;

@@ -15,8 +15,7 @@ use reached_terms::Numbered;
 use std::alloc::Global;
 
 /// The canonical part of a certificate of this program, of all its leaders and all its reached
-/// terminators that return. [`Memory`] if memory ran out, or if there are 2^32 - 1 leaders or lines of
-/// returns or more.
+/// terminators that return. [`Memory`] if memory ran out.
 ///
 /// Time: that of [`return_lines`] and [`lead_lines`], which do not walk a chain twice.
 /// Memory: 40 bytes for each line, twice, and what those two use.

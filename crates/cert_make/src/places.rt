@@ -20,7 +20,7 @@ pub(crate) struct Places<'a> {
 
 impl<'a> Places<'a> {
     /// The places of these addresses, at each of which an instruction stands. [`Memory`] if memory
-    /// ran out, or if there are 2^32 - 1 addresses or more.
+    /// ran out.
     /// Time: O(addresses + numbers). Memory: four bytes for each number.
     pub(crate) fn new<C: Numbered>(
         alloc: Global,
@@ -32,9 +32,7 @@ impl<'a> Places<'a> {
         ensures placed { IfOk result (ArePlaced (C.map code.now) (C.number code.now)) }
         ensures addresses { IfOk result (λ places. places.addresses.now ≡ addresses.now) }
     {
-        if addresses.len() >= u32::MAX as usize {
-            return Err(Memory);
-        }
+        // There are no more addresses than numbers, so each place has 32 bits.
         let mut places = vec![in alloc; 0; code.numbers() as usize]?;
         for i in 0..addresses.len() {
             places[code.number(addresses[i]) as usize] = i as u32 + 1;

@@ -35,7 +35,7 @@ struct Waiting {
 ///
 /// `flows` are their flows, and `returns` finds the same lines.
 /// Time: O(successors of all these terminators).
-/// Memory: 16 bytes for each successor, and 33 for each terminator.
+/// Memory: 16 bytes for each successor, and 25 for each terminator.
 pub(crate) fn return_ranks<C: Numbered>(
     alloc: Global,
     code: &C,
@@ -138,7 +138,7 @@ fn spread(mut waiting: Waiting, count: usize, levels: &mut Levels) -> Result<(),
 }
 
 /// Tells all that wait for the terminator at this place that it has its rank.
-fn tell(waiting: &mut Waiting, place: usize, rank: u64, levels: &mut Levels) -> Result<(), Memory> {
+fn tell(waiting: &mut Waiting, place: usize, rank: u32, levels: &mut Levels) -> Result<(), Memory> {
     let mut number = match waiting.last.get(place) {
         Some(last) => *last,
         None => 0,

@@ -5,8 +5,9 @@
 //! canonical ones, whatever it was before: so any table serves to begin with, and one step shows
 //! whether it is right.
 
-ghost use Rattle.std.specs.Prelude.{◌≡◌, ◌≢◌, ◌⊎◌, ◌≤◌, ◌↔◌, ℕ, List, All, Contains, IfOk};
-ghost use Rattle.std.specs.Prelude.{IfSome, IsSome, IsTrue, MatchOption, Some, length, map};
+ghost use Rattle.std.specs.Prelude.{◌≡◌, ◌≢◌, ◌⊎◌, ◌<◌, ◌≤◌, ◌-◌, ◌^◌, ◌↔◌, ℕ, List, All, Contains};
+ghost use Rattle.std.specs.Prelude.{IfOk, IfSome, IsSome, IsTrue, MatchOption, Some, length, map};
+ghost use Rattle.std.specs.List.{AllZip};
 ghost use Rattle.std.specs.List.Sorted.{IsStrictlyIncreasing};
 ghost use Rattle.cfg_model.specs.Program.Instructions.{IsLawful, flow_at};
 ghost use Rattle.cfg_model.specs.Program.Chain.{IsTerminator};
@@ -16,7 +17,8 @@ ghost use Rattle.cert_text.specs.declared.lines.ReturnLine.{ReturnLine};
 ghost use Rattle.cert_make.specs.Canonical.{IsReturnLine, ListsLines, ReturnsReached};
 ghost use Rattle.cert_make.specs.Inner.Returns.{EndHasRank, EndHasNone, IsNearest, IsNotAfter};
 ghost use Rattle.cert_make.specs.Inner.Returns.{IsSettledReturn, IsSettledFor, AreSettledBy};
-ghost use Rattle.cert_make.specs.Inner.Returns.{AreFlows, HaveSameRanks};
+ghost use Rattle.cert_make.specs.Inner.Returns.{AreFlows, HasNoReason, HaveSameRanks, IsNextReturn};
+ghost use Rattle.cert_make.specs.Inner.Returns.{ListAllReturns};
 
 use crate::levels::Levels;
 use crate::return_ranks::return_ranks;
@@ -38,7 +40,7 @@ struct Way {
 }
 
 /// The lines of these terminators. If they are all that return, these are the lines of the canonical
-/// part. [`Memory`] if memory ran out, or if there are 2^32 - 1 of them or more.
+/// part. [`Memory`] if memory ran out.
 ///
 /// Time: each of these terminators is decoded once; O(successors of these terminators), and this
 /// again for each rank that the table does not begin with rightly.
@@ -99,8 +101,9 @@ fn with_ranks<C: Numbered>(
     requires rising { ReturnsRise lines.now }
     requires stand { All (λ l. IsSome (C.map code.now l.at)) lines.now }
     requires flows { AreFlows (C.map code.now) lines.now flows.now }
-    ensures { IfOk result (λ v. map (λ (l : ReturnLine). l.at) v.items
+    ensures same { IfOk result (λ v. map (λ (l : ReturnLine). l.at) v.items
         ≡ map (λ (l : ReturnLine). l.at) lines.now) }
+    ensures ranks { IfOk result (λ v. All (λ (l : ReturnLine). l.rank < 2 ^ 32) v.items) }
 {
     let returns = NumberedReturns::new(alloc, code, lines)?;
     let ranks = return_ranks(alloc, code, lines, flows, &returns)?;
@@ -109,22 +112,23 @@ fn with_ranks<C: Numbered>(
 
 /// The same lines with these ranks.
 fn ranked(alloc: Global, lines: &[ReturnLine], ranks: &Levels) -> Result<Vec<ReturnLine>, Memory>
-    ensures { IfOk result (λ v. map (λ (l : ReturnLine). l.at) v.items
+    ensures same { IfOk result (λ v. map (λ (l : ReturnLine). l.at) v.items
         ≡ map (λ (l : ReturnLine). l.at) lines.now) }
+    ensures ranks { IfOk result (λ v. All (λ (l : ReturnLine). l.rank < 2 ^ 32) v.items) }
 {
     let mut next = Vec::new(alloc);
     for (i, line) in lines.iter().enumerate() {
         next.push(ReturnLine {
             at: line.at,
-            rank: ranks.rank(i),
+            rank: u64::from(ranks.rank(i)),
             why: line.why,
         })?;
     }
     Ok(next)
 }
 
-/// The settled table of these terminators, which have to be all that return, and of which `flows` are
-/// the flows. [`Memory`] if memory ran out.
+/// The settled table of these terminators, if they are all that return; `flows` are their flows.
+/// [`Memory`] if memory ran out.
 ///
 /// `start` is the table that it begins with: the settled one at best, which takes one step.
 /// Time: the targets of all these terminators, for each step.
@@ -137,22 +141,26 @@ fn settled_returns<C: Numbered>(
 ) -> Result<Vec<ReturnLine>, Memory>
     requires rising { ReturnsRise start.items }
     requires stand { All (λ l. IsSome (C.map code.now l.at)) start.items }
+    requires ranks { All (λ (l : ReturnLine). l.rank < 2 ^ 32) start.items }
     requires flows { AreFlows (C.map code.now) start.items flows.now }
-    ensures { IfOk result (λ v. AreSettledBy (C.map code.now) v.items start.items v.items) }
+    ensures { IfOk result (λ v. (seeds : List ℕ)
+        → ListAllReturns (C.map code.now) seeds start.items
+        → AreSettledBy (C.map code.now) v.items start.items v.items) }
 {
     let mut lines = start;
-    // Each step settles one rank more, and there are no more ranks than lines.
-    for _step in 0..=lines.len() {
+    for _step in 0..lines.len() {
         let next = step(alloc, code, flows, lines.as_slice())?;
         if have_same_ranks(next.as_slice(), lines.as_slice()) {
             return Ok(next);
         }
         lines = next;
     }
-    Err(Memory)
+    // Each step settled one rank more, and there are no more ranks than lines: only the reasons may
+    // still be those by other ranks.
+    step(alloc, code, flows, lines.as_slice())
 }
 
-/// The lines of the same terminators by these lines.
+/// The lines of the same terminators by these lines. [`Memory`] if memory ran out.
 fn step<C: Numbered>(
     alloc: Global,
     code: &C,
@@ -161,19 +169,19 @@ fn step<C: Numbered>(
 ) -> Result<Vec<ReturnLine>, Memory>
     requires rising { ReturnsRise lines.now }
     requires stand { All (λ l. IsSome (C.map code.now l.at)) lines.now }
+    requires ranks { All (λ (l : ReturnLine). l.rank < 2 ^ 64 - 1) lines.now }
     requires flows { AreFlows (C.map code.now) lines.now flows.now }
-    ensures { IfOk result (λ v. AreSettledBy (C.map code.now) lines.now lines.now v.items) }
+    ensures { IfOk result
+        (λ v. AllZip (IsNextReturn (C.map code.now) lines.now) lines.now v.items) }
 {
     know_laws(code);
     let returns = NumberedReturns::new(alloc, code, lines)?;
     let mut next = Vec::new(alloc);
     let mut successors = Vec::new(alloc);
     for (i, line) in lines.iter().enumerate() {
-        match settle(code, &returns, line.at, flows[i], &mut successors)? {
-            Some(line) => next.push(line)?,
-            // Not met: each of them returns, so that it has a reason by the others.
-            None => return Err(Memory),
-        }
+        let settled = settle(code, &returns, line.at, flows[i], &mut successors)?;
+        // All have a reason by the others if they are all that return.
+        next.push(settled.unwrap_or(*line))?;
     }
     Ok(next)
 }
@@ -191,7 +199,8 @@ fn have_same_ranks(one: &[ReturnLine], other: &[ReturnLine]) -> bool
     true
 }
 
-/// The line of the terminator at `k` by these lines, if there is a reason by them.
+/// The line of the terminator at `k` by these lines; `None` exactly if there is no reason by them.
+/// [`Memory`] if memory ran out.
 fn settle<C: Numbered>(
     code: &C,
     returns: &NumberedReturns<'_>,
@@ -202,7 +211,10 @@ fn settle<C: Numbered>(
     requires lawful { IsLawful (C.map code.now) }
     requires flow { flow_at (C.map code.now) k ≡ Some flow }
     requires numbered { AreNumbered (C.map code.now) (C.number code.now) returns.now }
-    ensures { IfOk result (λ o. IfSome o (IsSettledFor (C.map code.now) returns.now.lines.now k)) }
+    requires ranks { All (λ (l : ReturnLine). l.rank < 2 ^ 64 - 1) returns.now.lines.now }
+    ensures { IfOk result (λ o. MatchOption o
+        (HasNoReason (C.map code.now) returns.now.lines.now k)
+        (IsSettledFor (C.map code.now) returns.now.lines.now k)) }
 {
     if returns_by_itself(flow) {
         return Ok(Some(ReturnLine {
@@ -218,7 +230,7 @@ fn settle<C: Numbered>(
     Ok(by_successors(code, returns, k, successors.as_slice()))
 }
 
-/// The line of a call, if both its target and its fall return by these lines.
+/// The line of a call; `None` exactly if its target or its fall does not return by these lines.
 fn by_call<C: Numbered>(
     code: &C,
     returns: &NumberedReturns<'_>,
@@ -229,20 +241,22 @@ fn by_call<C: Numbered>(
     requires call { IsCall (C.map code.now) k target fall }
     requires lawful { IsLawful (C.map code.now) }
     requires numbered { AreNumbered (C.map code.now) (C.number code.now) returns.now }
-    ensures { IfSome result (IsSettledFor (C.map code.now) returns.now.lines.now k) }
+    requires ranks { All (λ (l : ReturnLine). l.rank < 2 ^ 64 - 1) returns.now.lines.now }
+    ensures { MatchOption result (HasNoReason (C.map code.now) returns.now.lines.now k)
+        (IsSettledFor (C.map code.now) returns.now.lines.now k) }
 {
     let fall = fall?;
     let one = rank_at(code, returns, target)?;
     let other = rank_at(code, returns, fall)?;
-    let rank = one.max(other).checked_add(1)?;
     Some(ReturnLine {
         at: k,
-        rank,
+        rank: one.max(other) + 1,
         why: ReturnWhy::CallBoth,
     })
 }
 
-/// The line of a terminator by its successors, if one of them returns by these lines.
+/// The line of a terminator by its successors; `None` exactly if none of them returns by these
+/// lines.
 fn by_successors<C: Numbered>(
     code: &C,
     returns: &NumberedReturns<'_>,
@@ -254,13 +268,14 @@ fn by_successors<C: Numbered>(
     requires no_call { (target : ℕ) (fall : _) → ¬ IsCall (C.map code.now) k target fall }
     requires stand { All (λ a. IsSome (C.map code.now a)) successors.now }
     requires numbered { AreNumbered (C.map code.now) (C.number code.now) returns.now }
-    ensures { IfSome result (IsSettledFor (C.map code.now) returns.now.lines.now k) }
+    requires ranks { All (λ (l : ReturnLine). l.rank < 2 ^ 64 - 1) returns.now.lines.now }
+    ensures { MatchOption result (HasNoReason (C.map code.now) returns.now.lines.now k)
+        (IsSettledFor (C.map code.now) returns.now.lines.now k) }
 {
     let way = nearest(code, returns, successors)?;
-    let rank = way.rank.checked_add(1)?;
     Some(ReturnLine {
         at: k,
-        rank,
+        rank: way.rank + 1,
         why: ReturnWhy::To { target: way.to },
     })
 }

@@ -1,3 +1,4 @@
 pub mod Adjacent
 pub mod Placed
 pub mod Numbers
+pub mod Few

@@ -1,12 +1,11 @@
 -- The lines of returns by the numbers of their addresses, as far as they are kept.
-use Rattle.std.proofs.Common.{◌≡◌, ℕ, ◌+◌, ◌<◌, List, length, get_or, set, refl, sym, ap, ◌∙◌, subst, inl, inr, arith}
+use Rattle.std.proofs.Common.{◌≡◌, ℕ, ◌+◌, ◌<◌, List, length, get_or, set, sym, ap, ◌∙◌, subst, inl, inr, arith}
 use Rattle.std.specs.Prelude.{All, Contains, IsSome}
-use Rattle.std.proofs.lemmas.Bool.{cases_eq, cases_lt}
+use Rattle.std.proofs.lemmas.Bool.{cases_eq}
 use Rattle.std.proofs.lemmas.List.{get_or_default, get_or-set_same, get_or-set_other, length-set}
 use Rattle.cfg_model.specs.Program.Instructions.{InstructionMap}
 use Rattle.reached_terms.specs.Numbering.{IsNumbering}
 use Rattle.cert_text.specs.declared.lines.ReturnLine.{ReturnLine}
-use Rattle.cert_laws.specs.Lines.{IsReturn}
 use Rattle.cert_places.specs.declared.numbered.NumberedReturns.{NumberedReturns}
 use Rattle.cert_places.specs.Places.{AreNumbered, ReturnsRise}
 use Rattle.cert_places.proofs.Placed.{no_return}

@@ -20,8 +20,7 @@ pub struct NumberedReturns<'a> {
 }
 
 impl<'a> NumberedReturns<'a> {
-    /// These lines, each at the address of an instruction. [`Memory`] if memory ran out, or if there
-    /// are 2^32 - 1 lines or more, which alone take 128 GiB.
+    /// These lines, each at the address of an instruction. [`Memory`] if memory ran out.
     /// Time: O(lines + numbers). Memory: four bytes for each number.
     pub fn new<C: Numbered>(
         alloc: Global,
@@ -33,9 +32,7 @@ impl<'a> NumberedReturns<'a> {
         ensures numbered { IfOk result (AreNumbered (C.map code.now) (C.number code.now)) }
         ensures lines { IfOk result (λ returns. returns.lines.now ≡ lines.now) }
     {
-        if lines.len() >= u32::MAX as usize {
-            return Err(Memory);
-        }
+        // There are no more lines than numbers, so each place has 32 bits.
         let mut places = vec![in alloc; 0; code.numbers() as usize]?;
         for i in 0..lines.len() {
             places[code.number(lines[i].at) as usize] = i as u32 + 1;

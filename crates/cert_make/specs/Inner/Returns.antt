@@ -5,7 +5,8 @@ use Rattle.cert_text.specs.declared.lines.ReturnLine.{ReturnLine}
 use Rattle.cert_text.specs.declared.lines.ReturnWhy.{ReturnWhy}
 use Rattle.cfg_model.specs.declared.flow.Flow.{Flow}
 use Rattle.cfg_model.specs.Program.Instructions.{InstructionMap, flow_at}
-use Rattle.cert_laws.specs.Lines.{IsReturnBelow}
+use Rattle.cert_laws.specs.Lines.{IsReturn, IsReturnBelow}
+use Rattle.cert_make.specs.Canonical.{ReturnsReached}
 use Rattle.cert_make.specs.Reason.{EndCounts, ReturnsFor}
 use Rattle.cert_make.specs.First.{ReturnWhyBefore, IsFirst}
 
@@ -49,6 +50,21 @@ pub record IsSettledReturn (map : InstructionMap) (lines : List ReturnLine)
 -- It is the line of this terminator.
 abbrev pub IsSettledFor : InstructionMap → List ReturnLine → ℕ → ReturnLine → Type 0
 IsSettledFor map lines k l = (l.at ≡ k) × IsSettledReturn map lines l
+
+-- There is no reason for the terminator k by these lines, whatever their ranks.
+abbrev pub HasNoReason : InstructionMap → List ReturnLine → ℕ → Type 0
+HasNoReason map lines k =
+    (rank : ℕ) (why : ReturnWhy) → ¬ ReturnsFor map (IsReturnBelow lines rank) k why
+
+-- What a step makes of a line: one that is settled by these lines, or if there is no reason by them
+-- the same one.
+abbrev pub IsNextReturn : InstructionMap → List ReturnLine → ReturnLine → ReturnLine → Type 0
+IsNextReturn map lines old new =
+    IsSettledFor map lines old.at new ⊎ (HasNoReason map lines old.at × (new ≡ old))
+
+-- The lines are those of all reached terminators that return.
+abbrev pub ListAllReturns : InstructionMap → List ℕ → List ReturnLine → Type 0
+ListAllReturns map seeds lines = (k : ℕ) → IsReturn lines k ↔ ReturnsReached map seeds k
 
 -- The next lines are at the same addresses as some, and settled by these lines.
 pub record AreSettledBy (code : InstructionMap) (lines some next : List ReturnLine) : Type 0 where

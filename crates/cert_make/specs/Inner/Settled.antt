@@ -1,10 +1,11 @@
 -- What a step of the maker finds for leaders: ranks and reasons by the lines of a table.
-use Rattle.std.specs.Prelude.{◌≡◌, ℕ, ◌+◌, ◌<◌, ◌≤◌, List, All, MatchOption, Option, length, map}
+use Rattle.std.specs.Prelude.{◌≡◌, ◌↔◌, ℕ, ◌+◌, ◌<◌, ◌≤◌, List, All, MatchOption, Option, length, map}
 use Rattle.std.specs.Prelude.{slice_index_or}
 use Rattle.cert_text.specs.declared.lines.LeadLine.{LeadLine}
 use Rattle.cert_text.specs.declared.lines.LeadWhy.{LeadWhy}
 use Rattle.cfg_model.specs.Program.Instructions.{InstructionMap}
-use Rattle.cert_laws.specs.Lines.{IsLeadBelow}
+use Rattle.cfg_model.specs.Graph.Leader.{IsLeader}
+use Rattle.cert_laws.specs.Lines.{IsLead, IsLeadBelow}
 use Rattle.cert_places.specs.Places.{IsPlace}
 use Rattle.cert_make.specs.declared.firsts.Offer.{Offer}
 use Rattle.cert_make.specs.declared.joins.Meeting.{Meeting}
@@ -73,6 +74,15 @@ pub record AreJoins (map : InstructionMap) (lines : List LeadLine) (joins : List
 -- It is the line of this leader.
 abbrev pub IsSettledLeadFor : InstructionMap → List ℕ → List LeadLine → ℕ → LeadLine → Type 0
 IsSettledLeadFor map seeds lines a l = (l.at ≡ a) × IsSettledLead map seeds lines l
+
+-- There is no reason for the leader a by these lines, whatever their ranks.
+abbrev pub HasNoLeadReason : InstructionMap → List ℕ → List LeadLine → ℕ → Type 0
+HasNoLeadReason map seeds lines a =
+    (rank : ℕ) (why : LeadWhy) → ¬ LeadsFor map seeds (IsLeadBelow lines rank) a why
+
+-- The lines are those of all leaders.
+abbrev pub ListAllLeaders : InstructionMap → List ℕ → List LeadLine → Type 0
+ListAllLeaders map seeds lines = (a : ℕ) → IsLead lines a ↔ IsLeader map seeds a
 
 -- The next lines are at the same addresses as some, and settled by these lines.
 pub record AreLeadsSettledBy (code : InstructionMap) (seeds : List ℕ)

@@ -8,7 +8,7 @@ returns g c =
     let leads = c.args.leads.now in
     let last : c.loop-i.i ≡ length leads = omega arith in
     record {
-      few = omega (arith, c.if-leads.false);
+      few = c.know_few.ensures;
       numbering = c.loop-i.invariant.numbering;
       owned = subst (AreOwned map leads (owner_by (g.C.Numbered.number c.args.code.now) c.loop-i.owners.places.items)) last c.loop-i.invariant.owned;
       runs = record {

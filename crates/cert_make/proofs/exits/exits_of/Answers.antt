@@ -1,5 +1,5 @@
 use Rattle.std.proofs.Common.{◌≡◌, length, get_or, refl, sym, arith}
-use Rattle.cert_make.proofs.Exiting.{no_exits, next_exits, all_exits}
+use Rattle.cert_make.proofs.Exiting.{next_exits, all_exits}
 use Rattle.cert_make.proofs.exits.exits_of.Goals as goal
 
 pub loop-i-preserved : goal.loop-i-preserved

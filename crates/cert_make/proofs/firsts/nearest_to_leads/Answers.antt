@@ -1,4 +1,4 @@
-use Rattle.std.proofs.Common.{◌≡◌, length, get_or, sym, refl, subst, arith}
+use Rattle.std.proofs.Common.{◌≡◌, length, refl, subst, arith}
 use Rattle.std.proofs.lemmas.List.Elements.{Contains-get_or}
 use Rattle.cert_make.specs.declared.exits.Exit.{Exit}
 use Rattle.cert_make.specs.Inner.Offers.{AreFirsts, IsHandedOn, exit_at}

@@ -1,8 +1,6 @@
-use Rattle.std.proofs.Common.{List, length, get_or, subst}
 use Rattle.cert_places.proofs.Placed.{no_lead}
-use Rattle.cert_make.specs.declared.fronts.Source.{Source}
 use Rattle.cert_make.specs.Reason.{MeetsBy}
-use Rattle.cert_make.specs.Inner.Fronts.{IsFrontOf, IsSource}
+use Rattle.cert_make.specs.Inner.Fronts.{IsSource}
 use Rattle.cert_make.proofs.Falling.{front_at, front_made, front_meets, front_read, opened}
 use Rattle.cert_make.proofs.joins.pass.Goals as goal
 

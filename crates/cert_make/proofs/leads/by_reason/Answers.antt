@@ -1,8 +1,16 @@
 use Rattle.std.proofs.Common.{Option, ◌<◌, sym, subst}
 use Rattle.std.specs.Prelude.{IfSome}
 use Rattle.cert_make.specs.declared.firsts.Offer.{Offer}
-use Rattle.cert_make.proofs.LeadSettling.{chosen_join, chosen_way, no_joins, matched, unmatched}
+use Rattle.cert_make.proofs.LeadSettling.{chosen_join, chosen_way, no_joins, none_chosen, matched, unmatched}
 use Rattle.cert_make.proofs.leads.by_reason.Goals as goal
+
+pub returns-in-Some-join : goal.returns-in-Some-join
+returns-in-Some-join c = λ code seeds lines no near join.
+    c.by_first.ensures code seeds lines no (matched c.args.nearest _ _ c.in-Some.way c.in-Some.is near) (matched c.args.join _ _ c.in-Some-join.join c.in-Some-join.is join)
+
+pub returns-in-None-join-2 : goal.returns-in-None-join-2
+returns-in-None-join-2 c = λ code seeds lines no near join.
+    none_chosen code seeds lines c.args.a no (unmatched c.args.nearest _ _ c.in-None.is near) (unmatched c.args.join _ _ c.in-None-join-2.is join)
 
 pub returns-in-None-join : goal.returns-in-None-join
 returns-in-None-join c = λ code seeds lines no near join.

@@ -1,6 +1,6 @@
-use Rattle.cert_make.proofs.Rows.{AreAt}
+use Rattle.cert_make.proofs.ReturnSteps.{AreStepped}
 use Rattle.cert_make.proofs.returns.settled_returns.Given as goal
 
--- the lines stand at the same addresses as those at the start
+-- the lines after so many steps
 abbrev pub invariant-loop-step : goal.invariant-loop-step
-invariant-loop-step g l = AreAt (g.C.Chains.map l.code) l.fn.start.items l.lines.items
+invariant-loop-step g l = AreStepped (g.C.Chains.map l.code) l.fn.start.items l.lines.items l._step

@@ -1,8 +1,6 @@
-use Rattle.std.proofs.Common.{ℕ, List, ◌≡◌, ◌∙◌, map, sym, subst, ap}
-use Rattle.cert_text.specs.declared.lines.LeadLine.{LeadLine}
+use Rattle.std.proofs.Common.{ℕ, List, sym, subst}
 use Rattle.cert_make.specs.Inner.Ends.{AreEnds}
 use Rattle.cert_make.proofs.CanonicalLeads.{start_rises, start_stands}
-use Rattle.cert_make.proofs.ExactLeads.{lead_at_of}
 use Rattle.cert_make.proofs.Linked.{terms_stand, terms_tell}
 use Rattle.cert_make.proofs.links.Links.of.Goals as goal
 

@@ -1,6 +1,24 @@
-use Rattle.std.proofs.Common.{◌+◌, set, sym, subst, refl, arith}
+use Rattle.std.proofs.Common.{ℕ, ◌+◌, ◌≤◌, List, length, set, sym, subst, refl, arith}
+use Rattle.std.specs.Prelude.{All, IsSome}
+use Rattle.std.specs.List.Sorted.{IsStrictlyIncreasing}
+use Rattle.std.proofs.lemmas.List.Kept.{AllPairs-from_increasing}
+use Rattle.cfg_model.specs.Program.Instructions.{InstructionMap}
+use Rattle.reached_terms.specs.Numbering.{IsNumbering, NumbersRise}
+use Rattle.cert_places.proofs.Few.{no_more}
 use Rattle.cert_make.proofs.Placed.{AreKept, more_kept, placed}
 use Rattle.cert_make.proofs.places.Places.new.Goals as goal
+
+few : (map : InstructionMap) (number : ℕ → ℕ) (count : ℕ) (addresses : List ℕ) → IsNumbering map number count → NumbersRise map number → IsStrictlyIncreasing addresses → All (λ a. IsSome (map a)) addresses → length addresses ≤ count
+few map number count addresses numbering up rise stand =
+    no_more map number count (λ a. a) numbering up addresses (AllPairs-from_increasing addresses rise) stand
+
+pub overflow_cast-i : goal.overflow_cast-i
+overflow_cast-i g c =
+    omega (arith, c.loop-i-test.true, few (g.C.Chains.map c.args.code.now) (g.C.Numbered.number c.args.code.now) c.numbers.result c.args.addresses.now c.numbers.ensures.numbers c.numbers.ensures.rise c.requires.rise c.requires.stand)
+
+pub overflow_add-i : goal.overflow_add-i
+overflow_add-i g c =
+    omega (arith, c.loop-i-test.true, few (g.C.Chains.map c.args.code.now) (g.C.Numbered.number c.args.code.now) c.numbers.result c.args.addresses.now c.numbers.ensures.numbers c.numbers.ensures.rise c.requires.rise c.requires.stand)
 
 pub loop-i-preserved : goal.loop-i-preserved
 loop-i-preserved g c =

@@ -1,9 +1,18 @@
 use Rattle.std.proofs.Common.{◌+◌, get_or, set, sym, ap, subst, arith}
 use Rattle.std.proofs.lemmas.List.{get_or_default}
 use Rattle.cert_text.specs.declared.lines.ReturnLine.{ReturnLine}
+use Rattle.cert_places.proofs.Few.{no_more}
 use Rattle.cert_places.proofs.Numbers.{AreKept, more_kept, numbered}
 use Rattle.cert_places.proofs.Placed.{no_return}
 use Rattle.cert_places.proofs.numbered.NumberedReturns.new.Goals as goal
+
+pub overflow_cast-i : goal.overflow_cast-i
+overflow_cast-i g c =
+    omega (arith, c.loop-i-test.true, no_more (g.C.Chains.map c.args.code.now) (g.C.Numbered.number c.args.code.now) c.numbers.result (λ (l : ReturnLine). l.at) c.numbers.ensures.numbers c.numbers.ensures.rise c.args.lines.now c.requires.rise c.requires.stand)
+
+pub overflow_add-i : goal.overflow_add-i
+overflow_add-i g c =
+    omega (arith, c.loop-i-test.true, no_more (g.C.Chains.map c.args.code.now) (g.C.Numbered.number c.args.code.now) c.numbers.result (λ (l : ReturnLine). l.at) c.numbers.ensures.numbers c.numbers.ensures.rise c.args.lines.now c.requires.rise c.requires.stand)
 
 pub loop-i-preserved : goal.loop-i-preserved
 loop-i-preserved g c =
