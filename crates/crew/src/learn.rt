@@ -63,7 +63,6 @@ fn want_seed<J: Job, S: WorkerIds, C: Chains>(
 
 /// Follows the chain of `s` to its end, if `s` is a start. Gives the terminator, if the name of its
 /// edges was the last that it found and it does not remember to have followed them.
-#[inline(never)]
 fn parse_start<J: Job, S: WorkerIds, C: Chains>(
     worker: &mut Worker<J, S>,
     code: &C,

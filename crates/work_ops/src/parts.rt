@@ -24,7 +24,6 @@ pub(crate) fn pass_on<J: Job, P: Place<J>>(place: &mut P, new: bool, kind: WorkK
 }
 
 /// Makes `s` a start. A new one has to be parsed.
-#[inline]
 pub(crate) fn start<J: Job, P: Place<J>>(place: &mut P, s: u64) -> Result<(), PlaceEnd>
     requires lawful { IsLawful J.map }
     requires kept { AreKept J.map J.seeds (P.maps place.old) }
@@ -56,7 +55,6 @@ pub(crate) fn enter<J: Job, P: Place<J>>(place: &mut P, k: u64) -> Result<(), Pl
 /// Makes `w` wait at `k`. A new waiter has to be told if `k` is known to return. Both are read as
 /// it is placed, in one turn. So if `k` is not known to return yet, the worker that notes it later
 /// finds the waiter there, and passes on that it has to be told.
-#[inline]
 pub(crate) fn place_wait<J: Job, P: Place<J>>(
     place: &mut P,
     k: u64,

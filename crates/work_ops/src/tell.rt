@@ -17,7 +17,6 @@ use core_state::{Job, Place, PlaceEnd, WorkKind};
 
 /// Gives one untold waiter of the returning terminator `k` what it waits for, and notes that it was
 /// told. More waiters may be left.
-#[inline(never)]
 pub fn tell_op<J: Job, P: Place<J>, C: Chains>(
     place: &mut P,
     code: &C,
