@@ -60,6 +60,7 @@ impl<T> Chunk<T> {
     }
 
     /// The value at `k`.
+    #[inline]
     pub(crate) fn get(&self, k: u64) -> Option<&T>
         ensures { option_copied result ≡ maps.get self.now k }
     {
@@ -70,6 +71,7 @@ impl<T> Chunk<T> {
     }
 
     /// The value at `k`, for writing.
+    #[inline]
     pub(crate) fn value_mut(&mut self, k: u64) -> &mut T
         requires { IsSome (maps.get self.old k) }
         ensures* writes_back { sem 𝓛 (lends_of_chunk T.row self.entry k result) }
@@ -150,7 +152,22 @@ impl<T> Chunk<T> {
 }
 
 /// Makes the table of the pages, if there is none yet.
+#[inline]
 fn fill(alloc: Global, upto: &mut Vec<u32>) -> Result<(), AllocError>
+    ensures same { (p : ℕ) → slice_index_or upto.new.items p 0
+        ≡ slice_index_or upto.old.items p 0 }
+    ensures all { OnOk result (64 ≤ length upto.new.items) }
+{
+    if upto.len() < PAGES {
+        make_table(alloc, upto)?;
+    }
+    Ok(())
+}
+
+/// The same, where the table has yet to be made.
+#[cold]
+#[inline(never)]
+fn make_table(alloc: Global, upto: &mut Vec<u32>) -> Result<(), AllocError>
     ensures same { (p : ℕ) → slice_index_or upto.new.items p 0
         ≡ slice_index_or upto.old.items p 0 }
     ensures all { OnOk result (64 ≤ length upto.new.items) }

@@ -29,6 +29,7 @@ pub(crate) struct Entry<T> {
 const _: () = prove!(size_of::<Entry<u8>>() == 16);
 
 /// The place of the page of `k` among the 64 pages of its chunk.
+#[inline]
 pub(crate) fn page(k: u64) -> usize
     ensures { result ≡ page_of k }
 {
@@ -37,6 +38,7 @@ pub(crate) fn page(k: u64) -> usize
 
 /// How many entries there are up to the last one of the page, by the table `upto`, which has that
 /// of each page by its place; 0 if the page has none.
+#[inline]
 fn up_to(upto: &[u32], page: usize) -> usize
     ensures { result ≡ slice_index_or upto.now page 0 }
 {
@@ -49,6 +51,7 @@ fn up_to(upto: &[u32], page: usize) -> usize
 
 /// The place of the entry of `k`, by a look at those of its page from the last one on, which the
 /// table `upto` leads to.
+#[inline]
 pub(crate) fn place_in_page<T>(upto: &[u32], entries: &[Entry<T>], k: u64) -> Option<usize>
     requires { AreLinked upto.now entries.now }
     ensures some { IfSome result (IsFirstAt nat_cmp (pairs entries.now) k) }
@@ -118,6 +121,7 @@ const GROWTH_PART: usize = 2;
 const GROWTH_LEAST: usize = 24;
 
 /// Appends an entry.
+#[inline]
 pub(crate) fn append<T: Drop>(
     entries: &mut Vec<Entry<T>>,
     entry: Entry<T>,
@@ -127,9 +131,19 @@ pub(crate) fn append<T: Drop>(
 {
     let len = entries.len();
     if len == entries.capacity() {
-        entries.reserve_exact(len / GROWTH_PART + GROWTH_LEAST)?;
+        make_room(entries)?;
     }
     entries.push(entry)?;
+    Ok(())
+}
+
+/// Makes room for more entries in a row that is full.
+#[cold]
+#[inline(never)]
+fn make_room<T: Drop>(entries: &mut Vec<Entry<T>>) -> Result<(), AllocError>
+    ensures { entries.new.items ≡ entries.old.items }
+{
+    entries.reserve_exact(entries.len() / GROWTH_PART + GROWTH_LEAST)?;
     Ok(())
 }
 

@@ -60,6 +60,7 @@ impl<T> AddressMap<T> {
 
     /// The value at `k`; `None` if `k` is not in the map.
     /// Time: O(p), far ones O(log n + p). Memory: none.
+    #[inline]
     pub fn get(&self, k: u64) -> Option<&T>
         ensures { option_copied result ≡ maps.get self.now k }
     {
@@ -73,6 +74,7 @@ impl<T> AddressMap<T> {
     /// The value at `k`, which is in the map, for writing: what is written is its value from then
     /// on.
     /// Time: as [`AddressMap::get`]. Memory: none.
+    #[inline]
     pub fn value_mut(&mut self, k: u64) -> &mut T
         requires { IsSome (maps.get self.old k) }
         ensures* writes_back { sem 𝓛 (lends_of_map T.row self.entry k result) }

@@ -76,6 +76,7 @@ impl<T> Region<T> {
     }
 
     /// The value at `k`.
+    #[inline]
     pub(crate) fn get(&self, k: u64) -> Option<&T>
         ensures { option_copied result ≡ maps.get self.now k }
     {
@@ -88,6 +89,7 @@ impl<T> Region<T> {
     }
 
     /// The value at `k`, for writing.
+    #[inline]
     pub(crate) fn value_mut(&mut self, k: u64) -> &mut T
         requires { IsSome (maps.get self.old k) }
         ensures* writes_back { sem 𝓛 (lends_of_region T.row self.entry k result) }
@@ -136,6 +138,7 @@ impl<T> Region<T> {
     }
 
     /// The least address above `a` in the page of `a`. All addresses lie in the region of `a`.
+    #[inline]
     pub(crate) fn after_in_page(&self, a: u64) -> Option<u64>
         requires { AreInRegion self.now (region_of a) }
         ensures { IsLeast (IsNextByPlace self.now a) result }
@@ -191,7 +194,26 @@ fn page_at(place: usize, start: usize, page: usize) -> usize
 }
 
 /// Adds chunks without addresses until there are `count`.
+#[inline]
 fn extend<T: Drop>(
+    alloc: Global,
+    chunks: &mut Vec<Chunk<T>>,
+    count: usize,
+) -> Result<(), AllocError>
+    ensures same { (i : ℕ) → slice_index_or chunks.new.items i maps.empty
+        ≡ slice_index_or chunks.old.items i maps.empty }
+    ensures all { OnOk result (count ≤ length chunks.new.items) }
+{
+    if chunks.len() < count {
+        lengthen(alloc, chunks, count)?;
+    }
+    Ok(())
+}
+
+/// The same, where some chunks have yet to be added.
+#[cold]
+#[inline(never)]
+fn lengthen<T: Drop>(
     alloc: Global,
     chunks: &mut Vec<Chunk<T>>,
     count: usize,

@@ -97,6 +97,8 @@ impl<T> Scattered<T> {
     }
 
     /// The value at `k`.
+    #[cold]
+    #[inline(never)]
     pub(crate) fn get(&self, k: u64) -> Option<&T>
         ensures { option_copied result ≡ maps.get self.now k }
     {
@@ -107,6 +109,8 @@ impl<T> Scattered<T> {
     }
 
     /// The value at `k`, for writing.
+    #[cold]
+    #[inline(never)]
     pub(crate) fn value_mut(&mut self, k: u64) -> &mut T
         requires { IsSome (maps.get self.old k) }
         ensures* writes_back { sem 𝓛 (lends_of_scattered T.row self.entry k result) }
@@ -117,6 +121,8 @@ impl<T> Scattered<T> {
     }
 
     /// Adds `k` with this value, if it is not there. Answers whether it is new.
+    #[cold]
+    #[inline(never)]
     pub(crate) fn add(&mut self, k: u64, value: T) -> Result<bool, AllocError>
     where
         T: Drop,
@@ -157,6 +163,8 @@ impl<T> Scattered<T> {
     }
 
     /// The least address above `a` in the page of `a`.
+    #[cold]
+    #[inline(never)]
     pub(crate) fn after_in_page(&self, a: u64) -> Option<u64>
         ensures { IsLeast (IsNextByPlace self.now a) result }
     {

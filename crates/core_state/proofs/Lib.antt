@@ -9,6 +9,7 @@ pub mod Worked
 pub mod KeysJoined
 pub mod LineJoined
 pub mod Walks
+pub mod InPage
 pub mod Shards
 pub mod LocalChanges
 pub mod WaiterChanges

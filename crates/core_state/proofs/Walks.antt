@@ -25,10 +25,10 @@ in_line_is : (x line : ℕ) → is_in_line (Some x) line ≡ true → x / 64 ≡
 in_line_is x line e = eqb-true (x / 64) line e
 
 module _ {S : Type 0} (has : S → ℕ → Bool) (shards : List S) (own : HaveOwn has shards) (a : Option ℕ) (line j : ℕ) (s : S) (here : slice_get shards ((line + j) % 64) ≡ Some s) where
-  is_key : (k : ℕ) → IsTrue (has s k) → IsKey has shards k
+  pub is_key : (k : ℕ) → IsTrue (has s k) → IsKey has shards k
   is_key k there = (s, ap (slice_get shards) (own _ s here k there) ∙ here, there)
 
-  in_here : (k : ℕ) → IsKey has shards k → shard_of k ≡ (line + j) % 64 → IsTrue (has s k)
+  pub in_here : (k : ℕ) → IsKey has shards k → shard_of k ≡ (line + j) % 64 → IsTrue (has s k)
   in_here k key same = subst (λ t. IsTrue (has t k)) (one_value key.0 s (sym key.1 ∙ ap (slice_get shards) same ∙ here)) key.2
     where
       one_value : (x y : S) → Some x ≡ Some y → x ≡ y

@@ -126,6 +126,10 @@ impl Keys for Ends {
     fn after(&self, a: Option<u64>) -> Option<u64> {
         self.ends.after(a)
     }
+
+    fn after_in_page(&self, a: u64) -> Option<u64> {
+        self.ends.after_in_page(a)
+    }
 }
 
 /// The look at an end, with the starts of this state.

@@ -29,11 +29,15 @@ pub(crate) fn spot(row: &[(Waiter, bool)], w: Waiter) -> Result<usize, usize>
     Err(row.len())
 }
 
-/// How a waiter stands to another one in their order.
+/// How a waiter stands to another one in their order. Mostly the address of its terminator is
+/// less, so that is asked first.
 #[inline]
 fn order(v: Waiter, w: Waiter) -> Ordering
     ensures { result ≡ waiter_cmp v w }
 {
+    if v.terminator < w.terminator {
+        return Ordering::Less;
+    }
     v.cmp(&w)
 }
 

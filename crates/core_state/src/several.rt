@@ -67,6 +67,7 @@ impl Several {
     }
 
     /// Makes `w` wait, untold, if it does not wait yet. Answers whether it is new.
+    #[inline(never)]
     pub(crate) fn wait(&mut self, w: Waiter) -> Result<bool, Memory>
         ensures waits { OnOk result (self.new ≡ with_waiter self.old w) }
         ensures answer { IfOk result (λ new. IsTrue new ↔ ¬ IsSome (maps.get self.old w)) }
@@ -88,6 +89,7 @@ impl Several {
     }
 
     /// Notes that `w` was told, if it is among them.
+    #[inline(never)]
     pub(crate) fn tell(&mut self, w: Waiter)
         ensures { self.new ≡ with_told self.old w }
     {
@@ -98,6 +100,7 @@ impl Several {
     }
 
     /// The first untold waiter.
+    #[inline(never)]
     pub(crate) fn next_untold(&self) -> Option<Waiter>
         ensures { IsLeastBy waiter_cmp (AwaitsTelling self.now) result }
     {

@@ -98,6 +98,10 @@ impl Keys for Starts {
     fn after(&self, a: Option<u64>) -> Option<u64> {
         self.marks.after(a)
     }
+
+    fn after_in_page(&self, a: u64) -> Option<u64> {
+        self.marks.after_in_page(a)
+    }
 }
 
 /// The look at a start: it is to be parsed, if it is wanted.

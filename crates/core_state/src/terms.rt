@@ -170,6 +170,10 @@ impl Keys for Terms {
     fn after(&self, a: Option<u64>) -> Option<u64> {
         self.terms.after(a)
     }
+
+    fn after_in_page(&self, a: u64) -> Option<u64> {
+        self.terms.after_in_page(a)
+    }
 }
 
 /// The look at a terminator.
@@ -221,6 +225,7 @@ impl Terminator {
     }
 
     /// Makes `w` wait, untold, if it does not wait yet. Answers whether it is new.
+    #[inline]
     fn wait(&mut self, w: Waiter) -> Result<bool, Memory>
         ensures waits { OnOk result (self.new ≡ entry_with_waiter w self.old) }
         ensures answer { IfOk result (λ new. IsTrue new ↔ ¬ IsSome (maps.get self.old.waiters w)) }
@@ -274,6 +279,7 @@ impl Terminator {
     }
 
     /// The first untold waiter, if it is known to return.
+    #[inline(always)]
     fn next_to_tell(&self) -> Option<Waiter>
         ensures { IsNextHere self.now result }
     {

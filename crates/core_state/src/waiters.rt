@@ -84,6 +84,7 @@ impl Waiters {
     }
 
     /// Makes `w` wait, untold, if it does not wait yet. Answers whether it is new.
+    #[inline]
     pub(crate) fn wait(&mut self, w: Waiter) -> Result<bool, Memory>
         ensures waits { OnOk result (self.new ≡ with_waiter self.old w) }
         ensures answer { IfOk result (λ new. IsTrue new ↔ ¬ IsSome (maps.get self.old w)) }
@@ -117,6 +118,7 @@ impl Waiters {
     }
 
     /// Notes that `w` was told, if it waits.
+    #[inline]
     pub(crate) fn tell(&mut self, w: Waiter)
         ensures { self.new ≡ with_told self.old w }
     {
@@ -137,6 +139,7 @@ impl Waiters {
     }
 
     /// The first untold waiter.
+    #[inline(always)]
     pub(crate) fn next_untold(&self) -> Option<Waiter>
         ensures { IsLeastBy waiter_cmp (AwaitsTelling self.now) result }
     {
@@ -226,6 +229,8 @@ fn two(first: (Waiter, bool), w: Waiter) -> Kept
 }
 
 /// Two waiters, and one after them that is untold.
+#[cold]
+#[inline(never)]
 fn three(
     alloc: Global,
     first: (Waiter, bool),

@@ -55,6 +55,8 @@ impl Names {
     }
 
     /// Puts the oldest name into the deque. Whether there is room for another now.
+    #[cold]
+    #[inline(never)]
     fn pass_on(&mut self, hand: &mut Hand, tally: &mut Tally) -> bool
         ensures { IsSameHand hand.old hand.new }
     {

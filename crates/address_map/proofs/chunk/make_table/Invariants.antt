@@ -1,5 +1,5 @@
 use Rattle.std.proofs.Common.{◌≡◌, ◌≤◌, ℕ, length, get_or}
-use Rattle.address_map.proofs.chunk.fill.Given as goal
+use Rattle.address_map.proofs.chunk.make_table.Given as goal
 
 -- the table says what it said, and there are so many pages by now
 abbrev pub invariant-loop-page : goal.invariant-loop-page

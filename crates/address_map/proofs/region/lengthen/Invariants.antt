@@ -1,6 +1,6 @@
 use Rattle.std.proofs.Common.{◌≡◌, ◌≤◌, ℕ, length, get_or}
 use Rattle.std.specs.FinMap as maps
-use Rattle.address_map.proofs.region.extend.Given as goal
+use Rattle.address_map.proofs.region.lengthen.Given as goal
 
 -- the chunks have what they had, and there are so many by now
 abbrev pub invariant-loop-place : goal.invariant-loop-place

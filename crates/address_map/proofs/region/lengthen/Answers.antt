@@ -1,7 +1,7 @@
 use Rattle.std.proofs.Common.{[], ◌∷◌, ◌++◌, ap, ◌∙◌, get_or, arith}
 use Rattle.std.specs.FinMap as maps
 use Rattle.address_map.proofs.PartsJoined.{padded}
-use Rattle.address_map.proofs.region.extend.Goals as goal
+use Rattle.address_map.proofs.region.lengthen.Goals as goal
 
 pub loop-place-preserved : goal.loop-place-preserved
 loop-place-preserved g c = (
