@@ -137,6 +137,38 @@ class Bench(unittest.TestCase):
         self.assertEqual(bench.row("slow", other._replace(patience=bench.PATIENCE_WITH_OTHERS), 3.0), cells)
 
 
+class Shared(unittest.TestCase):
+    """The table of runs beside others, by a script in the place of cfg."""
+
+    def said(self, folder: str, times: str, text: str) -> "subprocess.CompletedProcess[str]":
+        program = Path(folder) / "cfg"
+        program.write_text(f"#!/bin/sh\n[ $# = 0 ] && exit 1\necho $2 >>'{folder}/workers'\n{text}\n")
+        program.chmod(0o755)
+        command = [sys.executable, "-B", str(rows.TOOLS / "bench"), "--shared", times, str(Path(folder) / "some.elf")]
+        return subprocess.run(command, env=dict(os.environ, CFG=str(program)), capture_output=True, text=True)
+
+    @unittest.skipIf(len(os.sched_getaffinity(0)) < 2, "there is one processor alone")
+    def test_runs_take_turns(self) -> None:
+        with tempfile.TemporaryDirectory() as folder:
+            done = self.said(folder, "3", "sleep 0.$2")
+            workers = (Path(folder) / "workers").read_text().split()
+        self.assertEqual((done.returncode, done.stderr), (0, ""))
+        self.assertEqual(workers, ["1", "2", "4"] * 3)
+        table = [[cell.strip() for cell in line.strip("|").split("|")] for line in done.stdout.splitlines()]
+        self.assertEqual([cells[:2] for cells in table[2:]], [["some.elf", count] for count in ("1", "2", "4")])
+        for cells in table[2:]:
+            clock = [float(number) for number in cells[2].replace(" s", "").split(",")]
+            self.assertEqual((clock, clock[0] >= int(cells[1]) / 10), (sorted(clock), True))
+        self.assertEqual(table[2][3], "")
+        self.assertGreater(min(float(number) for number in table[4][3].split(",")), 1.0)
+
+    def test_what_is_wrong_is_one_line(self) -> None:
+        with tempfile.TemporaryDirectory() as folder:
+            for times, text in (("0", "exit 0"), ("x", "exit 0"), ("1", "exit 3")):
+                done = self.said(folder, times, text)
+                self.assertEqual((done.returncode, done.stdout, done.stderr.count("\n")), (2, "", 1))
+
+
 class WorkersOf(unittest.TestCase):
     """The table of what workers counted, by a script in the place of dump_threads and by dump_threads itself."""
 

@@ -40,6 +40,13 @@ still_cached map seeds cache old new cached remembers = record {
   waits = λ k w at. let known = cached.waits k w at in (remembers (Fact.Waits k w) known.0, known.1);
 }
 
+-- So what holds of a desk holds after whatever its seat tried.
+pub desk_after : {map : InstructionMap} {seeds : List ℕ} {id board : BoardId} {part : Share} {cache : Cache} {old new : SeatState}
+    → (board ≡ id) × IsSeatAt id part old × AreCached map seeds cache old → Stays old new
+    → Remembers (Knows map old) (Knows map new) → (board ≡ id) × IsSeatAt id part new × AreCached map seeds cache new
+desk_after {map} {seeds} {id} {board} {part} {cache} {old} {new} desk stays remembers =
+    (desk.0, stays_at id part old new desk.1 stays, still_cached map seeds cache old new desk.2 remembers)
+
 -- One more address, of which the seat knows what it knows of those that are kept.
 one_more : (map : InstructionMap) (seeds : List ℕ) (fact : ℕ → Fact) (kept more : List ℕ) (k : ℕ) (seat : SeatState)
     → ((a : ℕ) → Caches kept a → KnowsSoundly map seeds seat (fact a)) → ((b : ℕ) → Caches more b → Caches kept b ⊎ (b ≡ k))

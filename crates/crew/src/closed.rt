@@ -6,6 +6,7 @@ ghost use Rattle.cfg_model.specs.Builder.Kept.{IsKept, IsClosed};
 
 use crate::gate::Gate;
 use crate::hands::dealt;
+use crate::rest::AtWork;
 use crate::shared::Shared;
 use crate::team::employ_all;
 use board::Board;
@@ -85,6 +86,7 @@ fn work_for<J: Job + Send + Sync, R: Threads + Wait + Sync, C: Chains, G: Gate>(
     };
     let hands = dealt(alloc, &pool, hands, seeds)?;
     let (board, seat) = Board::<J>::new(alloc, code)?;
+    let at_work = AtWork::new();
     let shared = Shared {
         rt,
         board: &board,
@@ -92,6 +94,7 @@ fn work_for<J: Job + Send + Sync, R: Threads + Wait + Sync, C: Chains, G: Gate>(
         code,
         seeds,
         gate,
+        at_work: &at_work,
     };
     let (seat, hands) = employ_all(alloc, &shared, seat, hands, 0)?;
     let state = board.close(alloc, seat)?;

@@ -13,11 +13,13 @@
 
 mod cache;
 mod closed;
+mod desk;
 mod gate;
 mod hands;
 mod known;
 mod learn;
 mod names;
+mod rest;
 mod shared;
 mod tally;
 mod team;

@@ -1,52 +1,95 @@
-//! The work items that a worker found and keeps for itself.
+//! The work items that a worker found and keeps for itself, and its hand.
 
-ghost use Rattle.steal_pool.specs.Pool.{IsSameHand};
+ghost use Rattle.std.specs.Prelude.{◌≡◌};
+ghost use Rattle.crew.specs.inner.Worker.{IsHandAt};
 
 use crate::tally::{Tally, add_one};
+use crate::worker_ids::WorkerIds;
 use core_state::Name;
 use std::alloc::Global;
 use std::collections::VecDeque;
-use steal_pool::Hand;
+use std::marker::{Model, PhantomData};
+use std::sync::Wait;
+use steal_pool::{Hand, Pool};
 
 /// How many names a worker keeps for itself. What it found before lies in its deque, where others
 /// take it too.
 const KEPT: usize = 64;
 
-/// The names that a worker found last. The newest is done first.
+/// The names that a worker found last, and the hand of these ids, into which the others go. The
+/// newest is done first.
+///
+/// Contracts see the hand.
 #[derive(Drop)]
-pub(crate) struct Names {
+pub(crate) struct Names<S: WorkerIds> {
     names: VecDeque<Name>,
+    hand: Hand,
+    ids: PhantomData<S>,
 }
 
-impl Names {
-    /// No names yet.
-    pub(crate) fn new(alloc: Global) -> Names {
+impl<S: WorkerIds> Model for Names<S> {
+    ghost use Rattle.steal_pool.specs.Pool.{HandValue};
+    ghost use Rattle.crew.specs.inner.Worker.{IsHandAt};
+
+    ghost Value = { HandValue };
+
+    ghost view = { λ n. n.hand };
+
+    ghost invariant = { λ n. IsHandAt S.deques S.number n.hand };
+}
+
+impl<S: WorkerIds> Names<S> {
+    /// No names yet, and this hand.
+    pub(crate) fn new(alloc: Global, hand: Hand) -> Self
+        requires { IsHandAt S.deques S.number hand }
+    {
         Names {
             names: VecDeque::new(alloc),
+            hand,
+            ids: PhantomData,
         }
     }
 
-    /// The newest name.
-    pub(crate) fn take(&mut self) -> Option<Name> {
-        self.names.pop_back()
+    /// The hand.
+    pub(crate) fn into_hand(self) -> Hand
+        ensures { IsHandAt S.deques S.number result }
+    {
+        self.hand
+    }
+
+    /// How many names the hand has taken from other hands' deques.
+    pub(crate) fn stolen(&self) -> u64 {
+        self.hand.stolen()
+    }
+
+    /// The newest name, or else the oldest of a deque.
+    pub(crate) fn take<R: Wait>(&mut self, tally: &mut Tally, rt: &R, pool: &Pool) -> Option<Name>
+        requires { pool.now.deques ≡ S.deques }
+    {
+        if let Some(name) = self.names.pop_back() {
+            add_one(&mut tally.from_kept);
+            return Some(name);
+        }
+        let name = self.hand.take(rt, pool)?;
+        add_one(&mut tally.from_deques);
+        Some(name)
     }
 
     /// Takes the newest name, if it is this one. Whether it was.
-    pub(crate) fn take_newest(&mut self, name: Name) -> bool {
+    pub(crate) fn take_newest(&mut self, tally: &mut Tally, name: Name) -> bool {
         if self.names.back() != Some(&name) {
             return false;
         }
         self.names.pop_back();
+        add_one(&mut tally.from_kept);
         true
     }
 
-    /// Keeps a name. If there are many already, the oldest goes into the deque of `hand`. If that
-    /// gives it back, or memory is missing, the new name is dropped; its work is found after all
-    /// workers have ended.
-    pub(crate) fn keep(&mut self, hand: &mut Hand, tally: &mut Tally, name: Name)
-        ensures { IsSameHand hand.old hand.new }
-    {
-        if self.names.len() >= KEPT && !self.pass_on(hand, tally) {
+    /// Keeps a name. If there are many already, the oldest goes into the hand's deque. If that gives
+    /// it back, or memory is missing, the new name is dropped; its work is found after all workers
+    /// have ended.
+    pub(crate) fn keep(&mut self, tally: &mut Tally, name: Name) {
+        if self.names.len() >= KEPT && !self.pass_on(tally) {
             return;
         }
         if self.names.push_back(name).is_ok() {
@@ -57,13 +100,11 @@ impl Names {
     /// Puts the oldest name into the deque. Whether there is room for another now.
     #[cold]
     #[inline(never)]
-    fn pass_on(&mut self, hand: &mut Hand, tally: &mut Tally) -> bool
-        ensures { IsSameHand hand.old hand.new }
-    {
+    fn pass_on(&mut self, tally: &mut Tally) -> bool {
         let Some(oldest) = self.names.front() else {
             return true;
         };
-        if hand.put(*oldest).is_err() {
+        if self.hand.put(*oldest).is_err() {
             return false;
         }
         self.names.pop_front();
@@ -72,12 +113,10 @@ impl Names {
     }
 
     /// Puts a name off: into the deque, after all others. If that gives it back it is kept.
-    pub(crate) fn put_off(&mut self, hand: &mut Hand, tally: &mut Tally, name: Name)
-        ensures { IsSameHand hand.old hand.new }
-    {
-        match hand.put(name) {
+    pub(crate) fn put_off(&mut self, tally: &mut Tally, name: Name) {
+        match self.hand.put(name) {
             Ok(()) => add_one(&mut tally.put),
-            Err(_) => self.keep(hand, tally, name),
+            Err(_) => self.keep(tally, name),
         }
     }
 }

@@ -1,6 +1,7 @@
 //! What the workers of a run share.
 
 use crate::gate::Gate;
+use crate::rest::AtWork;
 use board::Board;
 use core_state::{Job, Name, PlaceEnd};
 use steal_pool::Pool;
@@ -20,4 +21,6 @@ pub(crate) struct Shared<'a, J: Job, R, C, G> {
     pub(crate) seeds: &'a [u64],
     /// What they pass before each operation.
     pub(crate) gate: &'a G,
+    /// How many of them have work.
+    pub(crate) at_work: &'a AtWork,
 }

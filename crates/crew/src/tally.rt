@@ -22,6 +22,13 @@ pub struct Tally {
     pub made: u64,
 }
 
+impl Tally {
+    /// Counts a try to take the turn of a shard.
+    pub(crate) fn count_try(&mut self) {
+        add_one(&mut self.tries);
+    }
+}
+
 /// One more, if that is a number.
 pub(crate) fn add_one(count: &mut u64) {
     *count = count.saturating_add(1);

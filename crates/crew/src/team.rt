@@ -20,7 +20,8 @@ use steal_pool::Hand;
 pub(crate) type Back<J> = (Seat<J>, Vec<Hand>);
 
 /// Lets a worker work for each of these hands, in a thread of its own, the first with this number.
-/// The seat is split for them, and joined as it was split. [`Memory`] if memory ran out: then the
+/// The caller's thread starts all others, and lets the last one work itself: a thread that has just
+/// been started begins late at times. The seat is split for them, and joined as it was split. [`Memory`] if memory ran out: then the
 /// seat and the hands are gone.
 pub(crate) fn employ_all<J: Job + Send + Sync, R: Threads + Wait + Sync, C: Chains, G: Gate>(
     alloc: Global,
@@ -39,9 +40,8 @@ pub(crate) fn employ_all<J: Job + Send + Sync, R: Threads + Wait + Sync, C: Chai
     if low.len() < 2 {
         return employ_one(alloc, shared, seat, low, first);
     }
-    let half = low.len() / 2;
-    let high = low.split_off(half)?;
-    let next = first + half as u32;
+    let high = low.split_off(1)?;
+    let next = first + 1;
     let (left, right) = seat.split(shared.board);
     let (left, right) = join(
         shared.rt,

@@ -1,4 +1,4 @@
-//! What a worker works on: its seat on the board, and its hand in the pool.
+//! What a worker works on: its desk, and the names that it keeps.
 
 ghost use Rattle.std.specs.Prelude.{◌≡◌, ◌<◌, ◌≤◌, IfOk, IfErr, IfSome, IsTrue};
 ghost use Rattle.cfg_model.specs.Builder.Fact.{Fact};
@@ -6,6 +6,7 @@ ghost use Rattle.core_state.specs.Place.{Remembers, IsBusyAt};
 ghost use Rattle.crew.specs.inner.Worker.{IsSeatAt, IsHandAt, KnowsSoundly, all_lost};
 
 use crate::cache::Cache;
+use crate::desk::Desk;
 use crate::known::Known;
 use crate::names::Names;
 use crate::tally::{Tally, add_one};
@@ -14,25 +15,21 @@ use board::{Board, Seat};
 use cfg_model::{Chains, Waiter};
 use core_state::{Along, Arrival, Job, Name, Place, PlaceEnd, ShardKind};
 use std::alloc::Global;
-use std::marker::{Model, PhantomData};
+use std::marker::Model;
 use std::sync::Wait;
 use steal_pool::{Hand, Pool};
 
-/// A worker: it makes its changes by a seat on the board, and puts what it found into its hand.
+/// A worker: it makes its changes at its desk, and keeps the names that it found.
 ///
-/// Contracts see the seat. That seat and hand are those of its ids holds of every worker, so it
-/// holds after every operation.
+/// Contracts see the seat of the desk. What holds of that seat and of the hand the desk and the
+/// names say, so counts and what else lies beside them may change freely.
 #[derive(Drop)]
 pub(crate) struct Worker<'a, J: Job, S: WorkerIds> {
-    board: &'a Board<J>,
-    seat: Seat<J>,
-    hand: Hand,
-    names: Names,
+    desk: Desk<'a, J, S>,
+    names: Names<S>,
     followed: Known,
-    cache: Cache,
     line: Option<Line>,
     tally: Tally,
-    ids: PhantomData<S>,
 }
 
 /// What was seen when the board was last asked for starts: the least start above `a` in the line of
@@ -44,20 +41,13 @@ struct Line {
 }
 
 impl<'a, J: Job, S: WorkerIds> Model for Worker<'a, J, S> {
-    ghost use Rattle.std.specs.Prelude.{◌≡◌};
-    ghost use Rattle.board.specs.Seat.{SeatState, coded_seat_state, HoldsNothing};
-    ghost use Rattle.crew.specs.inner.Worker.{IsSeatAt, IsHandAt};
-    ghost use Rattle.crew.specs.inner.Known.{AreCached};
+    ghost use Rattle.board.specs.Seat.{SeatState, coded_seat_state};
 
     ghost Value = { SeatState };
 
     ghost coded = { coded_seat_state };
 
-    ghost view = { λ d. d.seat };
-
-    ghost invariant = { λ d. (d.board.now ≡ S.board) × IsSeatAt S.board S.share d.seat
-        × IsHandAt S.deques S.number d.hand
-        × AreCached J.map J.seeds d.cache d.seat };
+    ghost view = { λ w. w.desk };
 }
 
 impl<'a, J: Job, S: WorkerIds> Worker<'a, J, S> {
@@ -69,15 +59,11 @@ impl<'a, J: Job, S: WorkerIds> Worker<'a, J, S> {
         ensures { result ≡ seat }
     {
         Worker {
-            board,
-            seat,
-            hand,
-            names: Names::new(alloc),
+            desk: Desk::new(alloc, board, seat),
+            names: Names::new(alloc, hand),
             followed: Known::new(alloc),
-            cache: Cache::new(alloc),
             line: None,
             tally: Tally::default(),
-            ids: PhantomData,
         }
     }
 
@@ -86,31 +72,21 @@ impl<'a, J: Job, S: WorkerIds> Worker<'a, J, S> {
         ensures seat { IsSeatAt S.board S.share result.0 }
         ensures hand { IsHandAt S.deques S.number result.1 }
     {
-        (self.seat, self.hand)
+        (self.desk.into_seat(), self.names.into_hand())
     }
 
     /// A work item: the newest that it keeps for itself, or else the oldest of a deque.
     pub(crate) fn take<R: Wait>(&mut self, rt: &R, pool: &Pool) -> Option<Name>
         requires { pool.now.deques ≡ S.deques }
     {
-        if let Some(name) = self.names.take() {
-            add_one(&mut self.tally.from_kept);
-            return Some(name);
-        }
-        let name = self.hand.take(rt, pool)?;
-        add_one(&mut self.tally.from_deques);
-        Some(name)
+        self.names.take(&mut self.tally, rt, pool)
     }
 
     /// Takes the newest name that it keeps for itself, if it is this one. Whether it was.
     pub(crate) fn take_newest(&mut self, name: Name) -> bool
         ensures { self.new ≡ self.old }
     {
-        if !self.names.take_newest(name) {
-            return false;
-        }
-        add_one(&mut self.tally.from_kept);
-        true
+        self.names.take_newest(&mut self.tally, name)
     }
 
     /// Keeps in mind that it has followed the edges of `k`.
@@ -130,13 +106,13 @@ impl<'a, J: Job, S: WorkerIds> Worker<'a, J, S> {
 
     /// Puts a name off, at whose work tries were lost: into the hand's deque.
     pub(crate) fn put_off(&mut self, name: Name) {
-        self.names.put_off(&mut self.hand, &mut self.tally, name);
+        self.names.put_off(&mut self.tally, name);
     }
 
     /// Keeps a name, at whose work a try was lost, for later.
     pub(crate) fn put_aside(&mut self, name: Name) {
         self.count_lost();
-        self.names.keep(&mut self.hand, &mut self.tally, name);
+        self.names.keep(&mut self.tally, name);
     }
 
     /// Counts an operation that was made.
@@ -152,12 +128,13 @@ impl<'a, J: Job, S: WorkerIds> Worker<'a, J, S> {
         ensures start { IfSome result
             (λ next. IfSome next (λ t. KnowsSoundly J.map J.seeds self.now (Fact.Start t))) }
     {
+        let desk = &self.desk;
         let line = self.line?;
         if line.a != a {
             return None;
         }
         match line.next {
-            Some(t) if a < t && self.cache.starts.has(t) => Some(Some(t)),
+            Some(t) if a < t && desk.cache.starts.has(t) => Some(Some(t)),
             Some(_) => None,
             None => Some(None),
         }
@@ -166,7 +143,7 @@ impl<'a, J: Job, S: WorkerIds> Worker<'a, J, S> {
     /// What it has counted.
     pub(crate) fn tally(&self) -> Tally {
         let mut tally = self.tally;
-        tally.stolen = self.hand.stolen();
+        tally.stolen = self.names.stolen();
         tally
     }
 }
@@ -184,92 +161,104 @@ impl<J: Job, S: WorkerIds> Place<J> for Worker<'_, J, S> {
     ghost maps = { λ _. None };
 
     fn want(&mut self, s: u64) -> Result<bool, PlaceEnd> {
-        if self.cache.starts.has(s) {
+        let desk = &mut self.desk;
+        if desk.cache.starts.has(s) {
             return Ok(false);
         }
-        add_one(&mut self.tally.tries);
-        let (new, next) = self.seat.want_in_line(self.board, s)?;
+        self.tally.count_try();
+        let (new, next) = desk.seat.want_in_line(desk.board, s)?;
         self.line = Some(Line { a: s, next });
-        self.cache.starts.note(s);
-        self.cache.starts.note_some(next);
+        desk.cache.starts.note(s);
+        desk.cache.starts.note_some(next);
         Ok(new)
     }
 
     fn parsed(&mut self, s: u64) -> Result<(), PlaceEnd> {
-        add_one(&mut self.tally.tries);
-        self.seat.parsed(self.board, s)
+        self.tally.count_try();
+        let desk = &mut self.desk;
+        desk.seat.parsed(desk.board, s)
     }
 
     fn arrive<C: Chains>(&mut self, code: &C, k: u64, s: u64) -> Result<Arrival, PlaceEnd> {
-        add_one(&mut self.tally.tries);
-        self.seat.arrive_along(self.board, &Along(code), k, s)
+        self.tally.count_try();
+        let desk = &mut self.desk;
+        desk.seat.arrive_along(desk.board, &Along(code), k, s)
     }
 
     fn settle(&mut self, k: u64, x: u64) -> Result<(), PlaceEnd> {
-        add_one(&mut self.tally.tries);
-        self.seat.settle(self.board, k, x)
+        self.tally.count_try();
+        let desk = &mut self.desk;
+        desk.seat.settle(desk.board, k, x)
     }
 
     fn term(&mut self, k: u64) -> Result<bool, PlaceEnd> {
-        if self.cache.terminators.has(k) {
+        let desk = &mut self.desk;
+        if desk.cache.terminators.has(k) {
             return Ok(false);
         }
-        add_one(&mut self.tally.tries);
-        let new = self.seat.term(self.board, k)?;
-        self.cache.terminators.note(k);
+        self.tally.count_try();
+        let new = desk.seat.term(desk.board, k)?;
+        desk.cache.terminators.note(k);
         Ok(new)
     }
 
     fn wait(&mut self, k: u64, w: Waiter) -> Result<bool, PlaceEnd> {
-        add_one(&mut self.tally.tries);
-        self.seat.wait(self.board, k, w)
+        self.tally.count_try();
+        let desk = &mut self.desk;
+        desk.seat.wait(desk.board, k, w)
     }
 
     fn place_waiter(&mut self, k: u64, w: Waiter) -> Result<bool, PlaceEnd> {
-        add_one(&mut self.tally.tries);
-        let due = self.seat.place_waiter(self.board, k, w)?;
-        self.cache.waiting.note(k, w);
+        let desk = &mut self.desk;
+        self.tally.count_try();
+        let due = desk.seat.place_waiter(desk.board, k, w)?;
+        desk.cache.waiting.note(k, w);
         if due {
-            self.cache.returned.note(k);
+            desk.cache.returned.note(k);
         }
         Ok(due)
     }
 
     fn returned(&mut self, k: u64) -> Result<bool, PlaceEnd> {
-        if self.cache.returned.has(k) {
+        let desk = &mut self.desk;
+        if desk.cache.returned.has(k) {
             return Ok(false);
         }
-        add_one(&mut self.tally.tries);
-        let new = self.seat.returned(self.board, k)?;
-        self.cache.returned.note(k);
+        self.tally.count_try();
+        let new = desk.seat.returned(desk.board, k)?;
+        desk.cache.returned.note(k);
         Ok(new)
     }
 
     fn told(&mut self, k: u64, w: Waiter) -> Result<(), PlaceEnd> {
-        add_one(&mut self.tally.tries);
-        self.seat.told(self.board, k, w)
+        self.tally.count_try();
+        let desk = &mut self.desk;
+        desk.seat.told(desk.board, k, w)
     }
 
     fn mark_told(&mut self, k: u64, w: Waiter) -> Result<bool, PlaceEnd> {
-        add_one(&mut self.tally.tries);
-        self.seat.mark_told(self.board, k, w)
+        self.tally.count_try();
+        let desk = &mut self.desk;
+        desk.seat.mark_told(desk.board, k, w)
     }
 
     fn edges_done(&mut self, k: u64) -> Result<(), PlaceEnd> {
-        add_one(&mut self.tally.tries);
-        self.seat.edges_done(self.board, k)
+        self.tally.count_try();
+        let desk = &mut self.desk;
+        desk.seat.edges_done(desk.board, k)
     }
 
     fn has_start(&mut self, s: u64) -> Result<bool, PlaceEnd> {
-        if self.cache.starts.has(s) {
+        let desk = &mut self.desk;
+        if desk.cache.starts.has(s) {
             return Ok(true);
         }
-        add_one(&mut self.tally.tries);
-        let (is_start, next) = self.seat.starts_from(self.board, s)?;
+        self.tally.count_try();
+        let (is_start, next) = desk.seat.starts_from(desk.board, s)?;
         self.line = Some(Line { a: s, next });
-        self.cache.starts.note_some(next);
+        desk.cache.starts.note_some(next);
         if is_start {
-            self.cache.starts.note(s);
+            desk.cache.starts.note(s);
         }
         Ok(is_start)
     }
@@ -278,33 +267,37 @@ impl<J: Job, S: WorkerIds> Place<J> for Worker<'_, J, S> {
         if let Some(next) = self.seen_behind(a) {
             return Ok(next);
         }
-        add_one(&mut self.tally.tries);
-        let next = self.seat.start_behind(self.board, a)?;
-        self.cache.starts.note_some(next);
+        self.tally.count_try();
+        let desk = &mut self.desk;
+        let next = desk.seat.start_behind(desk.board, a)?;
+        desk.cache.starts.note_some(next);
         Ok(next)
     }
 
     fn near(&mut self, k: u64) -> Result<Option<u64>, PlaceEnd> {
-        add_one(&mut self.tally.tries);
-        self.seat.near(self.board, k)
+        self.tally.count_try();
+        let desk = &mut self.desk;
+        desk.seat.near(desk.board, k)
     }
 
     fn moved(&mut self, k: u64) -> Result<Option<u64>, PlaceEnd> {
-        add_one(&mut self.tally.tries);
-        self.seat.moved(self.board, k)
+        self.tally.count_try();
+        let desk = &mut self.desk;
+        desk.seat.moved(desk.board, k)
     }
 
     fn untold(&mut self, k: u64) -> Result<Option<Waiter>, PlaceEnd> {
-        if let Some(w) = self.cache.waiter_of(k) {
-            self.cache.waiting.forget(k);
+        let desk = &mut self.desk;
+        if let Some(w) = desk.cache.waiter_of(k) {
+            desk.cache.waiting.forget(k);
             return Ok(Some(w));
         }
-        add_one(&mut self.tally.tries);
-        self.seat.untold(self.board, k)
+        self.tally.count_try();
+        desk.seat.untold(desk.board, k)
     }
 
     fn found(&mut self, name: Name) {
-        self.names.keep(&mut self.hand, &mut self.tally, name);
+        self.names.keep(&mut self.tally, name);
     }
 
     ghost sound = { λ worker kept fact known. known.1 };

@@ -7,6 +7,7 @@ ghost use Rattle.crew.specs.inner.Team.{IsJob};
 
 use crate::gate::Gate;
 use crate::learn::do_named;
+use crate::rest::Pause;
 use crate::shared::Shared;
 use crate::worker::Worker;
 use crate::worker_ids::WorkerIds;
@@ -20,11 +21,8 @@ use std::sync::Wait;
 use steal_pool::Hand;
 use work_ops::edges_op;
 
-/// How often in a row a worker finds no name before it ends.
-const LAST_LOOKS: u32 = 64;
-
 /// How often in a row a worker tries the work of a name at shards that are in other hands before it
-/// puts it off.
+/// looks for another one.
 const TRIES: u32 = 3;
 
 /// Lets a worker work, and gives its seat and its hand back.
@@ -66,7 +64,7 @@ fn stay<J: Job, S: WorkerIds, R: Wait, C: Chains, G: Gate>(
     worker.into_parts()
 }
 
-/// Works until no name was found this many times in a row, or memory ran out.
+/// Works until no name is found and no worker has one, or memory ran out.
 fn work_off<J: Job, S: WorkerIds, R: Wait, C: Chains, G: Gate>(
     shared: &Shared<J, R, C, G>,
     worker: &mut Worker<J, S>,
@@ -75,33 +73,75 @@ fn work_off<J: Job, S: WorkerIds, R: Wait, C: Chains, G: Gate>(
     requires job { IsJob J.map J.seeds (C.map shared.now.code.now) shared.now.seeds.now }
     requires pool { shared.now.pool.now.deques ≡ S.deques }
 {
-    let pause = Backoff::new();
-    let mut looks = 0;
+    let mut pause = Pause::new();
+    shared.at_work.begin();
+    let mut found = next_name(shared, worker, &mut pause);
     for _ in shared.rt.forever() {
-        match worker.take(shared.rt, shared.pool) {
-            Some(name) => {
-                looks = 0;
-                match do_or_put_off(shared, worker, number, name) {
-                    Ok(true) => pause.reset(),
-                    Ok(false) => pause.snooze(),
-                    Err(Memory) => return,
-                }
+        let Some(name) = found else {
+            return;
+        };
+        found = match was_done(shared, worker, number, name) {
+            Ok(true) => next_name(shared, worker, &mut pause),
+            Ok(false) => Some(another_name(shared, worker, &mut pause, name)),
+            Err(Memory) => {
+                shared.at_work.end();
+                return;
             }
-            None => {
-                looks += 1;
-                if looks == LAST_LOOKS {
-                    return;
-                }
-                pause.snooze();
-            }
-        }
+        };
     }
 }
 
-/// Does the work of a name. Whether it was done: if a shard was in other hands at each of a few
-/// tries, the work is put off. The system may hold up the holder of the shard for milliseconds; the
-/// others do what does not need that shard meanwhile.
-fn do_or_put_off<J: Job, S: WorkerIds, R: Wait, C: Chains, G: Gate>(
+/// The next name. `None` if none was found, and no worker had one.
+fn next_name<J: Job, S: WorkerIds, R: Wait, C, G>(
+    shared: &Shared<J, R, C, G>,
+    worker: &mut Worker<J, S>,
+    pause: &mut Pause,
+) -> Option<Name>
+    requires pool { shared.now.pool.now.deques ≡ S.deques }
+{
+    pause.reset();
+    if let Some(name) = worker.take(shared.rt, shared.pool) {
+        return Some(name);
+    }
+    shared.at_work.end();
+    for _ in shared.rt.forever() {
+        if let Some(name) = worker.take(shared.rt, shared.pool) {
+            shared.at_work.begin();
+            pause.reset();
+            return Some(name);
+        }
+        if shared.at_work.is_over() {
+            return None;
+        }
+        pause.wait(shared.rt, shared.at_work);
+    }
+    unreachable!()
+}
+
+/// Another name after one whose shards were in other hands, which is put off. If there is no other,
+/// the same one: its work is the only one that there is to do.
+fn another_name<J: Job, S: WorkerIds, R: Wait, C, G>(
+    shared: &Shared<J, R, C, G>,
+    worker: &mut Worker<J, S>,
+    pause: &mut Pause,
+    name: Name,
+) -> Name
+    requires pool { shared.now.pool.now.deques ≡ S.deques }
+{
+    pause.wait(shared.rt, shared.at_work);
+    match worker.take(shared.rt, shared.pool) {
+        Some(other) => {
+            worker.put_off(name);
+            other
+        }
+        None => name,
+    }
+}
+
+/// Does the work of a name. Whether it was done: it is not if a shard was in other hands at each of
+/// a few tries. The system may hold up the holder of the shard for milliseconds; the others do what
+/// does not need that shard meanwhile.
+fn was_done<J: Job, S: WorkerIds, R: Wait, C: Chains, G: Gate>(
     shared: &Shared<J, R, C, G>,
     worker: &mut Worker<J, S>,
     number: u32,
@@ -129,7 +169,6 @@ fn do_or_put_off<J: Job, S: WorkerIds, R: Wait, C: Chains, G: Gate>(
             }
         }
     }
-    worker.put_off(name);
     Ok(false)
 }
 

@@ -16,7 +16,7 @@ returns-clause-hands g t c =
     let low = IfOk-at_ok (λ back. IsBack c.split-left.result.0 back.0 × AreBack c.split_off.new.self.items back.1.items) c.in_ok-left.was c.join-left.ensures.first in
     let high = IfOk-at_ok (λ back. IsBack c.split-left.result.1 back.0 × AreBack c.in_ok-high.high.items back.1.items) c.in_ok-right.was c.join-left.ensures.second in
     subst (λ (xs : List HandValue). AreBack c.args.hands.items xs) (sym c.in_ok-append.ensures.items)
-    (hands_back _ c.args.hands.items c.split_off.new.self.items c.in_ok-high.high.items c.in_ok-left.low.items c.in_ok-right.high.items c.in_ok-high.ensures.items c.in_ok-high.ensures.tail low.1 high.1)
+    (hands_back 1 c.args.hands.items c.split_off.new.self.items c.in_ok-high.high.items c.in_ok-left.low.items c.in_ok-right.high.items c.in_ok-high.ensures.items c.in_ok-high.ensures.tail low.1 high.1)
 
 -- each half of the hands takes a call, and has its half of the seat
 pub join-left-requires-after_bounds : goal.join-left-requires-after_bounds
@@ -42,7 +42,7 @@ join-left-requires-after_bounds g t c κs within =
                     search rules,
                     c.requires.job,
                     stays_free _ _ _ c.requires.seat seats.stays,
-                    low_of _ _ _ _ _ c.requires.hands cut.items (omega (arith, cut.len)),
+                    low_of _ _ 1 _ _ c.requires.hands cut.items (omega (arith, cut.len)),
                   ),
                   search rules,
                 ),
@@ -70,7 +70,7 @@ join-left-requires-after_bounds g t c κs within =
                     search rules,
                     c.requires.job,
                     goes_free _ _ _ c.requires.seat seats.goes,
-                    high_of _ _ _ _ _ c.requires.hands cut.tail (omega (arith, cut.len)),
+                    high_of _ _ 1 _ _ c.requires.hands cut.tail (omega (arith, cut.len)),
                   ),
                   search rules,
                 ),

@@ -1,10 +1,5 @@
-use Rattle.crew.proofs.Caching.{stays_at, still_cached}
+use Rattle.crew.proofs.Caching.{desk_after}
 use Rattle.crew.proofs.worker.WorkerPlace.moved.Goals as goal
 
-pub invariant_of-self : goal.invariant_of-self
-invariant_of-self g c = (
-  c.self.invariant.0,
-  stays_at g.S.WorkerIds.board g.S.WorkerIds.share c.self.inside.seat c.moved.new.self c.self.invariant.1 c.moved.ensures.tried.stays,
-  c.self.invariant.2,
-  still_cached g.J.Job.map g.J.Job.seeds c.self.inside.cache c.self.inside.seat c.moved.new.self c.self.invariant.3 c.moved.ensures.tried.remembers,
-)
+pub invariant_of-desk : goal.invariant_of-desk
+invariant_of-desk g c = desk_after c.desk.invariant c.moved.ensures.tried.stays c.moved.ensures.tried.remembers
