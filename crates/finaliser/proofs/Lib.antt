@@ -1,7 +1,1 @@
-pub mod Closed
-pub mod Starts
-pub mod Read
-pub mod Whole
-pub mod Straight
-pub mod Moved
-pub mod Shared
+mod Returning

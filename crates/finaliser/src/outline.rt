@@ -1,25 +1,20 @@
 //! The blocks and edges that a closed state shows.
 
-ghost use Rattle.std.specs.Prelude.{AllPairs, Contains, IfOk};
-ghost use Rattle.cfg_model.specs.Graph.Graph.{BlockBefore, EdgeBefore};
-ghost use Rattle.cfg_model.specs.Graph.Listing.{Lists};
+ghost use Rattle.std.specs.Prelude.{IfOk};
 ghost use Rattle.finaliser.specs.Closed.{IsClosedFromSome, IsOutlineOf};
-ghost use Rattle.finaliser.specs.Inner.Shown.{StartApart};
 
-use crate::Memory;
-use crate::part::{Part, read_ends};
-use cfg_model::{Blocks, Chains, Edges, Outline};
+use cfg_model::{Memory, Outline};
 use core_state::State;
-use parallel::AddressRange;
+use reached_graph::outline_from;
+use reached_terms::Numbered;
+use state_marks::marks_of;
 use std::alloc::Global;
 
 /// The basic blocks of the program `code`, and the edges between them, from the closed state of its
-/// builder alone: neither the seeds nor anything else that is reached is looked at. [`Memory`] if
-/// memory ran out.
+/// builder: the seeds are not looked at. [`Memory`] if memory ran out.
 ///
-/// It goes once over the ends of the state and looks at the last instruction of each block, and at
-/// the chain of each call's target. The rest of the time goes into sorting.
-pub fn blocks_and_edges<C: Chains>(
+/// Time and memory: those of [`marks_of`] and of [`outline_from`].
+pub fn blocks_and_edges<C: Numbered>(
     alloc: Global,
     code: &C,
     state: &State,
@@ -27,19 +22,6 @@ pub fn blocks_and_edges<C: Chains>(
     requires closed { IsClosedFromSome (C.map code.now) state.now.maps }
     ensures outline { IfOk result (IsOutlineOf (C.map code.now) state.now.maps) }
 {
-    let part = read_ends(alloc, code, state, AddressRange::all())?;
-    Ok(outline_from(part))
-}
-
-/// The outline whose blocks and edges these are.
-fn outline_from(part: Part) -> Outline
-    requires { AllPairs StartApart part.blocks.items }
-    ensures blocks { Lists BlockBefore (Contains part.blocks.items) result.blocks }
-    ensures edges { Lists EdgeBefore (Contains part.edges.items) result.edges }
-{
-    let part = part.in_order();
-    Outline {
-        blocks: Blocks::from_vec(part.blocks),
-        edges: Edges::from_vec(part.edges),
-    }
+    let reached = marks_of(alloc, code, state)?;
+    outline_from(alloc, code, &reached)
 }

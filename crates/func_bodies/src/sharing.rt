@@ -1,27 +1,29 @@
 //! The functions of a program, made by several threads.
 
-ghost use Rattle.std.specs.Prelude.{◌≡◌, ◌↔◌, ◌≤◌, IfOk, IsTrue};
+ghost use Rattle.std.specs.Prelude.{◌↔◌, ◌≤◌, ℕ, List, IfOk, IsTrue};
+ghost use Rattle.cfg_model.specs.Program.Reach.{Reached};
 ghost use Rattle.cfg_model.specs.Program.Status.{Returns};
 ghost use Rattle.cfg_model.specs.Graph.Function.{IsFunction};
 ghost use Rattle.cfg_model.specs.Graph.Graph.{FunctionBefore};
 ghost use Rattle.cfg_model.specs.Graph.Listing.{Lists};
 ghost use Rattle.cfg_model.specs.Builder.Kept.{IsClosed};
-ghost use Rattle.cfg_model.specs.Builder.State.{IsStart};
-ghost use Rattle.finaliser.specs.Closed.{IsClosedFromSome, IsOutlineOf};
+ghost use Rattle.finaliser.specs.Closed.{IsOutlineOf};
 ghost use Rattle.outline_funcs.specs.Listed.{AreOrdered, HaveEachEntry};
+ghost use Rattle.reached_terms.specs.Reached.{AreReachedTerms};
 
-use crate::listing::know_laws;
-use cfg_model::{Chains, Functions, Outline};
+use cfg_model::{Functions, Outline};
 use core_state::State;
-use finaliser::may_return;
 use outline_funcs::{Memory, functions_among_by};
 use parallel::MOST_WORKERS;
+use reached_terms::Numbered;
+use state_marks::marks_of_by;
 use std::alloc::Global;
 use std::thread::Threads;
 
 /// The answer of [`functions`](crate::functions), made by `workers` workers, from 1 to 64. With one
-/// worker no thread is started. [`Memory`], time and memory as of [`functions_among_by`].
-pub fn functions_by<R: Threads + Sync, C: Chains>(
+/// worker no thread is started. [`Memory`], time and memory as of [`marks_of_by`] and
+/// [`functions_among_by`].
+pub fn functions_by<R: Threads + Sync, C: Numbered>(
     rt: &R,
     alloc: Global,
     code: &C,
@@ -38,11 +40,11 @@ pub fn functions_by<R: Threads + Sync, C: Chains>(
     ensures complete { IfOk result (HaveEachEntry (C.map code.now) seeds.now) }
     ensures ordered { IfOk result AreOrdered }
 {
-    know_laws(code);
+    let reached = marks_of_by(rt, alloc, code, state, workers)?;
     let returns = |a: u64| -> bool
-        requires { IsClosedFromSome (C.map code.now) state.now.maps
-            × IsStart state.now.maps.starts a }
+        requires { (from : List ℕ) × AreReachedTerms (C.map code.now) (C.number code.now) from
+            reached × Reached (C.map code.now) from a }
         ensures { IsTrue result ↔ Returns (C.map code.entry.now) a }
-    { may_return(code, state, a) };
+    { reached.returns(code, a) };
     functions_among_by(rt, alloc, code, seeds, outline, &returns, workers)
 }

@@ -9,7 +9,7 @@
 //! - [`graph`]: the graph.
 //! - [`leaders`]: the addresses where blocks start.
 //! - `walks`: the walks over blocks that overlap, which find joins.
-//! - `outline`: the blocks and edges of these leaders.
+//! - [`outline`]: the blocks and edges, from what is reached and from these leaders.
 //! - `blocks`: one block, up to its last instruction.
 //! - `edges`: the edges of one block, and all edges in order.
 //! - [`sharing`]: blocks and edges, made by several threads.
@@ -19,11 +19,12 @@ mod blocks;
 mod edges;
 pub mod graph;
 pub mod leaders;
-mod outline;
+pub mod outline;
 pub mod sharing;
 mod walks;
 
 pub use cfg_model::Memory;
 pub use graph::{graph_from, graph_of};
 pub use leaders::leaders_of;
+pub use outline::outline_from;
 pub use sharing::outline_by;

@@ -1,8 +1,10 @@
 //! The blocks and edges of a program, from its leaders.
 
-ghost use Rattle.std.specs.Prelude.{◌≡◌, List, ℕ, All, IfOk, IsSome, OnOk, length};
+ghost use Rattle.std.specs.Prelude.{◌≡◌, ◌↔◌, List, ℕ, All, IfOk, IsSome, IsTrue, OnOk, length};
 ghost use Rattle.cfg_model.specs.Graph.Graph.{IsOutline};
 ghost use Rattle.cfg_model.specs.Program.Reach.{Reached};
+ghost use Rattle.cfg_model.specs.Program.Status.{Returns};
+ghost use Rattle.reached_terms.specs.Reached.{AreReachedTerms};
 ghost use Rattle.reached_graph.specs.Inner.Blocks.{IsMadeOf};
 ghost use Rattle.reached_graph.specs.Inner.Leaders.{AreLeaders};
 ghost use Rattle.reached_graph.specs.Inner.Parts.{ArePart};
@@ -12,7 +14,30 @@ use crate::blocks::block_to;
 use crate::edges::{add_ways, by_source};
 use crate::leaders::Leaders;
 use cfg_model::{Block, Blocks, Chains, Edge, Edges, Memory, Outline};
+use reached_terms::{Numbered, ReachedTerms};
 use std::alloc::Global;
+
+/// The blocks and edges of the program `code`, from what it reaches. [`Memory`] if memory ran out.
+/// Time and memory: those of [`graph_from`](crate::graph_from), but for the functions.
+pub fn outline_from<C: Numbered>(
+    alloc: Global,
+    code: &C,
+    reached: &ReachedTerms,
+) -> Result<Outline, Memory>
+    requires { (seeds : List ℕ)
+        × AreReachedTerms (C.map code.now) (C.number code.now) seeds reached.now }
+    ensures { IfOk result (λ outline. (seeds : List ℕ)
+        → AreReachedTerms (C.map code.now) (C.number code.now) seeds reached.now
+        → IsOutline (C.map code.now) seeds outline.blocks outline.edges) }
+{
+    let leaders = Leaders::of(alloc, code, reached)?;
+    let returns = |a: u64| -> bool
+        requires { (from : List ℕ) × AreReachedTerms (C.map code.now) (C.number code.now) from
+            reached.now × Reached (C.map code.now) from a }
+        ensures { IsTrue result ↔ Returns (C.map code.entry.now) a }
+    { reached.returns(code, a) };
+    outline_of(alloc, code, &leaders, &returns)
+}
 
 /// The blocks and edges of the program `code`, from its leaders. `returns` says of a reached
 /// address whether it returns; it is asked of the targets of calls.

@@ -21,7 +21,7 @@ ghost use Rattle.reached_graph.specs.Inner.Parts.{blocks_in, edges_in};
 ghost use Rattle.reached_graph.specs.Inner.Ways.{TellsReached};
 
 use crate::leaders::{Leaders, know_laws, lasts_in, marks_with_joins};
-use crate::outline::{Part, outline_of, part_of};
+use crate::outline::{Part, outline_from, part_of};
 use cfg_model::{Block, Chains, Edge, Memory, Outline};
 use parallel::{joined, joined_if_made, map_drawn};
 use reached_terms::{Numbered, ReachedTerms, marked_addresses};
@@ -32,8 +32,8 @@ use std::thread::Threads;
 /// one that is slowest or begins last; of four each, fast workers draw more.
 const PARTS_PER_WORKER: usize = 4;
 
-/// The blocks and edges of the program `code`, from what it reaches, made by `workers` workers. With
-/// one worker no thread is started. [`Memory`] if memory ran out.
+/// The answer of [`outline_from`], made by `workers` workers. With one worker no thread is started.
+/// [`Memory`] if memory ran out.
 ///
 /// The leaders are cut into four parts for each worker. The workers draw one part after another:
 /// first to find where the block of each leader ends, and then to make the blocks and edges. What
@@ -54,16 +54,15 @@ pub fn outline_by<R: Threads + Sync, C: Numbered>(
         → AreReachedTerms (C.map code.now) (C.number code.now) seeds reached.now
         → IsOutline (C.map code.now) seeds outline.blocks outline.edges) }
 {
+    if workers == 1 {
+        return outline_from(alloc, code, reached);
+    }
+    let leaders = leaders_by(rt, alloc, code, reached, workers as usize)?;
     let returns = |a: u64| -> bool
         requires { (from : List ℕ) × AreReachedTerms (C.map code.now) (C.number code.now) from
             reached.now × Reached (C.map code.now) from a }
         ensures { IsTrue result ↔ Returns (C.map code.entry.now) a }
     { reached.returns(code, a) };
-    if workers == 1 {
-        let leaders = Leaders::of(alloc, code, reached)?;
-        return outline_of(alloc, code, &leaders, &returns);
-    }
-    let leaders = leaders_by(rt, alloc, code, reached, workers as usize)?;
     outline_shared(rt, alloc, code, &leaders, &returns, workers as usize)
 }
 

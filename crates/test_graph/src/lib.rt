@@ -16,12 +16,15 @@
 //! - `work_left`: the work that is left in a state, found by one worker and by several.
 //! - `gaps`: the ranges that bounds leave between them.
 //! - `closed_states`: the closed states of the worked programs.
+//! - `closed_marks`: the marks of these, against those that are made without a state.
 #![tactic(auto)]
 
 #[cfg(test)]
 mod address_maps;
 #[cfg(test)]
 mod asserts;
+#[cfg(test)]
+mod closed_marks;
 #[cfg(test)]
 mod closed_states;
 #[cfg(test)]

@@ -1,11 +1,12 @@
 //! A program given as a list of instructions.
 
-ghost use Rattle.std.specs.Prelude.{◌≡◌, IsTrue};
+ghost use Rattle.std.specs.Prelude.{◌≡◌, ◌<◌, ◌^◌, IsTrue, length};
 ghost use Rattle.cfg_model.specs.Program.Instructions.{IsLawful};
 ghost use Rattle.cfg_model.specs.Program.Reach.{AreSeeds};
 ghost use Rattle.test_programs.specs.Listed.{slot_at, listed_at, are_lawful, are_seeds};
 
 use cfg_model::{Chains, Flow, Memory};
+use reached_terms::Numbered;
 use std::alloc::Global;
 
 /// What stands at an address: the length of an instruction, in bytes, and its flow. `None` if no
@@ -13,7 +14,7 @@ use std::alloc::Global;
 pub type Slot = Option<(u8, Flow)>;
 
 /// A program with its seeds. Both lists of it were tested: the instructions are a lawful program,
-/// and the seeds rise and are addresses of instructions.
+/// and the seeds rise and are addresses of instructions. Each address is its own number.
 #[derive(Drop)]
 pub struct Sample<'a> {
     /// Where lists of targets are made.
@@ -25,6 +26,7 @@ pub struct Sample<'a> {
     /// The addresses where the program may start, rising.
     pub seeds: &'a [u64],
     pub ghost lawful: { IsTrue (are_lawful slots.now targets.now) },
+    pub ghost few: { length slots.now < 2 ^ 32 },
     pub ghost seeded: { IsTrue (are_seeds slots.now targets.now seeds.now) },
 }
 
@@ -79,5 +81,23 @@ impl Chains for Sample<'_> {
             Some((_, Flow::Table { .. })) => Ok(Vec::from_slice(self.alloc, self.targets)?),
             _ => Ok(Vec::new(self.alloc)),
         }
+    }
+}
+
+impl Numbered for Sample<'_> {
+    ghost number = { λ _ a. a };
+
+    fn numbers(&self) -> u32 {
+        let _lawful = self.has(0);
+        self.slots.len() as u32
+    }
+
+    fn number(&self, a: u64) -> u32 {
+        a as u32
+    }
+
+    fn address(&self, n: u32) -> Option<u64> {
+        let a = u64::from(n);
+        if self.has(a) { Some(a) } else { None }
     }
 }

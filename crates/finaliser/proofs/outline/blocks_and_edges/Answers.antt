@@ -1,9 +1,8 @@
-use Rattle.finaliser.proofs.Whole.{outline_shown}
+use Rattle.std.proofs.lemmas.Result.{IfOk-weaker}
 use Rattle.finaliser.proofs.outline.blocks_and_edges.Goals as goal
 
+pub outline_from-requires-after_bounds : goal.outline_from-requires-after_bounds
+outline_from-requires-after_bounds g c κs within = (c.requires.closed.0, c.in_ok-reached.ensures c.requires.closed.0 c.requires.closed.1)
+
 pub returns : goal.returns
-returns g c = record {
-  outline = λ seeds closed.
-      outline_shown (g.C.Chains.map c.args.code.now) seeds c.args.state.now.maps closed c.in_ok-part.part.blocks.items c.outline_from.result.blocks c.in_ok-part.part.edges.items c.outline_from.result.edges
-      (rw c.all.ensures at c.in_ok-part.ensures) c.outline_from.ensures.blocks c.outline_from.ensures.edges;
-}
+returns g c = record { outline = IfOk-weaker c.outline_from.result _ _ (λ outline is seeds closed. is seeds (c.in_ok-reached.ensures seeds closed)) c.outline_from.ensures }

@@ -2,11 +2,12 @@ use Rattle.std.proofs.Common.{IsTrue}
 use Rattle.std.specs.Prelude.{◌↔◌}
 use Rattle.std.specs.FinMap as maps
 use Rattle.cfg_model.specs.Builder.State.{IsReturned}
-use Rattle.finaliser.proofs.Closed.{reads_return, start_returns, start_stands}
+use Rattle.state_marks.proofs.Told.{reads_return}
+use Rattle.finaliser.proofs.Returning.{start_returns, start_stands}
 use Rattle.finaliser.proofs.status.may_return.Goals as goal
 
 pub term-requires : goal.term-requires
-term-requires g c = start_stands (g.C.Chains.map c.args.code.now) c.args.state.now.maps c.args.a c.requires.closed c.requires.start
+term-requires g c = start_stands (g.C.Chains.map c.args.code.now) c.args.state.now.maps c.requires.closed c.args.a c.requires.start
 
 pub returns-clause-status : goal.returns-clause-status
 returns-clause-status g c =

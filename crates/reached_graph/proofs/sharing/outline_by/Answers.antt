@@ -4,8 +4,8 @@ use Rattle.cfg_model.specs.Program.Reach.{Reached}
 use Rattle.reached_terms.specs.Reached.{AreReachedTerms}
 use Rattle.reached_graph.proofs.sharing.outline_by.Goals as goal
 
-pub outline_of-requires-after_bounds : goal.outline_of-requires-after_bounds
-outline_of-requires-after_bounds g c κs within =
+pub outline_shared-requires-clause-leaders : goal.outline_shared-requires-clause-leaders
+outline_shared-requires-clause-leaders g c κs within =
     let map = g.C.Chains.map c.args.code.now in
     let number = g.C.Numbered.number c.args.code.now in
     let seeds = c.requires.reached.0 in
@@ -18,22 +18,5 @@ outline_of-requires-after_bounds g c κs within =
       },
     )
 
-pub returns-then-workers-eq1 : goal.returns-then-workers-eq1
-returns-then-workers-eq1 g c = IfOk-weaker c.outline_of.result _ _ (λ outline is seeds are. is seeds (c.in_ok-leaders.ensures seeds are)) c.outline_of.ensures
-
-pub outline_shared-requires-clause-leaders : goal.outline_shared-requires-clause-leaders
-outline_shared-requires-clause-leaders g c κs within =
-    let map = g.C.Chains.map c.args.code.now in
-    let number = g.C.Numbered.number c.args.code.now in
-    let seeds = c.requires.reached.0 in
-    let are = c.requires.reached.1 in (
-      seeds,
-      c.in_ok-leaders-2.ensures seeds are,
-      record {
-        asks = λ a reached. let from : (xs : List ℕ) × AreReachedTerms map number xs c.args.reached.now × Reached map xs a = (seeds, are, reached) in search (of_calls, rules);
-        tells = λ a answer reached told. search (of_calls, rules);
-      },
-    )
-
 pub returns : goal.returns
-returns g c = IfOk-weaker c.outline_shared.result _ _ (λ outline is seeds are. is seeds (c.in_ok-leaders-2.ensures seeds are)) c.outline_shared.ensures
+returns g c = IfOk-weaker c.outline_shared.result _ _ (λ outline is seeds are. is seeds (c.in_ok-leaders.ensures seeds are)) c.outline_shared.ensures
