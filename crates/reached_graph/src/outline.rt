@@ -81,6 +81,7 @@ impl Part {
 }
 
 /// The blocks from these starts to these last addresses, and the edges that leave them.
+#[inline(never)]
 pub(crate) fn part_of<C: Chains, F: Fn(u64) -> bool>(
     alloc: Global,
     code: &C,

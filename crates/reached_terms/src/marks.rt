@@ -76,6 +76,7 @@ impl Marks {
 
     /// Control is sent to `a`: notes that, marks the terminator of `a` as reached, and answers its
     /// number.
+    #[inline(always)]
     pub(crate) fn arrive<C: Numbered>(&mut self, code: &C, a: u64) -> Result<u32, Memory>
         requires kept { AreKept (C.map code.now) (C.number code.now) self.old }
         requires has { IsSome (C.map code.now a) }
@@ -135,6 +136,7 @@ impl Marks {
     }
 
     /// Notes that the terminator `from` returns if `to` does.
+    #[inline(always)]
     pub(crate) fn follow(&mut self, from: u32, to: u32) -> Result<(), Memory>
         requires { (map : InstructionMap) × (number : ℕ → ℕ) × AreKept map number self.old
             × IsNumberOf map number from × IsNumberOf map number to }
@@ -194,6 +196,7 @@ impl Marks {
     }
 
     /// Links a way to the terminator that it leads to.
+    #[inline(always)]
     fn link(&mut self, from: u32, to: u32, fall: Option<u64>) -> Result<(), Memory>
         requires { to < length self.old.waiting.items }
         ensures { OnOk result (IsLinked from to fall self.old self.new) }

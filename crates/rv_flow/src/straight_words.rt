@@ -58,6 +58,7 @@ const OP_VE: u8 = 0x77;
 /// Whether control goes straight on after a word, by the extensions that are named: not if it is no
 /// instruction. They are asked only of a word that RV64GC does not have.
 #[tactic(auto, using(crate::proofs::Extended::lui_goes_on, crate::proofs::Extended::auipc_goes_on, crate::proofs::Extended::jal_never, crate::proofs::Extended::jalr_never, crate::proofs::Extended::branch_never, crate::proofs::Extended::load_goes_on, crate::proofs::Extended::store_goes_on, crate::proofs::Extended::store_never, crate::proofs::Extended::addiw_goes_on, crate::proofs::Extended::custom_never, crate::proofs::Extended::vector_goes, crate::proofs::Extended::vector_crypto_goes, crate::proofs::Extended::either, crate::proofs::Told::float_load_word, crate::proofs::Told::float_load_double, crate::proofs::Told::no_float_load, crate::proofs::Told::float_store_word, crate::proofs::Told::float_store_double, crate::proofs::Told::no_float_store))]
+#[inline(always)]
 pub(crate) fn word_goes_on(extensions: &Extensions, word: u32) -> bool
     ensures { result ≡ goes_on_behind (word_insn extensions.now word) }
 {
