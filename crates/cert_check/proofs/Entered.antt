@@ -1,6 +1,6 @@
 -- No leader is missing exactly if each edge from a block leads to one.
 use Rattle.std.proofs.Common.{◌≡◌, ℕ, List, length, get_or, sym, ap, ◌∙◌, subst, inl, inr}
-use Rattle.std.specs.Prelude.{All, Contains, Option, Some, None, IsSome}
+use Rattle.std.specs.Prelude.{All, Option, Some, None, IsSome}
 use Rattle.std.proofs.lemmas.List.Elements.{All-contains, Contains-get_or}
 use Rattle.cfg_model.specs.declared.graph.Edge.{Edge}
 use Rattle.cfg_model.specs.declared.graph.EdgeKind.{EdgeKind}
@@ -13,7 +13,7 @@ use Rattle.cert_text.specs.declared.certificate.Part.{Part}
 use Rattle.cert_laws.specs.Lines.{IsLead, IsReturn}
 use Rattle.cert_laws.specs.Valid.{LeadsAreClosed}
 use Rattle.cert_places.specs.Places.{AreLeads, IsPlace}
-use Rattle.cert_places.proofs.Placed.{lead_at, lead_known, no_lead, place_at, place_of_lead}
+use Rattle.cert_places.proofs.Placed.{lead_at, lead_known, place_at, place_of_lead}
 use Rattle.cert_check.specs.declared.blocks.Blocks.{Blocks}
 use Rattle.cert_check.specs.Inner.Blocks.{AreBlocks, AreOwned, owner_by}
 use Rattle.cert_check.specs.Inner.Ways.{AreWays, IsWay}

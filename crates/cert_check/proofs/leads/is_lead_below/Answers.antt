@@ -1,4 +1,4 @@
-use Rattle.std.proofs.Common.{◌<◌, List, length, get_or, ltb, sym, ap, subst, arith}
+use Rattle.std.proofs.Common.{List, length, get_or, ltb, sym, ap, subst, arith}
 use Rattle.std.specs.Prelude.{◌↔◌, IsTrue}
 use Rattle.cert_text.specs.declared.lines.LeadLine.{LeadLine}
 use Rattle.cert_laws.specs.Lines.{IsLeadBelow}
