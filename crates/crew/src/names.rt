@@ -85,9 +85,9 @@ impl<S: WorkerIds> Names<S> {
         true
     }
 
-    /// Keeps a name. If there are many already, the oldest goes into the hand's deque. If that gives
-    /// it back, or memory is missing, the new name is dropped; its work is found after all workers
-    /// have ended.
+    /// Keeps a name. If there are many already, the oldest goes into the hand's deque. If that
+    /// gives it back, or memory is missing, the new name is dropped; its work is found after all
+    /// workers have ended.
     pub(crate) fn keep(&mut self, tally: &mut Tally, name: Name) {
         if self.names.len() >= KEPT && !self.pass_on(tally) {
             return;

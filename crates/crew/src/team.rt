@@ -20,9 +20,9 @@ use steal_pool::Hand;
 pub(crate) type Back<J> = (Seat<J>, Vec<Hand>);
 
 /// Lets a worker work for each of these hands, in a thread of its own, the first with this number.
-/// The caller's thread starts all others, and lets the last one work itself: a thread that has just
-/// been started begins late at times. The seat is split for them, and joined as it was split. [`Memory`] if memory ran out: then the
-/// seat and the hands are gone.
+/// The caller's thread starts all others and is the last worker itself, since what a thread starts
+/// that was just started begins late at times. The seat is split for them, and joined as it was
+/// split. [`Memory`] if memory ran out: then the seat and the hands are gone.
 pub(crate) fn employ_all<J: Job + Send + Sync, R: Threads + Wait + Sync, C: Chains, G: Gate>(
     alloc: Global,
     shared: &Shared<J, R, C, G>,

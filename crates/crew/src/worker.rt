@@ -5,7 +5,6 @@ ghost use Rattle.cfg_model.specs.Builder.Fact.{Fact};
 ghost use Rattle.core_state.specs.Place.{Remembers, IsBusyAt};
 ghost use Rattle.crew.specs.inner.Worker.{IsSeatAt, IsHandAt, KnowsSoundly, all_lost};
 
-use crate::cache::Cache;
 use crate::desk::Desk;
 use crate::known::Known;
 use crate::names::Names;
