@@ -152,7 +152,7 @@ fn lasts_by_part<R: Threads + Sync, C: Numbered>(
     Ok(map_drawn(rt, alloc, workers, starts.len().div_ceil(size), &find)?)
 }
 
-/// The answer of [`outline_of`], made by several workers.
+/// The answer of [`outline_of`](crate::outline::outline_of), made by several workers.
 fn outline_shared<R: Threads + Sync, C: Chains, F: Fn(u64) -> bool + Sync>(
     rt: &R,
     alloc: Global,
