@@ -197,6 +197,11 @@ class Memory(File):
 
     def instruction(self, address: int) -> Optional[int]:
         """The instruction word at an address, of two bytes or of four."""
+        start, end, found = self._last_code
+        if found is not None and start <= address <= end - 4 and not address & 1:
+            data, at = self.data, found.offset + address - start
+            half = data[at] | data[at + 1] << 8
+            return half if half & 3 != 3 else half | data[at + 2] << 16 | data[at + 3] << 24
         found = self.code_at(address)
         if found is None:
             return None
