@@ -616,7 +616,7 @@ class Growing:
                 del held[int(line[6:22], 16)]
             held.update((block.start, block) for block in found)
             self._blocks = dict(sorted(held.items()))
-        self.changes = Changes(found, [_edge(line) for line in more_edges], [_edge(line) for line in gone_edges])
+        self.changes = Changes(found, _edges(more_edges), _edges(gone_edges))
         self._take_edges(self.changes)
 
     def _take_edges(self, changes: Changes) -> None:
@@ -631,8 +631,9 @@ class Growing:
         held.update(more)
 
 
-def _edge(line: bytes) -> Edge:
-    return Edge(int(line[5:21], 16), int(line[22:38], 16), _KIND[line[39:]])
+def _edges(lines: List[bytes]) -> List[Edge]:
+    make = Edge._make
+    return [make((int(line[5:21], 16), int(line[22:38], 16), _KIND[line[39:]])) for line in lines]
 
 
 def differences(before: bytes, after: bytes, width: int) -> Tuple[List[bytes], List[bytes]]:
@@ -647,7 +648,7 @@ def differences(before: bytes, after: bytes, width: int) -> Tuple[List[bytes], L
         at, to = at + same, to + same
         if at == len(before) or to == len(after):
             break
-        place = after.find(before[at:at + width], to)
+        place = _place_of(before[at:at + width], after, to)
         if place > to:
             more += after[to + 1:place].split(b"\n")
             to = place
@@ -656,6 +657,7 @@ def differences(before: bytes, after: bytes, width: int) -> Tuple[List[bytes], L
         gone.append(before[at + 1:] if end < 0 else before[at + 1:end])
         at = len(before) if end < 0 else end
         if place == to:
+            # Both have a line of this place, and it differs.
             end = after.find(b"\n", to + 1)
             more.append(after[to + 1:] if end < 0 else after[to + 1:end])
             to = len(after) if end < 0 else end
@@ -663,6 +665,21 @@ def differences(before: bytes, after: bytes, width: int) -> Tuple[List[bytes], L
     gone += before[at + 1:].split(b"\n") if at < len(before) else []
     both = set(gone).intersection(more) if gone else ()
     return ([line for line in more if line not in both], [line for line in gone if line not in both]) if both else (more, gone)
+
+
+def _place_of(line: bytes, text: bytes, at: int) -> int:
+    """Where the line of a text stands, from one at `at` on, that begins with a line's first bytes; or else a line before it, if there
+    are any further ones; or -1."""
+    near = text[at:at + (1 << 14)]
+    place = near.find(line)
+    if place >= 0:
+        return at + place
+    if near[:len(line)] > line:
+        return -1
+    last = max(near.rfind(b"\n", 0, -len(line)), 0)
+    if near[last:last + len(line)] > line:
+        last = max(near.find(b"\n", 1), 0)
+    return at + last if last else len(text)
 
 
 def _common(before: bytes, at: int, after: bytes, to: int) -> int:

@@ -89,7 +89,9 @@ class MadeAddresses:
     def read(self, reached: Reached) -> None:
         """Reads the blocks that no report before has."""
         for block in reached.new if self._has_begun else reached.report.blocks.values():
-            self.read_listed(reached.instructions(block))
+            # (without such an instruction nothing is known of any register)
+            if reached.makes(block):
+                self.read_listed(reached.instructions(block))
         self._has_begun = True
 
     def read_listed(self, listed: Iterable[Tuple[int, Insn]]) -> None:
