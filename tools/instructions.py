@@ -265,7 +265,10 @@ def _short(one: Instruction) -> Optional[str]:
 
 def _bits(half: int, *places: Tuple[int, int, int]) -> int:
     """The number that parts of another make up: each its lowest bit, how many bits, and where they go."""
-    return sum((half >> low & (1 << count) - 1) << to for low, count, to in places)
+    found = 0
+    for low, count, to in places:
+        found |= (half >> low & (1 << count) - 1) << to
+    return found
 
 
 def _i(opcode: int, funct3: int, rd: int, rs1: int, immediate: int) -> int:

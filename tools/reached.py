@@ -23,14 +23,18 @@ NO_INSN = Insn(UNKNOWN, 2)
 # In the place of a word that its section has but half of: no instruction.
 NOT_WHOLE = 0xFFFFFFFF
 # The instructions from which control does not simply go on.
-TURNS = frozenset(("jal", "jalr", "beq", "bne", "blt", "bge", "bltu", "bgeu", *ENDS))
+BRANCHES = frozenset(("beq", "bne", "blt", "bge", "bltu", "bgeu"))
+TURNS = frozenset(("jal", "jalr", *BRANCHES, *ENDS))
 
 
 class Halves:
     """The bytes of a code section, two by two, and what each two tell if an instruction begins with them."""
 
     def __init__(self, elf: Memory, section: Header) -> None:
-        self.numbers = array.array("H", elf.data[section.offset:section.offset + section.size & ~1])
+        # (instructions stand at even addresses)
+        skipped = section.address & 1
+        size = max(section.size - skipped, 0) & ~1
+        self.numbers = array.array("H", elf.data[section.offset + skipped:section.offset + skipped + size])
         if sys.byteorder == "big":
             self.numbers.byteswap()
         self.told = bytes(map(_TOLD.__getitem__, self.numbers))
@@ -103,7 +107,7 @@ class Reached:
                 place = (at - base) >> 1
                 word = numbers[place]
                 if word & 3 == 3:
-                    word |= numbers[place + 1] << 16
+                    word = word | numbers[place + 1] << 16 if place + 1 < len(numbers) else NOT_WHOLE
                 insn = known[at] = decode(word, names)
             found.append((at, insn))
             at += insn.length
@@ -187,7 +191,9 @@ class Reached:
             if last is None:
                 continue
             at, insn = last
-            if insn.name != UNKNOWN:
+            if insn.name in BRANCHES:
+                left += (at + insn.imm, is_apart), (at + insn.length, is_apart)
+            elif insn.name != UNKNOWN:
                 left += self._onward(at, insn, is_apart)
             elif not is_apart:
                 return None
@@ -230,9 +236,9 @@ class Reached:
         return insn.length == 4 and self.state(at + 2) == START
 
     def _onward(self, at: int, insn: Insn, is_apart: bool) -> Iterator[Tuple[int, bool]]:
-        """Where control goes from an instruction, and whether it comes there only by a call or behind one."""
+        """Where control goes from an instruction that is no branch, and whether it comes there only by a call or behind one."""
         is_call = self.is_call(at, insn)
-        if insn.name.startswith("b") or insn.name == "jal":
+        if insn.name == "jal":
             yield at + insn.imm, is_apart or is_call
         if self.goes_on(at, insn):
             yield at + insn.length, is_apart or is_call
