@@ -320,6 +320,8 @@ class Elf(File):
 
     def place(self, address: int) -> str:
         """An address as a function symbol and an offset, or as digits where no symbol is before it."""
+        if address in self.stub_names and address not in self._names:
+            return f"the stub of {names.shown(self.stub_names[address])}"
         place = bisect.bisect_right(self._places, address) - 1
         if place < 0:
             return f"{address:x}"
@@ -354,15 +356,33 @@ class Elf(File):
         """The names of the function at an address but the one that a report has."""
         return self.all_names.get(address, [])[1:]
 
+    @functools.cached_property
+    def stub_names(self) -> Dict[int, str]:
+        """The names of indirect functions, as a report writes names, by the addresses of the stubs through which they are called."""
+        if not self.resolvers:
+            return {}
+        # (that module reads files by this one)
+        from stubs import stubs
+        return {one.address: _shown(one.name) for one in stubs(Memory(self.path)) if one.name is not None}
+
     def addresses_of(self, wanted: str) -> Set[int]:
-        """The addresses of the functions that have a name, as a report writes it, as text, or demangled."""
+        """The addresses of the functions that have a name, as a report writes it, as text, or demangled. An indirect function stands
+        for its stubs, if there is no other function of its name."""
         if self._by_name is None:
             self._by_name = {}
             for address, every in self.all_names.items():
                 for name in every:
-                    for spelled in {name, names.shown(name), read_name(name.encode()).decode("utf-8", "replace")}:  # type: ignore[union-attr]
-                        self._by_name.setdefault(spelled, set()).add(address)
+                    self._note(name, address, self._by_name)
+            indirect: Dict[str, Set[int]] = {}
+            for address, name in self.stub_names.items():
+                self._note(name, address, indirect)
+            self._by_name = {**indirect, **self._by_name}
         return self._by_name.get(wanted, set())
+
+    def _note(self, name: str, address: int, found: Dict[str, Set[int]]) -> None:
+        """Notes an address by all spellings of a name."""
+        for spelled in {name, names.shown(name), read_name(name.encode()).decode("utf-8", "replace")}:  # type: ignore[union-attr]
+            found.setdefault(spelled, set()).add(address)
 
     def owner(self, address: int) -> Optional[Symbol]:
         """The function symbol in whose range an address lies."""

@@ -71,6 +71,20 @@ class Files(WithFile):
         self.assertEqual({jump: targets for jump, (_, targets) in self.declared().items()}, {STUB_AT + 8: (TARGET,)})
         self.assertEqual(self.added(self.elf_file(parts(False)), "--stubs")[RESOLVER], f"entry_resolver_{STUB_AT:x}_{RESOLVER:x}")
 
+    def test_the_name_of_an_indirect_function_stands_for_its_stub(self) -> None:
+        path, stand_in = self.elf_file(parts()), str(rows.TOOLS / "tests" / "stand_in.py")
+        self.assertEqual((Elf(path).addresses_of("chosen"), Elf(path).place(STUB_AT)), ({STUB_AT}, "the stub of chosen"))
+
+        def answer(*words: str) -> List[str]:
+            return self.run_script("query", *words, cfg=stand_in).stdout.splitlines()
+
+        self.assertEqual(answer("callers", path, "chosen"), [f"main at {CODE_AT:x}, call from the block at {CODE_AT:x}"])
+        self.assertEqual(answer("callees", path, "main"), [f"{STUB_AT:x}, the stub of chosen, at {STUB_AT:x}, call from the block at {CODE_AT:x}"])
+        self.assertEqual(answer("where", path, "chosen"), [f"{STUB_AT:x} is in {STUB_AT:x}, the stub of chosen, at {STUB_AT:x}, "
+                                                           f"in the block from {STUB_AT:x} to {STUB_AT + 12:x}, which ends with unknown"])
+        self.assertIn('"stub_of":"chosen"', "".join(answer("callees", path, "main", "--json")))
+        self.assertEqual(Elf(self.elf_file(parts(False))).stub_names, {})
+
     def test_reason(self) -> None:
         done = self.run_script("unresolved", "--last", "0", self.elf_file(parts()), cfg=str(rows.TOOLS / "tests" / "stand_in.py"))
         self.assertEqual(done.stdout.splitlines()[0], (
