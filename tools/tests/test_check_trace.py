@@ -80,35 +80,47 @@ class CheckTrace(InFolder):
         self.assertEqual(self.run_main("check_trace", "--report", report, "--log", path, elf)[1][1:],
                          ["             2  along an edge: fall", "             1  out of a block: return", "0 outliers"])
 
-    # main calls f, which calls g and returns; by the report g does not return, since it ends with what is not decoded.
-    RULED_OUT = (small.code("008000EF 00008067", "008000EF 00008067", "0AB56533 00008067"),
-                 "10000 no-return main: 10000, 10008 no-return f: 10008, 10010 no-return g: 10010",
-                 "10000 10004 call, 10008 1000c call, 10010 10012 stop", "10000 10008 call, 10008 10010 call")
+    def program(self, *words: str, report: str) -> None:
+        """A program with the functions main, f and g at its first words, and a report."""
+        self.elf = self.file("elf", small.elf([small.Part(".text", small.CODE, 0x10000, small.code(*words))], [("main", 0x10000, 8), ("f", 0x10008, 8), ("g", 0x10010, 8)]))
+        self.report = report
+
+    # main calls f, which calls g and returns; by the report neither returns, since g ends with the word that is not given here.
+    FUNCTIONS = "10000 no-return main: 10000, 10008 no-return f: 10008, 10010 no-return g: 10010"
+    BLOCKS, EDGES = "10000 10004 call, 10008 1000c call, 10010 {} stop", "10000 10008 call, 10008 10010 call"
+    RUN = (0x10000, 0x10008, 0x10010, 0x10014, 0x1000C, 0x10004, 0x30000)
 
     def test_returns_that_the_report_rules_out(self) -> None:
-        code, functions, blocks, edges = self.RULED_OUT
-        self.elf = self.file("elf", small.elf([small.Part(".text", small.CODE, 0x10000, code)], [("main", 0x10000, 8), ("f", 0x10008, 8), ("g", 0x10010, 8)]))
-        self.report = self.file("report", small.report(functions, blocks, edges))
-        status, said = self.checked(0x10000, 0x10008, 0x10010, 0x10014, 0x1000C, 0x10004, 0x30000)
+        # g ends with EBREAK, behind which control goes on in this log.
+        report = self.file("report", small.report(self.FUNCTIONS, self.BLOCKS.format("10014"), self.EDGES))
+        self.program("008000EF 00008067", "008000EF 00008067", "00100073 00008067", report=report)
+        status, said = self.checked(*self.RUN)
         self.assertEqual(status, 1)
         self.assertIn("             2  of these by a return that the report rules out: OUTLIER", said)
         self.assertEqual(said[-7:], [
             "OUTLIER: a return from 10014 (g+0x4) to 1000c (f+0x4), 1 times, first at step 5",
-            "    the call of g in the block at 10008 has no edge `after`",
-            "    g at 10010 is said not to return: MAY RETURN AFTER ALL, the instruction at 10010 is not decoded (0ab56533 max, of the extension Zbb); "
-            "stops at 10010, where the instruction at 10010 is not decoded (0ab56533 max, of the extension Zbb)",
+            "    the call of g in the block at 10008 has no edge `after`", "    g at 10010 is said not to return: stops at 10010",
             "OUTLIER: a return from 1000c (f+0x4) to 10004 (main+0x4), 1 times, first at step 6",
-            "    the call of f in the block at 10000 has no edge `after`",
-            "    f at 10008 is said not to return: MAY RETURN AFTER ALL, through g: the instruction at 10010 is not decoded (0ab56533 max, of the extension "
-            "Zbb); calls g, which does not return, at 10008",
+            "    the call of f in the block at 10000 has no edge `after`", "    f at 10008 is said not to return: calls g, which does not return, at 10008",
             "2 outliers"])
 
+    def test_returns_of_functions_that_may_return_after_all(self) -> None:
+        # g ends with an instruction that is not decoded: that the script knows, and says.
+        report = self.file("report", small.report(self.FUNCTIONS, self.BLOCKS.format("10012"), self.EDGES))
+        self.program("008000EF 00008067", "008000EF 00008067", "0AB56533 00008067", report=report)
+        status, said = self.checked(*self.RUN)
+        why = "the instruction at 10010 is not decoded (0ab56533 max, of the extension Zbb)"
+        self.assertEqual((status, said[-1]), (0, "0 outliers"))
+        self.assertEqual([line for line in said if "of these" in line], [
+            f"             1  of these by a return of g, which may return after all: {why}",
+            f"             1  of these by a return of f, which may return after all: through g: {why}"])
+
     def test_a_call_through_a_register_of_what_does_not_return(self) -> None:
-        # jalr a5; ret; and at 10008 the same g.
-        code = small.code("000780E7 00008067", "0AB56533 00008067")
+        # jalr a5; ret; and at 10008 the same g, which ends with EBREAK.
+        code = small.code("000780E7 00008067", "00100073 00008067")
         self.elf = self.file("elf", small.elf([small.Part(".text", small.CODE, 0x10000, code)], [("main", 0x10000, 8), ("g", 0x10008, 8)]))
         self.report = self.file("report", small.report("10000 may-return main: 10000 10004, 10008 no-return g: 10008",
-                                                       "10000 10004 icall, 10004 10008 return, 10008 1000a stop", "10000 10004 after"))
+                                                       "10000 10004 icall, 10004 10008 return, 10008 1000c stop", "10000 10004 after"))
         status, said = self.checked(0x10000, 0x10008, 0x1000C, 0x10004)
         self.assertEqual((status, said[-1]), (1, "1 outliers"))
         self.assertIn("g at 10008 is said not to return", said[-2])
