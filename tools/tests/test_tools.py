@@ -22,6 +22,7 @@ import rows
 import cfg_report
 import names
 import progress
+import small
 from cfg_report import ReportError
 from elf_file import Code, Elf, gaps, joined
 
@@ -279,6 +280,9 @@ class Pictures(InFolder):
         self.assertIn("10002  nop", said)
         said = "\n".join(self.said("draw", "--elf", self.elf(16), self.row(16), "10000"))
         self.assertIn("10000  .2byte 0x0000", said)
+        elf = self.file("wfi", small.elf([small.Part(".text", small.CODE, 0x10000, small.code("00150513 10500073 00008067"))], [("f", 0x10000, 12)]))
+        report = self.file("wfi_report", small.report("10000 no-return f: 10000", "10000 10006 stop"))
+        self.assertIn("10004  wfi, which is not decoded", "\n".join(self.said("draw", "--elf", elf, report, "f")))
 
 
 class Differences(InFolder):
