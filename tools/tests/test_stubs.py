@@ -67,6 +67,11 @@ class Files(WithFile):
         self.assertEqual(self.added(path, "--stubs"), {STUB_AT: f"entry_stub_chosen_{STUB_AT:x}", RESOLVER: f"entry_resolver_chosen_{RESOLVER:x}"})
         trace = self.file("trace", "".join(f"{at:x}\n" for at in (CODE_AT, STUB_AT, STUB_AT + 4, STUB_AT + 8, TARGET)).encode())
         self.assertEqual(self.added(path, "--stubs", "--trace", trace)[TARGET], f"entry_target_chosen_{TARGET:x}")
+        # So it has if a pointer gives it before.
+        pointed = [*parts(), Part(".data", flags=ALLOC | WRITE, address=0x50000, data=words(TARGET))]
+        self.assertEqual(self.added(self.elf_file(pointed, "pointed"), "--stubs", "--pointers")[TARGET], f"entry_ptr_{TARGET:x}")
+        self.assertEqual(self.added(self.elf_file(pointed, "pointed"), "--stubs", "--pointers", "--trace", trace)[TARGET], f"entry_target_chosen_{TARGET:x}")
+        self.assertEqual(self.added(path, "--stubs", "--trace", trace)[TARGET], f"entry_target_chosen_{TARGET:x}")
         # The stub's jump has the way there too, of which its table tells.
         self.assertEqual({jump: targets for jump, (_, targets) in self.declared().items()}, {STUB_AT + 8: (TARGET,)})
         self.assertEqual(self.added(self.elf_file(parts(False)), "--stubs")[RESOLVER], f"entry_resolver_{STUB_AT:x}_{RESOLVER:x}")
