@@ -453,7 +453,8 @@ def find_function(functions: List[Function], wanted: str, named: Names = None) -
         entries = " or ".join(f"{function.entry:x}" for function in found)
         raise ReportError(f"{len(found)} functions are named {wanted}: give the address, {entries}")
     if not found:
-        raise ReportError(f"no function has the name or the address {wanted}")
+        more = "" if named is not None else "; a report has one name of each, and --elf gives the others"
+        raise ReportError(f"no function has the name or the address {wanted}{more}")
     return found[0]
 
 
