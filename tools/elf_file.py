@@ -12,11 +12,12 @@ from typing import Dict, FrozenSet, Iterator, List, NamedTuple, Optional, Set, T
 import architecture
 import names
 from cfg_report import ReportError, name_field, read_name
+from stubs import INDIRECT, stubs
 
 PROGBITS, SYMTAB, STRTAB, RELA, NOBITS = 1, 2, 3, 4, 8
 INIT_ARRAY, FINI_ARRAY, PREINIT_ARRAY = 14, 15, 16
 WRITE, ALLOC, EXECINSTR, THREADS, COMPRESSED = 0x1, 0x2, 0x4, 0x400, 0x800
-FUNC, INDIRECT = 2, 10
+FUNC = 2
 RELRO_SEGMENT = 0x6474E552
 # Relocations of a file that is loaded at its own addresses: what is put at the place is the addend, or the address of a
 # function that answers it.
@@ -69,7 +70,7 @@ class File:
         try:
             self._read_headers()
             self._read()
-        except (struct.error, IndexError):
+        except (struct.error, IndexError, OverflowError):
             raise ReportError(f"{path}: a broken ELF file, whose tables do not lie in it") from None
 
     def _read_headers(self) -> None:
@@ -361,8 +362,6 @@ class Elf(File):
         """The names of indirect functions, as a report writes names, by the addresses of the stubs through which they are called."""
         if not self.resolvers:
             return {}
-        # (that module reads files by this one)
-        from stubs import stubs
         return {one.address: _shown(one.name) for one in stubs(Memory(self.path)) if one.name is not None}
 
     def addresses_of(self, wanted: str) -> Set[int]:

@@ -105,10 +105,12 @@ class Reached:
             insn = known.get(at)
             if insn is None:
                 place = (at - base) >> 1
-                word = numbers[place]
-                if word & 3 == 3:
-                    word = word | numbers[place + 1] << 16 if place + 1 < len(numbers) else NOT_WHOLE
-                insn = known[at] = decode(word, names)
+                if place + 1 < len(numbers):
+                    word = numbers[place]
+                    insn = known[at] = decode(word | numbers[place + 1] << 16 if word & 3 == 3 else word, names)
+                else:
+                    # (a block may go on in a section that stands right behind)
+                    insn = self.insn(at)
             found.append((at, insn))
             at += insn.length
         return found
@@ -119,6 +121,10 @@ class Reached:
         section = self.elf.code_at(block.start)
         if section is None:
             return False
+        if block.end > section.end:
+            listed = self.instructions(block)
+            self._mark_all(self._sure, listed)
+            return any(insn.name in ("lui", "auipc") for _, insn in listed)
         marks, told, base = self._sure[section.index], self._halves[section.index].told, section.address
         place, end, seen = (block.start - base) >> 1, (block.end - base) >> 1, 0
         while place < end:

@@ -163,28 +163,29 @@ class Switches:
                 return only
         return unknown("several", frozenset(writers), register)
 
-    def _writers(self, start: int, register: int, near: bool) -> Set[Writer]:
+    def _writers(self, start: int, register: int, near: bool) -> List[Writer]:
         """The instructions that may have set a register where a block begins, in the same function if `near`. One without an
         instruction stands for the caller of a function, or for a call that does not keep the register."""
-        found: Set[Writer] = set()
+        # (in the order in which they are found, so that each run of the script finds the same)
+        found: Dict[Writer, None] = {}
         low, high = self._extent(start) if near else (0, 2**64)
         seen, left, is_kept, written = {start}, [start], register not in CALLER_SAVED, self._written
         while left and len(seen) < MOST_BLOCKS:
             block = left.pop()
             ways = () if block in self._entries else [way for way in self._before.get(block, ()) if low <= way[0] < high]
             if not ways:
-                found.add((block, 0, block, None))
+                found[block, 0, block, None] = None
             for source, kind in ways:
                 if kind == "after" and not is_kept:
-                    found.add((source, 0, source, None))
+                    found[source, 0, source, None] = None
                 elif source not in seen:
                     seen.add(source)
                     writer = (written.get(source) or self._writers_of(source)).get(register)
                     if writer:
-                        found.add(writer)
+                        found[writer] = None
                     else:
                         left.append(source)
-        return found
+        return list(found)
 
     def _extent(self, address: int) -> Tuple[int, int]:
         """From the entry before an address up to the next one."""

@@ -7,12 +7,14 @@ import random
 import shutil
 import struct
 import subprocess
+import sys
 import unittest
 from pathlib import Path
 from typing import Dict, List, Sequence, Tuple
 
 import rows
 import cfg_report
+import hostile
 import small_elf
 from cfg_report import Block, Edge, End, Heading, Report, ReportError
 from declared_tables import Declared, Record
@@ -541,6 +543,16 @@ class Written(WithFile):
         self.assertEqual([(function.entry, function.name) for function in reports[1].functions], [(0x10000, b"main"), (0x10002, b"second"), (0x10008, None)])
         self.assertTrue(reports[0].blocks.items() <= reports[1].blocks.items())
 
+    @unittest.skipUnless(os.access(CFG, os.X_OK), "cfg is not built")
+    def test_each_run_finds_the_same(self) -> None:
+        # Python's order of texts in sets is another one in each run.
+        path, out, found = self.file("hostile", hostile.make("7 195").data), str(self.folder / "out"), set()
+        for seed in range(4):
+            words = [sys.executable, "-B", str(rows.TOOLS / "add_entries"), path, "-o", out, "--pointers", "--switches", "--gaps"]
+            subprocess.run(words, check=True, capture_output=True, env={**os.environ, "PYTHONHASHSEED": str(seed), "CFG": str(CFG)})
+            found.add(Path(out).read_bytes())
+        self.assertEqual(len(found), 1)
+
 
 class Refused(WithFile):
     def test_bad_files(self) -> None:
@@ -552,6 +564,9 @@ class Refused(WithFile):
         self.refused(self.file("short", good[:50]), why="no ELF file")
         self.refused(self.file("cut", good[:-70]), why="broken ELF file")
         self.refused(self.file("bare", bytes(bare)), why="no section headers")
+        far = bytearray(good)
+        struct.pack_into("<Q", far, 40, 2**64 - 64)
+        self.refused(self.file("far", bytes(far)), why="broken ELF file")
         self.refused(self.elf_file([code(RETURN * 4), code(RETURN * 4, 0x10004, ".more")]), why="status 2")
         self.refused(str(self.folder / "missing"), why="No such file")
         self.refused(str(self.folder), why="Is a directory")
