@@ -633,14 +633,12 @@ class Growing:
 
 
 def _edges(lines: List[bytes]) -> List[Edge]:
-    make = Edge._make
-    return [make((int(line[5:21], 16), int(line[22:38], 16), _KIND[line[39:]])) for line in lines]
+    return [Edge._make((int(line[5:21], 16), int(line[22:38], 16), _KIND[line[39:]])) for line in lines]
 
 
 def differences(before: bytes, after: bytes, width: int) -> Tuple[List[bytes], List[bytes]]:
-    """The lines that only the second of two texts has, and those that only the first one has, in their order. Each line stands
-    after a line feed, and most are in both: the places of lines rise, which their first bytes are, as many as `width` with the
-    line feed. Several lines may have one place."""
+    """The lines that only the second of two texts has, and those that only the first one has. Each line stands after a line feed,
+    and most are in both. The places of lines rise: their first `width` bytes, with the line feed. Several may have one place."""
     more: List[bytes] = []
     gone: List[bytes] = []
     at, to = 0, 0
@@ -658,7 +656,6 @@ def differences(before: bytes, after: bytes, width: int) -> Tuple[List[bytes], L
         gone.append(before[at + 1:] if end < 0 else before[at + 1:end])
         at = len(before) if end < 0 else end
         if place == to:
-            # Both have a line of this place, and it differs.
             end = after.find(b"\n", to + 1)
             more.append(after[to + 1:] if end < 0 else after[to + 1:end])
             to = len(after) if end < 0 else end
@@ -669,8 +666,7 @@ def differences(before: bytes, after: bytes, width: int) -> Tuple[List[bytes], L
 
 
 def _place_of(line: bytes, text: bytes, at: int) -> int:
-    """Where the line of a text stands, from one at `at` on, that begins with a line's first bytes; or else a line before it, if there
-    are any further ones; or -1."""
+    """Where a line that begins so stands in a text, from the line at `at` on; or where a line before its place ends; or -1."""
     near = text[at:at + (1 << 14)]
     place = near.find(line)
     if place >= 0:
