@@ -22,8 +22,8 @@ FARTHEST = 2000
 NO_INSN = Insn(UNKNOWN, 2)
 # In the place of a word that its section has but half of: no instruction.
 NOT_WHOLE = 0xFFFFFFFF
-# The instructions from which control does not simply go on.
 BRANCHES = frozenset(("beq", "bne", "blt", "bge", "bltu", "bgeu"))
+# The instructions from which control does not simply go on.
 TURNS = frozenset(("jal", "jalr", *BRANCHES, *ENDS))
 
 
