@@ -284,6 +284,14 @@ class Pictures(InFolder):
         report = self.file("wfi_report", small.report("10000 no-return f: 10000", "10000 10006 stop"))
         self.assertIn("10004  wfi, which is not decoded", "\n".join(self.said("draw", "--elf", elf, report, "f")))
 
+    def test_a_call_graph_of_many_functions_has_straight_lines(self) -> None:
+        for count, is_coarse in ((300, False), (301, True)):
+            starts = [f"{0x10000 + 4 * number:x}" for number in range(count + 1)]
+            report = self.file("many", small.report(", ".join(f"{at} may-return -: {at}" for at in starts[:-1]),
+                                                    ", ".join(f"{at} {end} return" for at, end in zip(starts, starts[1:]))))
+            status, _, complaints = self.run_main("call_graph", "-o", str(self.folder / "many.dot"), report)
+            self.assertEqual((status, "splines=line" in (self.folder / "many.dot").read_text(), "with straight lines" in complaints), (0, is_coarse, is_coarse))
+
 
 class Differences(InFolder):
     def test_same(self) -> None:
