@@ -12,7 +12,7 @@ from typing import Dict, FrozenSet, Iterator, List, NamedTuple, Optional, Set, T
 import architecture
 import names
 from cfg_report import ReportError, name_field, read_name
-from stubs import INDIRECT, stubs
+from stubs import INDIRECT, STUB_SIZE, stubs
 
 PROGBITS, SYMTAB, STRTAB, RELA, NOBITS = 1, 2, 3, 4, 8
 INIT_ARRAY, FINI_ARRAY, PREINIT_ARRAY = 14, 15, 16
@@ -321,8 +321,9 @@ class Elf(File):
 
     def place(self, address: int) -> str:
         """An address as a function symbol and an offset, or as digits where no symbol is before it."""
-        if address in self.stub_names and address not in self._names:
-            return f"the stub of {names.shown(self.stub_names[address])}"
+        for offset in range(0, STUB_SIZE, 4):
+            if address - offset in self.stub_names and address not in self._names:
+                return f"the stub of {names.shown(self.stub_names[address - offset])}" + (f"+{offset:#x}" if offset else "")
         place = bisect.bisect_right(self._places, address) - 1
         if place < 0:
             return f"{address:x}"

@@ -13,6 +13,8 @@ from decoding import decode
 INDIRECT = 10
 # The bytes of `jalr t1, t3`.
 LAST = bytes.fromhex("67030e00")
+# How many bytes its instructions take.
+STUB_SIZE = 12
 
 
 class File(Protocol):

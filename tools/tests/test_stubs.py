@@ -93,7 +93,7 @@ class Files(WithFile):
     def test_reason(self) -> None:
         done = self.run_script("unresolved", "--last", "0", self.elf_file(parts()), cfg=str(rows.TOOLS / "tests" / "stand_in.py"))
         self.assertEqual(done.stdout.splitlines()[0], (
-            f"{STUB_AT + 8:x} unknown in behind main: to an indirect function: through a word that its resolver answers when the program starts "
+            f"{STUB_AT + 8:x} unknown in the stub of chosen+0x8: to an indirect function: through a word that its resolver answers when the program starts "
             f"({DATA_AT:x} in .got, by behind main at {RESOLVER:x}); try add_entries with --stubs, for what answers where it leads; and --trace, for that place"))
 
     @unittest.skipIf(binutils.missing(binutils.READELF, binutils.OBJDUMP), "binutils are not installed")
