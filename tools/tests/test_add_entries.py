@@ -3,23 +3,28 @@
 from __future__ import annotations
 
 import os
+import random
 import shutil
 import struct
 import subprocess
+import sys
 import unittest
 from pathlib import Path
 from typing import Dict, List, Sequence, Tuple
 
 import rows
-import small_elf
 from cfgtools.elf.declared_tables import Declared, Record
 from cfgtools.elf.elf_file import Memory
 from cfgtools.elf.frames import Frame, frames, landing_pads
+from cfgtools.entries.reached import INSIDE, START, Reached
+from cfgtools.isa.decoding import UNKNOWN, Insn, decode
+from cfgtools.making import hostile
 from cfgtools.making.hostile import NOP, RETURN, Halves, add, branch, immediate, jump, short_jump, upper
 from cfgtools.reports import cfg_report
-from cfgtools.reports.cfg_report import ReportError
+from cfgtools.reports.cfg_report import Block, Edge, End, Heading, Report, ReportError
+import small_elf
 from small_elf import ALLOC, CODE_AT, DATA_AT, INIT_ARRAY, NOBITS, RELA, WRITE, Part, code, file_of, symbols, words
-from test_tools import InFolder
+from test_tools import InFolder, script
 
 CFG = rows.TOOLS.parent / "crates" / "cfg" / "out" / "cfg"
 
@@ -224,6 +229,60 @@ class LandingPads(WithFile):
                  Part(".gcc_except_table", address=0x40000, data=self.data(1, [(0, 4, 8)]))]
         path = self.elf_file(parts)
         self.assertEqual(self.added(path, "--landing-pads"), {0x10010: "entry_pad_10010", 0x10004: "entry_behind_10004"})
+
+
+class Marks(WithFile):
+    def reached(self, elf: Memory, blocks: Sequence[Block], edges: Sequence[Edge] = ()) -> Reached:
+        return Reached(elf, Report([Heading(CODE_AT), *blocks, *edges, End("graph")]))
+
+    def listed(self, elf: Memory, start: int, count: int) -> List[Tuple[int, Insn]]:
+        """Some instructions from an address on, one by one, up to the first that is not known."""
+        found: List[Tuple[int, Insn]] = []
+        at = start
+        while len(found) < count and elf.is_code(at):
+            word = elf.instruction(at)
+            found.append((at, decode(word) if word is not None else Insn(UNKNOWN, 2)))
+            if found[-1][1].name == UNKNOWN:
+                break
+            at += found[-1][1].length
+        return found
+
+    def test_blocks_are_marked_as_their_instructions_stand(self) -> None:
+        chosen = random.Random(2)
+        for address in (CODE_AT, CODE_AT + 1):
+            for _ in range(40):
+                elf = self.memory([code([chosen.getrandbits(16) for _ in range(60)], address)])
+                every = [self.listed(elf, elf.entry + 2 * chosen.randrange(59), chosen.randrange(1, 9)) for _ in range(6)]
+                blocks = {listed[0][0]: Block(listed[0][0], listed[-1][0] + listed[-1][1].length, "fall") for listed in every if listed}
+                reached = self.reached(elf, list(blocks.values()))
+                starts, inside = set(), set()
+                for block in blocks.values():
+                    found = reached.instructions(block)
+                    self.assertEqual(found, self.listed(elf, block.start, len(found)))
+                    starts.update(at for at, _ in found)
+                    inside.update(at + 2 for at, insn in found if insn.length == 4)
+                    self.assertLessEqual(any(insn.name in ("lui", "auipc") for _, insn in found), reached.makes(block))
+                states = {at: reached.state(at) for at in range(elf.entry, elf.entry + 118, 2)}
+                self.assertEqual({at for at, state in states.items() if state == START}, starts & states.keys())
+                self.assertEqual({at for at, state in states.items() if state == INSIDE}, (inside - starts) & states.keys())
+
+
+class WaysToReturns(unittest.TestCase):
+    def test_they_are_those_of_the_whole_graph(self) -> None:
+        returning = script("add_entries").Returning
+        chosen = random.Random(3)
+        for _ in range(60):
+            places = range(0, 2 * chosen.randrange(2, 30), 2)
+            blocks = [Block(at, at + 2, chosen.choice(["fall"] * 9 + ["return", "stop"])) for at in places]
+            edges = [Edge(block.start, chosen.choice(places), chosen.choice(("jump", "call", "after"))) for block in blocks
+                     for _ in range(chosen.randrange(3)) if block.kind == "fall"]
+            so = {block.start for block in blocks if block.kind == "return"}
+            for _ in places:
+                so.update(edge.source for edge in edges if edge.kind != "call" and edge.to in so)
+            ways = returning(Report([Heading(0), *blocks, *edges, End("graph")]))
+            asked = [*places, 1000]
+            chosen.shuffle(asked)
+            self.assertEqual({at for at in asked if ways.is_so(at)}, so)
 
 
 # ---- what the program keeps in its data
@@ -484,6 +543,16 @@ class Written(WithFile):
         self.assertEqual([(function.entry, function.name) for function in reports[1].functions], [(0x10000, b"main"), (0x10002, b"second"), (0x10008, None)])
         self.assertTrue(reports[0].blocks.items() <= reports[1].blocks.items())
 
+    @unittest.skipUnless(os.access(CFG, os.X_OK), "cfg is not built")
+    def test_each_run_finds_the_same(self) -> None:
+        # Python's order of texts in sets is another one in each run.
+        path, out, found = self.file("hostile", hostile.make("7 195").data), str(self.folder / "out"), set()
+        for seed in range(4):
+            words = [sys.executable, "-B", str(rows.TOOLS / "add_entries"), path, "-o", out, "--pointers", "--switches", "--gaps"]
+            subprocess.run(words, check=True, capture_output=True, env={**os.environ, "PYTHONHASHSEED": str(seed), "CFG": str(CFG)})
+            found.add(Path(out).read_bytes())
+        self.assertEqual(len(found), 1)
+
 
 class Refused(WithFile):
     def test_bad_files(self) -> None:
@@ -495,6 +564,9 @@ class Refused(WithFile):
         self.refused(self.file("short", good[:50]), why="no ELF file")
         self.refused(self.file("cut", good[:-70]), why="broken ELF file")
         self.refused(self.file("bare", bytes(bare)), why="no section headers")
+        far = bytearray(good)
+        struct.pack_into("<Q", far, 40, 2**64 - 64)
+        self.refused(self.file("far", bytes(far)), why="broken ELF file")
         self.refused(self.elf_file([code(RETURN * 4), code(RETURN * 4, 0x10004, ".more")]), why="status 2")
         self.refused(str(self.folder / "missing"), why="No such file")
         self.refused(str(self.folder), why="Is a directory")

@@ -4,6 +4,7 @@ from __future__ import annotations
 
 import io
 import itertools
+import random
 import re
 import tracemalloc
 import unittest
@@ -206,6 +207,39 @@ class Growing(unittest.TestCase):
             whole, found = load(rows.report(number)), growing.read(io.BytesIO(rows.report(number)))
             self.assertEqual((found.entry, found.blocks, found.edges), (whole.entry, whole.blocks, sorted(whole.edges)), number)
             self.assertEqual([(one.entry, one.may_return) for one in found.functions], [(one.entry, one.may_return) for one in whole.functions])
+
+    def test_changes_lead_from_one_report_to_the_next(self) -> None:
+        growing, before = cfg_report.Growing(), load(rows.report(6))
+        growing.read(io.BytesIO(rows.report(6)))
+        for number in (17, 13, 10, 33, 33, 16, 41):
+            whole, found = load(rows.report(number)), growing.read(io.BytesIO(rows.report(number)))
+            changes = growing.changes
+            assert changes is not None
+            self.assertEqual(set(before.edges).difference(changes.gone).union(changes.edges), set(whole.edges))
+            self.assertFalse(set(changes.gone) & set(whole.edges) or set(changes.edges) & set(before.edges))
+            self.assertEqual(set(changes.blocks), set(whole.blocks.values()) - set(before.blocks.values()))
+            self.assertEqual({start: edges for start, edges in found.edges_from.items() if edges},
+                             {start: sorted(edges) for start, edges in whole.edges_from.items()})
+            before = whole
+
+    def test_lines_of_two_texts(self) -> None:
+        chosen = random.Random(1)
+        for size in (3, 40, 700, 5000):
+            places = sorted(chosen.sample(range(20 * size), size))
+            texts = []
+            for _ in range(2):
+                gap = chosen.randrange(size), chosen.randrange(size)
+                kept = [place for number, place in enumerate(places) if chosen.random() < 0.99 and not min(gap) <= number < max(gap)]
+                texts.append(sorted({b"at %06x %d" % (place, chosen.random() < 0.01) for place in kept for _ in range(chosen.randrange(1, 3))}))
+            before, after = (b"".join(b"\n" + line for line in lines) for lines in texts)
+            more, gone = cfg_report.differences(before, after, len("\nat 000000"))
+            self.assertEqual((sorted(more), sorted(gone)), (sorted(set(texts[1]) - set(texts[0])), sorted(set(texts[0]) - set(texts[1]))))
+
+    def test_lines_of_a_text_and_of_none(self) -> None:
+        self.assertEqual(cfg_report.differences(b"", b"\na\nb", 2), ([b"a", b"b"], []))
+        self.assertEqual(cfg_report.differences(b"\na\nb", b"", 2), ([], [b"a", b"b"]))
+        self.assertEqual(cfg_report.differences(b"\nab", b"\nab", 2), ([], []))
+        self.assertEqual(cfg_report.differences(b"\nab\nb", b"\nabc", 2), ([b"abc"], [b"ab", b"b"]))
 
     def test_what_is_wrong_is_said(self) -> None:
         for text, why in ((rows.report(6)[:-4], "cut off"), (rows.report(6, "edges"), "kind graph is needed"), (b"", "empty")):

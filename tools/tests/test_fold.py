@@ -32,6 +32,16 @@ class Guesses(unittest.TestCase):
         self.assertEqual(len(found.blocks), 7)
         self.assertEqual([edge.kind for edge in found.edges], ["tail", "after", "call"])
 
+    def test_cases_that_pointers_gave(self) -> None:
+        # A table of f leads to an entry in f, to one in g, and to one in f that is called; none leads to that at 1000c.
+        found = folded(load(small.report(
+            "10000 may-return f: 10000, 10008 may-return entry_ptr_10008: 10008, 1000c may-return entry_ptr_1000c: 1000c, "
+            "10010 may-return entry_made_10010: 10010, 10014 may-return g: 10014, 10018 may-return entry_ptr_10018: 10018",
+            "10000 10008 table-open, 10008 1000c return, 1000c 10010 return, 10010 10014 return, 10014 10018 call, 10018 1001c return",
+            "10000 10008 table, 10000 10010 table, 10000 10018 table, 10014 10010 call, 10014 10018 after")))
+        self.assertEqual([(one.name, [f"{start:x}" for start in one.blocks]) for one in found.functions], [
+            (b"f", ["10000", "10008"]), (b"entry_ptr_1000c", ["1000c"]), (b"entry_made_10010", ["10010"]), (b"g", ["10014"]), (b"entry_ptr_10018", ["10018"])])
+
     def test_nothing_to_fold(self) -> None:
         for number in rows.ROWS:
             whole = load(rows.report(number))

@@ -35,7 +35,7 @@ class Aliases(InFolder):
             self.assertEqual(self.said("query", "where", "--elf", self.path, self.report, name), wanted)
         self.assertEqual(json.loads(self.said("query", "where", "--json", "--elf", self.path, self.report, "malloc")[0])["aliases"], ["__malloc", "malloc"])
         self.assertEqual(self.said("query", "where", self.report, "main"), ["10000 is in main at 10000, in the block from 10000 to 10004, which ends with call"])
-        self.assertIn("no function has the name", self.run_main("query", "where", self.report, "malloc")[2])
+        self.assertIn("malloc; a report has one name of each, and --elf gives the others", self.run_main("query", "where", self.report, "malloc")[2])
 
     def test_other_scripts(self) -> None:
         self.assertIn('label="__libc_malloc, also __malloc, malloc, 1 blocks', "\n".join(self.said("draw", "--elf", self.path, self.report, "malloc")))

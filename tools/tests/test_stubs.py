@@ -67,14 +67,33 @@ class Files(WithFile):
         self.assertEqual(self.added(path, "--stubs"), {STUB_AT: f"entry_stub_chosen_{STUB_AT:x}", RESOLVER: f"entry_resolver_chosen_{RESOLVER:x}"})
         trace = self.file("trace", "".join(f"{at:x}\n" for at in (CODE_AT, STUB_AT, STUB_AT + 4, STUB_AT + 8, TARGET)).encode())
         self.assertEqual(self.added(path, "--stubs", "--trace", trace)[TARGET], f"entry_target_chosen_{TARGET:x}")
+        # So it has if a pointer gives it before.
+        pointed = [*parts(), Part(".data", flags=ALLOC | WRITE, address=0x50000, data=words(TARGET))]
+        self.assertEqual(self.added(self.elf_file(pointed, "pointed"), "--stubs", "--pointers")[TARGET], f"entry_ptr_{TARGET:x}")
+        self.assertEqual(self.added(self.elf_file(pointed, "pointed"), "--stubs", "--pointers", "--trace", trace)[TARGET], f"entry_target_chosen_{TARGET:x}")
+        self.assertEqual(self.added(path, "--stubs", "--trace", trace)[TARGET], f"entry_target_chosen_{TARGET:x}")
         # The stub's jump has the way there too, of which its table tells.
         self.assertEqual({jump: targets for jump, (_, targets) in self.declared().items()}, {STUB_AT + 8: (TARGET,)})
         self.assertEqual(self.added(self.elf_file(parts(False)), "--stubs")[RESOLVER], f"entry_resolver_{STUB_AT:x}_{RESOLVER:x}")
 
+    def test_the_name_of_an_indirect_function_stands_for_its_stub(self) -> None:
+        path, stand_in = self.elf_file(parts()), str(rows.TOOLS / "tests" / "stand_in.py")
+        self.assertEqual((Elf(path).addresses_of("chosen"), Elf(path).place(STUB_AT)), ({STUB_AT}, "the stub of chosen"))
+
+        def answer(*words: str) -> List[str]:
+            return self.run_script("query", *words, cfg=stand_in).stdout.splitlines()
+
+        self.assertEqual(answer("callers", path, "chosen"), [f"main at {CODE_AT:x}, call from the block at {CODE_AT:x}"])
+        self.assertEqual(answer("callees", path, "main"), [f"{STUB_AT:x}, the stub of chosen, at {STUB_AT:x}, call from the block at {CODE_AT:x}"])
+        self.assertEqual(answer("where", path, "chosen"), [f"{STUB_AT:x} is in {STUB_AT:x}, the stub of chosen, at {STUB_AT:x}, "
+                                                           f"in the block from {STUB_AT:x} to {STUB_AT + 12:x}, which ends with unknown"])
+        self.assertIn('"stub_of":"chosen"', "".join(answer("callees", path, "main", "--json")))
+        self.assertEqual(Elf(self.elf_file(parts(False))).stub_names, {})
+
     def test_reason(self) -> None:
         done = self.run_script("unresolved", "--last", "0", self.elf_file(parts()), cfg=str(rows.TOOLS / "tests" / "stand_in.py"))
         self.assertEqual(done.stdout.splitlines()[0], (
-            f"{STUB_AT + 8:x} unknown in behind main: to an indirect function: through a word that its resolver answers when the program starts "
+            f"{STUB_AT + 8:x} unknown in the stub of chosen+0x8: to an indirect function: through a word that its resolver answers when the program starts "
             f"({DATA_AT:x} in .got, by behind main at {RESOLVER:x}); try add_entries with --stubs, for what answers where it leads; and --trace, for that place"))
 
     @unittest.skipIf(binutils.missing(binutils.READELF, binutils.OBJDUMP), "binutils are not installed")

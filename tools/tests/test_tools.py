@@ -22,6 +22,7 @@ import rows
 from cfgtools.elf.elf_file import Code, Elf, gaps, joined
 from cfgtools.reports import cfg_report, names, progress
 from cfgtools.reports.cfg_report import ReportError
+import small
 
 SCRIPTS = {
     "check_report": ["REPORT"], "summary": ["REPORT"], "to_json": ["REPORT"], "draw": ["REPORT", "10000"],
@@ -277,6 +278,17 @@ class Pictures(InFolder):
         self.assertIn("10002  nop", said)
         said = "\n".join(self.said("draw", "--elf", self.elf(16), self.row(16), "10000"))
         self.assertIn("10000  .2byte 0x0000", said)
+        elf = self.file("wfi", small.elf([small.Part(".text", small.CODE, 0x10000, small.code("00150513 10500073 00008067"))], [("f", 0x10000, 12)]))
+        report = self.file("wfi_report", small.report("10000 no-return f: 10000", "10000 10006 stop"))
+        self.assertIn("10004  wfi, which is not decoded", "\n".join(self.said("draw", "--elf", elf, report, "f")))
+
+    def test_a_call_graph_of_many_functions_has_straight_lines(self) -> None:
+        for count, is_coarse in ((300, False), (301, True)):
+            starts = [f"{0x10000 + 4 * number:x}" for number in range(count + 1)]
+            report = self.file("many", small.report(", ".join(f"{at} may-return -: {at}" for at in starts[:-1]),
+                                                    ", ".join(f"{at} {end} return" for at, end in zip(starts, starts[1:]))))
+            status, _, complaints = self.run_main("call_graph", "-o", str(self.folder / "many.dot"), report)
+            self.assertEqual((status, "splines=line" in (self.folder / "many.dot").read_text(), "with straight lines" in complaints), (0, is_coarse, is_coarse))
 
 
 class Differences(InFolder):

@@ -10,13 +10,14 @@ import zlib
 from typing import Dict, FrozenSet, Iterator, List, NamedTuple, Optional, Set, Tuple
 
 from cfgtools.elf import architecture
+from cfgtools.elf.stubs import STUB_SIZE, stubs
 from cfgtools.reports import names
 from cfgtools.reports.cfg_report import ReportError, name_field, read_name
 
 PROGBITS, SYMTAB, STRTAB, RELA, NOBITS = 1, 2, 3, 4, 8
 INIT_ARRAY, FINI_ARRAY, PREINIT_ARRAY = 14, 15, 16
 WRITE, ALLOC, EXECINSTR, THREADS, COMPRESSED = 0x1, 0x2, 0x4, 0x400, 0x800
-FUNC, INDIRECT = 2, 10
+FUNC = 2
 RELRO_SEGMENT = 0x6474E552
 # Relocations of a file that is loaded at its own addresses: what is put at the place is the addend, or the address of a
 # function that answers it.
@@ -69,7 +70,7 @@ class File:
         try:
             self._read_headers()
             self._read()
-        except (struct.error, IndexError):
+        except (struct.error, IndexError, OverflowError):
             raise ReportError(f"{path}: a broken ELF file, whose tables do not lie in it") from None
 
     def _read_headers(self) -> None:
@@ -197,6 +198,11 @@ class Memory(File):
 
     def instruction(self, address: int) -> Optional[int]:
         """The instruction word at an address, of two bytes or of four."""
+        start, end, found = self._last_code
+        if found is not None and start <= address <= end - 4 and not address & 1:
+            data, at = self.data, found.offset + address - start
+            half = data[at] | data[at + 1] << 8
+            return half if half & 3 != 3 else half | data[at + 2] << 16 | data[at + 3] << 24
         found = self.code_at(address)
         if found is None:
             return None
@@ -315,6 +321,9 @@ class Elf(File):
 
     def place(self, address: int) -> str:
         """An address as a function symbol and an offset, or as digits where no symbol is before it."""
+        for offset in range(0, STUB_SIZE, 4):
+            if address - offset in self.stub_names and address not in self._names:
+                return f"the stub of {names.shown(self.stub_names[address - offset])}" + (f"+{offset:#x}" if offset else "")
         place = bisect.bisect_right(self._places, address) - 1
         if place < 0:
             return f"{address:x}"
@@ -349,15 +358,31 @@ class Elf(File):
         """The names of the function at an address but the one that a report has."""
         return self.all_names.get(address, [])[1:]
 
+    @functools.cached_property
+    def stub_names(self) -> Dict[int, str]:
+        """The names of indirect functions, as a report writes names, by the addresses of the stubs through which they are called."""
+        if not self.resolvers:
+            return {}
+        return {one.address: _shown(one.name) for one in stubs(Memory(self.path)) if one.name is not None}
+
     def addresses_of(self, wanted: str) -> Set[int]:
-        """The addresses of the functions that have a name, as a report writes it, as text, or demangled."""
+        """The addresses of the functions that have a name, as a report writes it, as text, or demangled. An indirect function stands
+        for its stubs, if there is no other function of its name."""
         if self._by_name is None:
             self._by_name = {}
             for address, every in self.all_names.items():
                 for name in every:
-                    for spelled in {name, names.shown(name), read_name(name.encode()).decode("utf-8", "replace")}:  # type: ignore[union-attr]
-                        self._by_name.setdefault(spelled, set()).add(address)
+                    self._note(name, address, self._by_name)
+            indirect: Dict[str, Set[int]] = {}
+            for address, name in self.stub_names.items():
+                self._note(name, address, indirect)
+            self._by_name = {**indirect, **self._by_name}
         return self._by_name.get(wanted, set())
+
+    def _note(self, name: str, address: int, found: Dict[str, Set[int]]) -> None:
+        """Notes an address by all spellings of a name."""
+        for spelled in {name, names.shown(name), read_name(name.encode()).decode("utf-8", "replace")}:  # type: ignore[union-attr]
+            found.setdefault(spelled, set()).add(address)
 
     def owner(self, address: int) -> Optional[Symbol]:
         """The function symbol in whose range an address lies."""

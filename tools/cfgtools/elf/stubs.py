@@ -5,13 +5,36 @@ that the file names, the resolver, answers which address each word gets.
 
 from __future__ import annotations
 
-from typing import Iterator, NamedTuple, Optional
+from typing import Any, Dict, Iterator, NamedTuple, Optional, Protocol, Sequence
 
-from cfgtools.elf.elf_file import INDIRECT, Memory
 from cfgtools.isa.decoding import decode
 
+# The type of the symbols of indirect functions.
+INDIRECT = 10
 # The bytes of `jalr t1, t3`.
 LAST = bytes.fromhex("67030e00")
+# How many bytes its instructions take.
+STUB_SIZE = 12
+
+
+class File(Protocol):
+    """What is asked of a file: `elf_file.Memory` has it, which is not imported here, since that module asks for stubs."""
+
+    data: bytes
+
+    @property
+    def code(self) -> Sequence[Any]:
+        """The headers of its code sections."""
+
+    @property
+    def resolvers(self) -> Dict[int, int]:
+        """The functions that answer which address is put into a word, by the word's address."""
+
+    def functions(self, kind: int) -> Iterator[Any]:
+        """The symbols of functions of a type."""
+
+    def instruction(self, address: int) -> Optional[int]:
+        """The instruction word at an address."""
 
 
 class Stub(NamedTuple):
@@ -30,7 +53,7 @@ class Stub(NamedTuple):
         return f"{self.address:x}" if self.name is None else self.name.decode("latin-1")
 
 
-def stubs(elf: Memory) -> Iterator[Stub]:
+def stubs(elf: File) -> Iterator[Stub]:
     """The stubs of a file: `auipc t3; ld t3, ..(t3); jalr t1, t3`."""
     names = {one.address: one.name for one in elf.functions(INDIRECT) if one.name}
     for section in elf.code:
@@ -45,7 +68,7 @@ def stubs(elf: Memory) -> Iterator[Stub]:
             at = data.find(LAST, at + 2)
 
 
-def _slot(elf: Memory, jump: int) -> Optional[int]:
+def _slot(elf: File, jump: int) -> Optional[int]:
     """The word that the two instructions before the end of a stub load."""
     upper, load = (decode(elf.instruction(jump - back) or 0) for back in (8, 4))
     if (upper.name, upper.rd) != ("auipc", 28) or (load.name, load.rd, load.rs1) != ("ld", 28, 28):

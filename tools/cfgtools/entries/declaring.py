@@ -15,13 +15,9 @@ from cfgtools.reports.cfg_report import Report, ReportError
 Moves = Mapping[int, Collection[int]]
 
 
-def ways_of_tables(report: Report) -> Dict[int, List[int]]:
-    """Where the tables of a report lead, by the blocks that end with them."""
-    found: Dict[int, List[int]] = {}
-    for edge in report.edges:
-        if edge.kind == "table":
-            found.setdefault(edge.source, []).append(edge.to)
-    return found
+def ways_of_table(report: Report, start: int) -> List[int]:
+    """Where the table leads that a block of a report ends with."""
+    return [edge.to for edge in report.edges_from.get(start, ()) if edge.kind == "table"]
 
 
 class SwitchTables:
@@ -31,13 +27,12 @@ class SwitchTables:
         self._known = Known()
 
     def found(self, reached: Reached, declared: Collection[int]) -> Iterator[Wanted]:
-        ways = ways_of_tables(reached.report)
         for switch in Switches(reached, self._known).found():
             if jump_register(reached.elf, switch.jump) is None:
                 continue
             if switch.block.kind == "table-open" and switch.jump not in declared:
                 # A table that the pattern found, which only a test tells more of.
-                if switch.bound is None or set(ways.get(switch.block.start, ())) == set(switch.cases):
+                if switch.bound is None or set(ways_of_table(reached.report, switch.block.start)) == set(switch.cases):
                     continue
             yield Wanted(switch.jump, switch.cases, (switch.table, switch.width, switch.added))
 
@@ -54,11 +49,10 @@ class TracedTables:
                 self._from.setdefault(to, []).append(jump)
 
     def found(self, reached: Reached, tables: Mapping[int, Wanted]) -> Iterator[Wanted]:
-        ways = ways_of_tables(reached.report)
         for block in reached.report.blocks.values():
             if block.kind not in ("unknown", "table-open"):
                 continue
-            jump, known = reached.instructions(block)[-1][0], ways.get(block.start, [])
+            jump, known = reached.instructions(block)[-1][0], ways_of_table(reached.report, block.start)
             if jump in self.jumps and not set(self.jumps[jump]).issubset(known):
                 before = tables[jump].targets if jump in tables else known
                 yield Wanted(jump, tuple(dict.fromkeys((*before, *self.jumps[jump]))))

@@ -13,6 +13,8 @@ from cfgtools.isa.decoding import CALLER_SAVED, LOAD_SIZES, STORES, Insn
 ARRAYS = (PREINIT_ARRAY, INIT_ARRAY, FINI_ARRAY)
 # Sections whose words are read as something else.
 OTHER_FORMS = (b".eh_frame", b".eh_frame_hdr", b".gcc_except_table")
+# The instructions with which an address begins, those that read or write memory, and those that may make an address.
+FIRST, MEMORY = frozenset(("lui", "auipc")), frozenset((*LOAD_SIZES, *STORES))
 
 
 def array_entries(elf: Memory) -> List[int]:
@@ -87,7 +89,9 @@ class MadeAddresses:
     def read(self, reached: Reached) -> None:
         """Reads the blocks that no report before has."""
         for block in reached.new if self._has_begun else reached.report.blocks.values():
-            self.read_listed(reached.instructions(block))
+            # (without such an instruction nothing is known of any register)
+            if reached.makes(block):
+                self.read_listed(reached.instructions(block))
         self._has_begun = True
 
     def read_listed(self, listed: Iterable[Tuple[int, Insn]]) -> None:
@@ -95,15 +99,17 @@ class MadeAddresses:
         known: Dict[int, int] = {}
         behind = -1
         for at, insn in listed:
-            if at != behind:
-                known.clear()
-            behind = at + insn.length
-            name = insn.name
-            if name in LOAD_SIZES or name in STORES:
-                if insn.rs1 in known:
-                    self.data.add(known[insn.rs1])
-                    self.data.add(known[insn.rs1] + insn.imm)
-            self._follow(at, insn, known)
+            name, length, _, rs1, _, imm = insn
+            if known:
+                if at != behind:
+                    known.clear()
+                elif rs1 in known and name in MEMORY:
+                    self.data.add(known[rs1])
+                    self.data.add(known[rs1] + imm)
+                self._follow(at, insn, known)
+            elif name in FIRST:
+                self._follow(at, insn, known)
+            behind = at + length
 
     def _follow(self, at: int, insn: Insn, known: Dict[int, int]) -> None:
         """What registers hold behind an instruction, where it makes an address."""

@@ -2,22 +2,53 @@
 
 from __future__ import annotations
 
+import array
 import functools
 import re
+import sys
 from typing import Dict, Iterator, List, Optional, Set, Tuple
 
-from cfgtools.elf.elf_file import Memory
+from cfgtools.elf.elf_file import Header, Memory
 from cfgtools.isa.decoding import ENDS, UNKNOWN, Insn, decode
 from cfgtools.reports.cfg_report import EDGE_KINDS, Block, Changes, Report
 
 APART, START, INSIDE = 0, 1, 2
+# What the first two bytes of an instruction tell of it: whether it may have two more, and whether it may be LUI or AUIPC.
+LONG, MAKES = 1, 2
 MARKED = re.compile(rb"[^\0]")
 LONGEST_TRIAL = 20_000
 # How far back code is read to see whether an address begins a function, in half words.
 FARTHEST = 2000
 NO_INSN = Insn(UNKNOWN, 2)
+# In the place of a word that its section has but half of: no instruction.
+NOT_WHOLE = 0xFFFFFFFF
+BRANCHES = frozenset(("beq", "bne", "blt", "bge", "bltu", "bgeu"))
 # The instructions from which control does not simply go on.
-TURNS = frozenset(("jal", "jalr", "beq", "bne", "blt", "bge", "bltu", "bgeu", *ENDS))
+TURNS = frozenset(("jal", "jalr", *BRANCHES, *ENDS))
+
+
+class Halves:
+    """The bytes of a code section, two by two, and what each two tell if an instruction begins with them."""
+
+    def __init__(self, elf: Memory, section: Header) -> None:
+        # (instructions stand at even addresses)
+        skipped = section.address & 1
+        size = max(section.size - skipped, 0) & ~1
+        self.numbers = array.array("H", elf.data[section.offset + skipped:section.offset + skipped + size])
+        if sys.byteorder == "big":
+            self.numbers.byteswap()
+        self.told = bytes(map(_TOLD.__getitem__, self.numbers))
+
+
+def _told() -> bytes:
+    """What each number of two bytes tells."""
+    low = bytes(LONG | (MAKES if byte & 0x7F in (0x17, 0x37) else 0) if byte & 3 == 3 else 0 for byte in range(256))
+    # (C.LUI has 3 in its highest bits, and 1 in its lowest)
+    with_short = bytes(MAKES if byte & 3 == 1 else told for byte, told in enumerate(low))
+    return b"".join(with_short if high >> 5 == 3 else low for high in range(256))
+
+
+_TOLD = _told()
 
 
 class Reached:
@@ -29,13 +60,16 @@ class Reached:
         self._names = elf.extensions
         self._staying = {function.entry for function in report.functions if not function.may_return}
         self._sure: Dict[int, bytearray] = before._sure if before else {one.index: bytearray(one.size // 2 + 1) for one in elf.code}
+        self._halves: Dict[int, Halves] = before._halves if before else {one.index: Halves(elf, one) for one in elf.code}
         self._read: Dict[Tuple[int, int], List[Tuple[int, Insn]]] = before._read if before else {}
         self._insns: Dict[int, Insn] = before._insns if before else {}
+        # The blocks that are marked, and whether an instruction of each may begin to make an address.
+        self._makes: Dict[Tuple[int, int], bool] = before._makes if before else {}
         more = changes.blocks if before and changes else report.blocks.values()
         # The blocks that no earlier report has.
-        self.new: List[Block] = [block for block in more if (block.start, block.end) not in self._read]
+        self.new: List[Block] = [block for block in more if (block.start, block.end) not in self._makes]
         for block in self.new:
-            self._mark_all(self._sure, self.instructions(block))
+            self._makes[block.start, block.end] = self._mark_block(block)
         self._marks = {index: bytearray(marks) for index, marks in self._sure.items()}
         self._begun: Dict[int, Tuple[int, Optional[Tuple[int, Insn]]]] = before._begun if before else {}
         if before and changes and "ways_to" in before.__dict__:
@@ -50,6 +84,10 @@ class Reached:
                 found.setdefault(edge.to, []).append((edge.source, edge.kind))
         return found
 
+    def makes(self, block: Block) -> bool:
+        """Whether an instruction of a block may be one with which an address begins."""
+        return self._makes[block.start, block.end]
+
     def instructions(self, block: Block) -> List[Tuple[int, Insn]]:
         """The instructions of a block, each with its address."""
         found = self._read.get((block.start, block.end))
@@ -61,19 +99,46 @@ class Reached:
         section = self.elf.code_at(block.start)
         if section is None:
             return []
-        data, base, names, known = self.elf.data, section.offset - section.address, self._names, self._insns
+        numbers, base, names, known = self._halves[section.index].numbers, section.address, self._names, self._insns
         at, found = block.start, []
         while at < block.end:
             insn = known.get(at)
             if insn is None:
-                place = base + at
-                word = data[place] | data[place + 1] << 8
-                if word & 3 == 3:
-                    word |= data[place + 2] << 16 | data[place + 3] << 24
-                insn = known[at] = decode(word, names)
+                place = (at - base) >> 1
+                if place + 1 < len(numbers):
+                    word = numbers[place]
+                    insn = known[at] = decode(word | numbers[place + 1] << 16 if word & 3 == 3 else word, names)
+                else:
+                    # (a block may go on in a section that stands right behind)
+                    insn = self.insn(at)
             found.append((at, insn))
             at += insn.length
         return found
+
+    def _mark_block(self, block: Block) -> bool:
+        """Marks the instructions of a block, and answers whether one may begin to make an address. Their lengths are told by their
+        first bytes, but for one that is not known, which ends a block."""
+        section = self.elf.code_at(block.start)
+        if section is None:
+            return False
+        if block.end > section.end:
+            listed = self.instructions(block)
+            self._mark_all(self._sure, listed)
+            return any(insn.name in ("lui", "auipc") for _, insn in listed)
+        marks, told, base = self._sure[section.index], self._halves[section.index].told, section.address
+        place, end, seen = (block.start - base) >> 1, (block.end - base) >> 1, 0
+        while place < end:
+            marks[place] = START
+            what = told[place]
+            seen |= what
+            if what & LONG:
+                place += 1
+                if place == end and self.insn(base + 2 * place - 2).length == 2:
+                    break
+                if not marks[place]:
+                    marks[place] = INSIDE
+            place += 1
+        return bool(seen & MAKES)
 
     def state(self, address: int) -> int:
         """Whether a reached instruction starts at an address of code, or has it inside."""
@@ -132,7 +197,9 @@ class Reached:
             if last is None:
                 continue
             at, insn = last
-            if insn.name != UNKNOWN:
+            if insn.name in BRANCHES:
+                left += (at + insn.imm, is_apart), (at + insn.length, is_apart)
+            elif insn.name != UNKNOWN:
                 left += self._onward(at, insn, is_apart)
             elif not is_apart:
                 return None
@@ -145,6 +212,7 @@ class Reached:
         if section is None:
             return None if at in found else (at, NO_INSN)
         marks, base, end, known = self._marks[section.index], section.address, section.end - 2, self._insns
+        numbers, names = self._halves[section.index].numbers, self._names
         while at not in found:
             if at > end:
                 # (another section may stand right behind)
@@ -153,13 +221,18 @@ class Reached:
             mark = marks[place]
             if mark == START:
                 return None
-            insn = known.get(at) or self.insn(at)
-            length = insn.length
+            insn = known.get(at)
+            if insn is None:
+                word = numbers[place]
+                if word & 3 == 3:
+                    word = word | numbers[place + 1] << 16 if at < end else NOT_WHOLE
+                insn = known[at] = decode(word, names)
+            name, length, *_ = insn
             before = found.get(at - 2)
-            if mark == INSIDE or before and before.length == 4 or length == 4 and marks[place + 1] == START or insn.name == UNKNOWN:
+            if mark == INSIDE or before and before.length == 4 or length == 4 and marks[place + 1] == START or name == UNKNOWN:
                 return at, NO_INSN
             found[at] = insn
-            if insn.name in TURNS:
+            if name in TURNS:
                 return at, insn
             at += length
         return None
@@ -169,9 +242,9 @@ class Reached:
         return insn.length == 4 and self.state(at + 2) == START
 
     def _onward(self, at: int, insn: Insn, is_apart: bool) -> Iterator[Tuple[int, bool]]:
-        """Where control goes from an instruction, and whether it comes there only by a call or behind one."""
+        """Where control goes from an instruction that is no branch, and whether it comes there only by a call or behind one."""
         is_call = self.is_call(at, insn)
-        if insn.name.startswith("b") or insn.name == "jal":
+        if insn.name == "jal":
             yield at + insn.imm, is_apart or is_call
         if self.goes_on(at, insn):
             yield at + insn.length, is_apart or is_call
@@ -238,11 +311,13 @@ class Reached:
     def _met(self, at: int, address: int) -> Optional[Tuple[int, Insn]]:
         """The last instruction that does something of those from a place up to an address, if they end there."""
         last: Optional[Tuple[int, Insn]] = None
+        known = self._insns
         while at < address:
-            insn = self.insn(at)
-            if insn.name != "addi" or insn.rd or insn.imm:
+            insn = known.get(at) or self.insn(at)
+            name, length, rd, _, _, imm = insn
+            if rd or imm or name != "addi":
                 last = at, insn
-            at += insn.length
+            at += length
         return last if at == address else None
 
     def gaps(self) -> Iterator[Tuple[int, int]]:
@@ -270,9 +345,11 @@ def _changed(ways: Dict[int, List[Tuple[int, str]]], changes: Changes) -> Dict[i
     for edge in changes.gone:
         if edge.kind != "call":
             ways[edge.to].remove((edge.source, edge.kind))
+    more: Dict[int, List[Tuple[int, str]]] = {}
     for edge in changes.edges:
         if edge.kind != "call":
-            ways.setdefault(edge.to, []).append((edge.source, edge.kind))
-    for to in {edge.to for edge in changes.edges}.intersection(ways):
-        ways[to].sort(key=lambda way: (way[0], _ORDER[way[1]]))
+            more.setdefault(edge.to, []).append((edge.source, edge.kind))
+    for to in more.keys() & ways.keys():
+        ways[to] = sorted(ways[to] + more.pop(to), key=lambda way: (way[0], _ORDER[way[1]]))
+    ways.update(more)
     return ways

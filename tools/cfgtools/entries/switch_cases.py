@@ -47,6 +47,11 @@ def unknown(*what: object) -> Sum:
     return Sum(0, frozenset([(("unknown", *what), 1)]))
 
 
+# An instruction that writes a register: its block, its place there, its address, and itself. One without an instruction stands for
+# what is not known.
+Writer = Tuple[int, int, int, Optional[Insn]]
+
+
 class Switch(NamedTuple):
     """A jump through a table: the table's address, the size of an entry, what is added to each, how many there are by a test,
     if there is one, and where the cases are, in the order of the table."""
@@ -68,6 +73,8 @@ class Known:
         self.bounded: Dict[int, int] = {}
         self.bases: Set[int] = set()
         self.fruitless: Dict[int, Tuple[int, ...]] = {}
+        # What writes registers last, in each block.
+        self.writers: Dict[Tuple[int, int], Dict[int, Writer]] = {}
 
 
 class Switches:
@@ -83,6 +90,7 @@ class Switches:
         self._sizes: Dict[Tuple[int, int], Tuple[int, int]] = {}
         self._held: Dict[Tuple[int, int], Sum] = {}
         self._listed: Dict[int, List[Tuple[int, Insn]]] = {}
+        self._written: Dict[int, Dict[int, Writer]] = {}
         self._stores: Dict[int, Optional[Dict[int, Tuple[int, int]]]] = {}
 
     def found(self) -> Iterator[Switch]:
@@ -155,42 +163,45 @@ class Switches:
                 return only
         return unknown("several", frozenset(writers), register)
 
-    def _writers(self, start: int, register: int, near: bool) -> Set[Tuple[int, int, int, Optional[Insn]]]:
+    def _writers(self, start: int, register: int, near: bool) -> List[Writer]:
         """The instructions that may have set a register where a block begins, in the same function if `near`. One without an
         instruction stands for the caller of a function, or for a call that does not keep the register."""
-        found: Set[Tuple[int, int, int, Optional[Insn]]] = set()
+        # (in the order in which they are found, so that each run of the script finds the same)
+        found: Dict[Writer, None] = {}
         low, high = self._extent(start) if near else (0, 2**64)
-        seen, left = {start}, [start]
+        seen, left, is_kept, written = {start}, [start], register not in CALLER_SAVED, self._written
         while left and len(seen) < MOST_BLOCKS:
             block = left.pop()
-            before = [way for way in self._before.get(block, []) if low <= way[0] < high]
-            if block in self._entries or not before:
-                found.add((block, 0, block, None))
-                continue
-            for source, kind in before:
-                if kind == "after" and register in CALLER_SAVED:
-                    found.add((source, 0, source, None))
+            ways = () if block in self._entries else [way for way in self._before.get(block, ()) if low <= way[0] < high]
+            if not ways:
+                found[block, 0, block, None] = None
+            for source, kind in ways:
+                if kind == "after" and not is_kept:
+                    found[source, 0, source, None] = None
                 elif source not in seen:
                     seen.add(source)
-                    writer = self._last_writer(source, register)
+                    writer = (written.get(source) or self._writers_of(source)).get(register)
                     if writer:
-                        found.add(writer)
+                        found[writer] = None
                     else:
                         left.append(source)
-        return found
+        return list(found)
 
     def _extent(self, address: int) -> Tuple[int, int]:
         """From the entry before an address up to the next one."""
         place = bisect.bisect_right(self._rising, address)
         return (self._rising[place - 1] if place else 0), (self._rising[place] if place < len(self._rising) else 2**64)
 
-    def _last_writer(self, start: int, register: int) -> Optional[Tuple[int, int, int, Optional[Insn]]]:
-        listed = self._instructions(start)
-        for at in range(len(listed) - 1, -1, -1):
-            address, insn = listed[at]
-            if insn.rd == register and insn.name not in ("jal", "jalr"):
-                return start, at, address, insn
-        return None
+    def _writers_of(self, start: int) -> Dict[int, Writer]:
+        """The last instruction of a block that writes each register."""
+        key = start, self._blocks[start].end
+        found = self._known.writers.get(key)
+        if found is None:
+            listed = enumerate(self._instructions(start))
+            found = {insn.rd: (start, at, address, insn) for at, (address, insn) in listed if insn.rd and insn.name not in ("jal", "jalr")}
+            self._known.writers[key] = found
+        self._written[start] = found
+        return found
 
     def _result(self, start: int, place: int, address: int, insn: Optional[Insn], depth: int) -> Sum:
         """What an instruction leaves in its register."""

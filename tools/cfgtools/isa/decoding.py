@@ -8,7 +8,7 @@ from typing import NamedTuple, Optional, Tuple
 
 from cfgtools.isa import extensions
 from cfgtools.isa.extensions import NONE, Names
-from cfgtools.isa.instructions import KEPT_BY_CALLS, STUB_BASE, STUB_LINK, Row, decoded, immediate
+from cfgtools.isa.instructions import KEPT_BY_CALLS, STUB_BASE, STUB_LINK, Row, decoded, immediate, only_row
 
 UNKNOWN = "?"
 CALLER_SAVED = frozenset(range(1, 32)) - KEPT_BY_CALLS
@@ -49,10 +49,13 @@ class Insn(NamedTuple):
         return self.name in ("jal", "jalr") and self.rd != 0 and not self.is_stub
 
 
-@functools.lru_cache(maxsize=1 << 16)
+@functools.lru_cache(maxsize=1 << 20)
 def decode(word: int, names: Names = NONE) -> Insn:
     """The instruction that a word of four bytes stands for, or one of two bytes, which is below 65536. The names are those of
     the extensions that the file names; some are recognised without."""
+    row = only_row(word & 0x707F)
+    if row is not None:
+        return _of_row(4, word, row)
     found = extensions.decoded(word, names) if names else decoded(word)
     if found is not None:
         return _of_row(*found)
@@ -67,7 +70,16 @@ def _of_row(length: int, word: int, row: Row) -> Insn:
         return Insn("calculated" if writes else "other", length, rd)
     rs1 = word >> 15 & 31 if first else 0
     rs2 = word >> 20 & 31 if second else 0
-    return Insn(row.name, length, rd, rs1, rs2, immediate(word, row) if number else 0)
+    if not number:
+        return Insn(row.name, length, rd, rs1, rs2, 0)
+    # (most have this form, which `immediate` has too)
+    if word & 0x7F in _PLAIN and "h" not in row.operands:
+        return Insn(row.name, length, rd, rs1, rs2, (word >> 20) - (word >> 31 << 12))
+    return Insn(row.name, length, rd, rs1, rs2, immediate(word, row))
+
+
+# The opcodes of loads, of operations with an immediate, and of JALR.
+_PLAIN = frozenset((0x03, 0x13, 0x1B, 0x67))
 
 
 @functools.lru_cache(maxsize=None)

@@ -107,7 +107,19 @@ def _by_funct3(table: Dict[int, List[Row]]) -> Dict[int, List[Row]]:
     return found
 
 
+def is_rounded(word: int) -> bool:
+    """Whether a word has an opcode of an operation on floats."""
+    return word & 0x7F in (0x43, 0x47, 0x4B, 0x4F, 0x53)
+
+
 _TABLE = _by_funct3(_table())
+# The rows that the opcode and the field funct3 alone tell.
+_ONLY_ROWS = {key: rows[0] for key, rows in _TABLE.items() if len(rows) == 1 and not rows[0].mask & ~0x707F and not is_rounded(key)}
+
+
+def only_row(key: int) -> Optional[Row]:
+    """The row of all words that have these bits in the opcode and the field funct3, if that is one for all of them."""
+    return _ONLY_ROWS.get(key)
 
 
 def signed(value: int, bits: int) -> int:
@@ -253,7 +265,10 @@ def _short(one: Instruction) -> Optional[str]:
 
 def _bits(half: int, *places: Tuple[int, int, int]) -> int:
     """The number that parts of another make up: each its lowest bit, how many bits, and where they go."""
-    return sum((half >> low & (1 << count) - 1) << to for low, count, to in places)
+    found = 0
+    for low, count, to in places:
+        found |= (half >> low & (1 << count) - 1) << to
+    return found
 
 
 def _i(opcode: int, funct3: int, rd: int, rs1: int, immediate: int) -> int:
@@ -360,11 +375,6 @@ def _moves(half: int, rd: int, rs2: int) -> Optional[int]:
 _known: Dict[int, Optional[Tuple[int, int, Row]]] = {}
 # The numbers of no rounding mode, in the field funct3 of an operation on floats that rounds.
 NO_ROUNDING = (5, 6)
-
-
-def is_rounded(word: int) -> bool:
-    """Whether a word has an opcode of an operation on floats."""
-    return word & 0x7F in (0x43, 0x47, 0x4B, 0x4F, 0x53)
 
 
 def decoded(raw: int) -> Optional[Tuple[int, int, Row]]:

@@ -135,6 +135,8 @@ def _with_bodies(report: Report, names: Dict[int, Optional[bytes]], bodies: Dict
 # Names that tools/add_entries gives to what may be no function: a case of a switch, a place where exceptions land, the place after
 # a call, code in a gap. All but the first name their address.
 _GUESS = re.compile(rb"case_.*_\d+|entry_(?:pad|behind|gap)_([0-9a-f]+)", re.DOTALL)
+# Those to what is a function most often, and else a case of a switch by a table of addresses.
+_POINTED = re.compile(rb"entry_(?:ptr|made)_[0-9a-f]+")
 
 
 def is_guess(function: Function) -> bool:
@@ -145,9 +147,11 @@ def is_guess(function: Function) -> bool:
 
 def folded(report: Report) -> Report:
     """The report without the functions whose names say that they may be none, unless one is called: their blocks belong to those that
-    lead to them, or else to the function before them."""
+    lead to them, or else to the function before them. So do the cases that a pointer gave, if a table of the same function leads
+    to them."""
     called = {edge.to for edge in report.edges if edge.kind == "call"} | {report.entry}
     guesses = {function.entry for function in report.functions if is_guess(function) and function.entry not in called}
+    guesses |= _pointed_cases(report, guesses, called)
     names = {function.entry: function.name for function in report.functions if function.entry not in guesses}
     bodies = {entry: _body(entry, names, report.edges_from) for entry in names}
     reached, rising = set().union(*bodies.values()), sorted(names)
@@ -157,6 +161,15 @@ def folded(report: Report) -> Report:
             bodies[holder] |= _body(guess, names, report.edges_from)
             reached |= bodies[holder]
     return _with_bodies(report, names, bodies, report.edges_from)
+
+
+def _pointed_cases(report: Report, guesses: Set[int], called: Set[int]) -> Set[int]:
+    """The functions that pointers gave and nothing calls, to which a table leads whose jump stands after the same other function."""
+    found = {one.entry for one in report.functions if one.entry not in called and _POINTED.fullmatch(one.name or b"")}
+    found &= {edge.to for edge in report.edges if edge.kind == "table"}
+    rising = sorted({function.entry for function in report.functions} - guesses - found)
+    ways = [(edge.source, edge.to) for edge in report.edges if edge.kind == "table" and edge.to in found]
+    return {to for source, to in ways if bisect.bisect_right(rising, source) == bisect.bisect_right(rising, to)}
 
 
 def _named(edge: Edge, bodies: Dict[int, Set[int]]) -> Edge:

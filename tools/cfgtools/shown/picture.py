@@ -19,6 +19,11 @@ from cfgtools.reports.progress import Progress
 SOURCES = (".dot", ".gv")
 PICTURES = (".svg", ".png", ".pdf")
 
+# How much care dot takes with a picture, by statements of its source: of some hundred nodes, of more, and of many more.
+LAYOUTS = (
+    (), ("splines=polyline", "nslimit=0.5", "mclimit=0.2"), ("splines=line", "nslimit=0.1", "nslimit1=0.5", "mclimit=0.1"),
+)
+
 
 def quoted(text: str) -> str:
     """A text as a Graphviz string, its backslashes as they are."""

@@ -7,6 +7,7 @@ from typing import Any, Dict, Iterator, List, NamedTuple, Optional, Set, Tuple
 
 from cfgtools.elf.elf_file import Elf
 from cfgtools.explain.staying import Staying, behind
+from cfgtools.reports import names
 from cfgtools.reports.body import Body
 from cfgtools.reports.cfg_report import Block, Edge, Function, Report, ReportError, address, function_name
 from cfgtools.reports.changed_graph import Places
@@ -79,9 +80,17 @@ class Questions:
 
     def _way(self, entry: int, edge: Edge) -> Answer:
         """A function that an edge leads to, or comes from."""
-        name = self.name(entry)
-        fields = {"function": name, "entry": address(entry), "kind": edge.kind, "block": address(edge.source)}
-        return Answer(f"{name} at {entry:x}, {edge.kind} from the block at {edge.source:x}", fields)
+        name, stub = self.name(entry), self._stub(entry)
+        fields = {"function": name, "entry": address(entry), "kind": edge.kind, "block": address(edge.source), **({"stub_of": stub} if stub else {})}
+        return Answer(f"{name}{self._stub_words(entry)} at {entry:x}, {edge.kind} from the block at {edge.source:x}", fields)
+
+    def _stub(self, entry: int) -> Optional[str]:
+        """The name of the indirect function whose stub begins at an address."""
+        return self.elf.stub_names.get(entry) if self.elf else None
+
+    def _stub_words(self, entry: int) -> str:
+        stub = self._stub(entry)
+        return f", the stub of {names.shown(stub)}," if stub else ""
 
     def where(self, wanted: str) -> Iterator[Answer]:
         try:
@@ -102,7 +111,7 @@ class Questions:
             name = self.name(function.entry)
             where = f"in the block from {block.start:x} to {block.end:x}, which ends with {block.kind}"
             aliases = self.elf.aliases(function.entry) if self.elf else []
-            also = f", also {', '.join(aliases)}," if aliases else ""
+            also = (f", also {', '.join(aliases)}," if aliases else "") or self._stub_words(function.entry)
             yield Answer(f"{at:x} is in {name}{also} at {function.entry:x}, {where}",
                          {"address": address(at), "function": name, "entry": address(function.entry),
                           "block": address(block.start), "end": address(block.end), "kind": block.kind, **({"aliases": aliases} if aliases else {})})
