@@ -12,11 +12,11 @@ use Rattle.jump_table.specs.Table.{table_at}
 use Rattle.chain_index.specs.Chain.{next_behind, next_of, IsChainEnd}
 use Rattle.cfg_model.specs.declared.flow.Flow.{Flow}
 use Rattle.cfg_model.specs.declared.flow.Flow.TheVariants as flows
-use Rattle.cfg_model.specs.Program.Instructions.{flow_at, length_at}
+use Rattle.cfg_model.specs.Program.Instructions.{flow_at}
 use Rattle.cfg_model.specs.Program.Chain.{EndsChain, IsTerminatorOf, OnChain}
 use Rattle.code_view.specs.Flow.{in_code, straight_flow, jump_flow, call_flow, table_flow, flow_by}
 use Rattle.code_view.specs.Program.{program_under}
-use Rattle.code_view.proofs.Lawful.{placed-size, flow-program, length-program}
+use Rattle.code_view.proofs.Lawful.{placed-size, flow-program}
 
 -- The way on by the file is that of the flow: straight on, or a flow that ends a chain.
 module _ (bytes : List ℕ) (a n : ℕ) (cut : Option ℕ) (table : Option Table) where

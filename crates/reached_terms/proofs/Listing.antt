@@ -1,9 +1,10 @@
 -- The addresses whose marks are set, listed by number.
-use Rattle.std.proofs.Common.{◌≡◌, ℕ, ◌+◌, ◌<◌, ◌⊎◌, Bool, List, [], ◌∷◌, ◌++◌, get_or, Some, None, refl, ◌∙◌, sym, subst, inl, inr, ⊎_elim, arith}
+use Rattle.std.proofs.Common.{◌≡◌, ℕ, ◌+◌, ◌<◌, ◌⊎◌, Bool, true, false, List, length, [], ◌∷◌, ◌++◌, get_or, Some, None, refl, ◌∙◌, sym, subst, inl, inr, ⊎_elim, arith}
 use Rattle.std.specs.Prelude.{◌↔◌}
 use Rattle.std.specs.List.{AllPairs, Contains}
 use Rattle.std.specs.List.Sorted.{IsStrictlyIncreasing}
 use Rattle.std.proofs.lemmas.Bool.{cases_order, cases_lt}
+use Rattle.std.proofs.lemmas.List.{get_or_past}
 use Rattle.std.proofs.lemmas.List.Elements.{Contains-append_left, Contains-get_or, Contains-push, Contains-push_cases}
 use Rattle.std.proofs.lemmas.List.Quantifiers.{all_pairs_push}
 use Rattle.cfg_model.specs.Program.Instructions.{InstructionMap}
@@ -60,5 +61,9 @@ module _ (map : InstructionMap) (number : ℕ → ℕ) (marks : List Bool) (n : 
   pub listed_rising : IsStrictlyIncreasing items
   listed_rising k within = before.rising k (k + 1) 0 (omega arith) within
 
-  pub listed_all : IsNumbering map number n → (a : ℕ) → Contains items a ↔ IsMarked map number marks a
-  listed_all numbering a = (λ there. (before.sound a there).0, λ is. before.complete a is (numbering.below a is.0))
+  -- no address has a mark at or above their end
+  marked_below : (a : ℕ) → IsMarked map number marks a → number a < length marks
+  marked_below a is = ⊎_elim (λ less. less) (λ past. let none : false ≡ true = sym (get_or_past marks (number a) false past) ∙ is.1 in absurd (cc)) (cases_lt (number a) (length marks))
+
+  pub listed_all : (count : ℕ) → IsNumbering map number count → ((k : ℕ) → k < length marks → k < count → k < n) → (a : ℕ) → Contains items a ↔ IsMarked map number marks a
+  listed_all count numbering all a = (λ there. (before.sound a there).0, λ is. before.complete a is (all (number a) (marked_below a is) (numbering.below a is.0)))

@@ -1,7 +1,7 @@
 //! The addresses that are marked, in their order.
 
 ghost use Rattle.std.specs.Prelude.{◌≡◌, ◌↔◌, ℕ, All, Contains, IfOk, IsSome, IsTrue, true, false};
-ghost use Rattle.std.specs.Prelude.{get_or};
+ghost use Rattle.std.specs.Prelude.{◌<◌, ◌^◌, get_or, length};
 ghost use Rattle.std.specs.List.{filter};
 ghost use Rattle.std.specs.List.Sorted.{IsStrictlyIncreasing};
 ghost use Rattle.reached_terms.specs.Numbering.{IsMarked, IsMarkedAt};
@@ -21,8 +21,9 @@ pub fn marked_addresses<C: Numbered>(
     ensures exact { IfOk result (λ v. (a : ℕ) → Contains v.items a
         ↔ IsMarked (C.map code.now) (C.number code.now) marks.now a) }
 {
+    let numbers = code.numbers();
     let mut addresses = Vec::new(alloc);
-    for n in 0..code.numbers() {
+    for n in 0..marks.len().min(numbers as usize) {
         if let Some(a) = marked_at(code, marks, n) {
             addresses.push(a)?;
         }
@@ -31,12 +32,15 @@ pub fn marked_addresses<C: Numbered>(
 }
 
 /// The address with the number `n`, if there is one and its mark is set.
-fn marked_at<C: Numbered>(code: &C, marks: &[bool], n: u32) -> Option<u64>
+fn marked_at<C: Numbered>(code: &C, marks: &[bool], n: usize) -> Option<u64>
+    requires within { n < length marks.now }
+    requires fits { n < 2 ^ 32 }
     ensures { IsMarkedAt (C.map code.now) (C.number code.now) marks.now n result }
 {
-    match marks.get(n as usize) {
-        Some(true) => code.address(n),
-        _ => None,
+    if marks[n] {
+        code.address(n as u32)
+    } else {
+        None
     }
 }
 
