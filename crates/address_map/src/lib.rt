@@ -9,6 +9,9 @@
 //! chunks of the region of the first address are found by their place, all others by a tree. An
 //! address is found along those of its page, so the time is constant while pages hold few. In the
 //! lines on time below, n is how many addresses there are, and p how many of them lie in one page.
+//!
+//! Rare ways, as making room and far addresses, are cold functions of their own, and so the
+//! frequent ones stay short.
 #![tactic(auto)]
 
 mod chunk;

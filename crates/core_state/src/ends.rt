@@ -70,6 +70,7 @@ impl Ends {
     }
 
     /// The same, for a program that is walked along its chains.
+    #[inline(never)]
     pub fn arrive_along<W: Walk>(&mut self, walk: &W, k: u64, s: u64) -> Result<Arrival, Memory>
         requires arriving { OnChain (W.map walk.now) s k }
         requires near { (p : ℕ) → IsNear self.old k p → OnChain (W.map walk.now) p k }

@@ -7,6 +7,9 @@
 //! - [`along`]: walks along the chains of a program, for a trait's method that was handed one.
 //! - [`place`]: what a builder works on, told or not.
 //! - [`answer`]: what changes answer, and how shards and work are named.
+//!
+//! The calls that change a shard are not inlined, and rare ways, as more waiters than two, stand in
+//! functions of their own. So callers that mostly know the answer already stay short.
 #![tactic(auto)]
 
 ghost use Rattle.std.specs.Prelude.{◌≡◌};

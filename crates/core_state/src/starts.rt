@@ -47,6 +47,7 @@ impl Starts {
 
     /// Makes `s` a wanted start, if it is none. Answers whether it is new; [`Memory`] if memory ran
     /// out, and then nothing has changed.
+    #[inline(never)]
     pub fn want(&mut self, s: u64) -> Result<bool, Memory>
         ensures wanted { OnOk result (self.new ≡ with_start self.old s) }
         ensures answer { IfOk result (λ new. IsTrue new ↔ ¬ IsStart self.old s) }

@@ -56,6 +56,7 @@ impl Terms {
 
     /// Enters `k` as a terminator, if it is none. Answers whether it is new; [`Memory`] if memory
     /// ran out, and then nothing has changed.
+    #[inline(never)]
     pub fn term(&mut self, k: u64) -> Result<bool, Memory>
         ensures entered { OnOk result (self.new ≡ with_terminator self.old k) }
         ensures answer { IfOk result (λ new. IsTrue new ↔ ¬ IsEntered self.old k) }
@@ -78,6 +79,7 @@ impl Terms {
     /// Makes `w` wait at the terminator `k` as [`Terms::wait`] does. Answers whether it is to be
     /// told now: it is new there, and `k` is known to return. [`Memory`] if memory ran out, and
     /// then nothing has changed.
+    #[inline(never)]
     pub fn place_waiter(&mut self, k: u64, w: Waiter) -> Result<bool, Memory>
         requires { IsEntered self.old k }
         ensures waits { OnOk result (self.new ≡ with_changed self.old k (entry_with_waiter w)) }
@@ -110,6 +112,7 @@ impl Terms {
 
     /// Notes that `w` was told that the terminator `k` returns, as [`Terms::told`] does. Answers
     /// whether another waiter is left to be told there.
+    #[inline(never)]
     pub fn mark_told(&mut self, k: u64, w: Waiter) -> bool
         requires { IsEntered self.old k }
         ensures told { self.new ≡ with_changed self.old k (entry_with_told w) }
