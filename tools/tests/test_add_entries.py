@@ -10,7 +10,7 @@ import subprocess
 import sys
 import unittest
 from pathlib import Path
-from typing import Dict, List, Sequence, Tuple
+from typing import Dict, List, Sequence, Set, Tuple
 
 import rows
 from cfgtools.elf.declared_tables import Declared, Record
@@ -255,7 +255,8 @@ class Marks(WithFile):
                 every = [self.listed(elf, elf.entry + 2 * chosen.randrange(59), chosen.randrange(1, 9)) for _ in range(6)]
                 blocks = {listed[0][0]: Block(listed[0][0], listed[-1][0] + listed[-1][1].length, "fall") for listed in every if listed}
                 reached = self.reached(elf, list(blocks.values()))
-                starts, inside = set(), set()
+                starts: Set[int] = set()
+                inside: Set[int] = set()
                 for block in blocks.values():
                     found = reached.instructions(block)
                     self.assertEqual(found, self.listed(elf, block.start, len(found)))
