@@ -1,12 +1,12 @@
 //! Working until nothing is left.
 
-ghost use Rattle.std.specs.Prelude.{◌≡◌, OnOk};
+ghost use Rattle.std.specs.Prelude.{◌≡◌, IfErr, OnOk};
 ghost use Rattle.cfg_model.specs.Program.Reach.{AreSeeds};
 ghost use Rattle.cfg_model.specs.Builder.Fact.{Holds};
 ghost use Rattle.cfg_model.specs.Builder.Kept.{IsKept, IsClosed};
 ghost use Rattle.cfg_model.specs.Builder.Left.{HasNothingLeft};
 ghost use Rattle.core_state.specs.Place.{Remembers};
-ghost use Rattle.work_ops.specs.inner.Working.{Continues};
+ghost use Rattle.work_ops.specs.inner.Working.{Continues, RanOut};
 
 use crate::desk::Desk;
 use crate::work::{work_on, work_seeds};
@@ -54,7 +54,8 @@ pub fn finish<C: Chains>(
     *state = desk.state;
     match done {
         Ok(()) => Ok(()),
-        Err(_) => Err(Memory),
+        Err(PlaceEnd::Memory) => Err(Memory),
+        Err(PlaceEnd::Busy { .. }) => unreachable!(),
     }
 }
 
@@ -66,6 +67,7 @@ fn work_off<J: Job, C: Chains>(desk: &mut Desk, code: &C, seeds: &[u64]) -> Resu
     requires kept { IsKept J.map J.seeds desk.old.state.maps }
     ensures works { Continues J.map J.seeds desk.old.state.maps desk.new.state.maps }
     ensures none { OnOk result (HasNothingLeft J.seeds desk.new.state.maps) }
+    ensures ran_out { IfErr result RanOut }
 {
     work_seeds::<J, C>(desk, code, seeds)?;
     while work_on::<J, C>(desk, code, seeds)? {}

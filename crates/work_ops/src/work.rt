@@ -1,12 +1,12 @@
 //! One piece of work after the other.
 
-ghost use Rattle.std.specs.Prelude.{◌≡◌, ◌≢◌, ◌<◌, ◌⊎◌, IfOk, OnOk, IsTrue, vec_len};
+ghost use Rattle.std.specs.Prelude.{◌≡◌, ◌≢◌, ◌<◌, ◌⊎◌, IfErr, IfOk, OnOk, IsTrue, vec_len};
 ghost use Rattle.cfg_model.specs.Program.Reach.{AreSeeds};
 ghost use Rattle.cfg_model.specs.Builder.Kept.{IsKept};
 ghost use Rattle.cfg_model.specs.Builder.Left.{Work, IsLeft, HasNothingLeft};
 ghost use Rattle.core_state.specs.declared.answer.WorkKind.TheVariants as kinds;
 ghost use Rattle.core_state.specs.Work.{work_of};
-ghost use Rattle.work_ops.specs.inner.Working.{Continues, Lowers, to_do};
+ghost use Rattle.work_ops.specs.inner.Working.{Continues, Lowers, RanOut, to_do};
 
 use crate::code::ask;
 use crate::desk::Desk;
@@ -26,7 +26,8 @@ pub(crate) fn work_seeds<J: Job, C: Chains>(
     requires job { seeds.now ≡ J.seeds }
     requires seeds { AreSeeds J.map J.seeds }
     requires kept { IsKept J.map J.seeds desk.old.state.maps }
-    ensures { Continues J.map J.seeds desk.old.state.maps desk.new.state.maps }
+    ensures works { Continues J.map J.seeds desk.old.state.maps desk.new.state.maps }
+    ensures ran_out { IfErr result RanOut }
 {
     for seed in seeds.iter().rev() {
         want_op::<J, Desk, C>(desk, code, *seed)?;
@@ -40,7 +41,8 @@ fn work_listed<J: Job, C: Chains>(desk: &mut Desk, code: &C) -> Result<(), Place
     requires code { C.map code.now ≡ J.map }
     requires seeds { AreSeeds J.map J.seeds }
     requires kept { IsKept J.map J.seeds desk.old.state.maps }
-    ensures { Continues J.map J.seeds desk.old.state.maps desk.new.state.maps }
+    ensures works { Continues J.map J.seeds desk.old.state.maps desk.new.state.maps }
+    ensures ran_out { IfErr result RanOut }
 {
     while let Some(name) = desk.names.pop() {
         do_listed::<J, C>(desk, code, name)?;
@@ -64,6 +66,7 @@ pub(crate) fn work_on<J: Job, C: Chains>(
         (vec_len desk.new.names) < to_do desk.old.state.maps (vec_len desk.old.names)) }
     ensures none { IfOk result
         (λ some. ¬ IsTrue some → HasNothingLeft J.seeds desk.new.state.maps) }
+    ensures ran_out { IfErr result RanOut }
 {
     if let Some(name) = desk.names.pop() {
         do_listed::<J, C>(desk, code, name)?;
@@ -86,6 +89,7 @@ fn do_left<J: Job, C: Chains>(desk: &mut Desk, code: &C, name: Name) -> Result<(
     requires left { IsLeft J.seeds desk.old.state.maps (work_of name) }
     ensures works { Continues J.map J.seeds desk.old.state.maps desk.new.state.maps }
     ensures less { OnOk result (Lowers desk.old.state.maps desk.new.state.maps) }
+    ensures ran_out { IfErr result RanOut }
 {
     ask::<J, C>(code, name.key);
     match name.kind {
@@ -104,6 +108,7 @@ fn do_listed<J: Job, C: Chains>(desk: &mut Desk, code: &C, name: Name) -> Result
         ⊎ (desk.new ≡ desk.old)) }
     ensures left { OnOk result (IsLeft J.seeds desk.old.state.maps (work_of name)
         → name.kind ≢ kinds.Want → Lowers desk.old.state.maps desk.new.state.maps) }
+    ensures ran_out { IfErr result RanOut }
 {
     match name.kind {
         WorkKind::Want => Ok(()),
@@ -124,6 +129,7 @@ fn parse<J: Job, C: Chains>(desk: &mut Desk, code: &C, s: u64) -> Result<(), Pla
         ⊎ (desk.new ≡ desk.old)) }
     ensures left { OnOk result (IsLeft J.seeds desk.old.state.maps (Work.Parse s)
         → Lowers desk.old.state.maps desk.new.state.maps) }
+    ensures ran_out { IfErr result RanOut }
 {
     match desk.state.start(s) {
         Some(Mark::Wanted) => parse_op::<J, Desk, C>(desk, code, s),
@@ -142,6 +148,7 @@ fn place_next<J: Job, C: Chains>(desk: &mut Desk, code: &C, k: u64) -> Result<()
         ⊎ (desk.new ≡ desk.old)) }
     ensures left { OnOk result (IsLeft J.seeds desk.old.state.maps (Work.Move k)
         → Lowers desk.old.state.maps desk.new.state.maps) }
+    ensures ran_out { IfErr result RanOut }
 {
     match desk.state.moved(k) {
         Some(_) => {
@@ -162,6 +169,7 @@ fn follow_edges<J: Job, C: Chains>(desk: &mut Desk, code: &C, k: u64) -> Result<
         ⊎ (desk.new ≡ desk.old)) }
     ensures left { OnOk result (IsLeft J.seeds desk.old.state.maps (Work.Edges k)
         → Lowers desk.old.state.maps desk.new.state.maps) }
+    ensures ran_out { IfErr result RanOut }
 {
     match desk.state.done(k) {
         Some(false) => edges_op::<J, Desk, C>(desk, code, k),
@@ -179,6 +187,7 @@ fn tell_next<J: Job, C: Chains>(desk: &mut Desk, code: &C, k: u64) -> Result<(),
         ⊎ (desk.new ≡ desk.old)) }
     ensures left { OnOk result (IsLeft J.seeds desk.old.state.maps (Work.Tell k)
         → Lowers desk.old.state.maps desk.new.state.maps) }
+    ensures ran_out { IfErr result RanOut }
 {
     match desk.state.untold(k) {
         Some(w) => {

@@ -5,6 +5,8 @@ use Rattle.cfg_model.specs.Builder.State.{BuilderState}
 use Rattle.cfg_model.specs.Builder.Fact.{Holds}
 use Rattle.cfg_model.specs.Builder.Kept.{IsKept}
 use Rattle.core_state.specs.Place.{Remembers}
+use Rattle.core_state.specs.declared.answer.PlaceEnd.{PlaceEnd}
+use Rattle.work_ops.specs.Going.{RoseIfBusy}
 use Rattle.work_ops.specs.inner.Measure.{work_left}
 
 -- The state is kept, and what was known is known.
@@ -20,3 +22,7 @@ Lowers old new = work_left new < work_left old
 -- listed.
 unfoldable pub to_do : BuilderState → ℕ → ℕ
 to_do state names = work_left state * 2 ^ 64 + names
+
+-- The refusal of a place that no other thread has a part of: memory ran out.
+abbrev pub RanOut : PlaceEnd → Type 0
+RanOut = RoseIfBusy 0 0
