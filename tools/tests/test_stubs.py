@@ -23,11 +23,11 @@ from cfgtools.reports.cfg_report import load
 from small_elf import ALLOC, CODE_AT, DATA_AT, RELA, SYMTAB, STRTAB, WRITE, Part, code, words
 from test_add_entries import WithFile
 
-T1, T3 = 6, 28
+X6, X28 = 6, 28
 STUB_AT, RESOLVER, TARGET = CODE_AT + 8, CODE_AT + 0x18, CODE_AT + 0x1A
 # `main` calls the stub and returns; then stand the stub, what chooses a function, and the function that it chooses.
-STUB = upper(0x17, T3, (DATA_AT - STUB_AT + 0x800) >> 12) + immediate(0x03, 3, T3, T3, DATA_AT - STUB_AT - (DATA_AT - STUB_AT + 0x800 >> 12 << 12))
-HALVES = jump(1, 8) + RETURN + NOP + STUB + immediate(0x67, 0, T1, T3, 0) + NOP * 2 + RETURN + RETURN
+STUB = upper(0x17, X28, (DATA_AT - STUB_AT + 0x800) >> 12) + immediate(0x03, 3, X28, X28, DATA_AT - STUB_AT - (DATA_AT - STUB_AT + 0x800 >> 12 << 12))
+HALVES = jump(1, 8) + RETURN + NOP + STUB + immediate(0x67, 0, X6, X28, 0) + NOP * 2 + RETURN + RETURN
 
 
 def indirect(first: int) -> List[Part]:
@@ -44,7 +44,7 @@ def parts(with_symbols: bool = True) -> List[Part]:
 
 class Decoders(unittest.TestCase):
     def test_what_jumps(self) -> None:
-        for registers, is_jump in (((T1, T3), True), ((T1, 5), False), ((5, T3), False), ((0, T3), False), ((1, T3), False)):
+        for registers, is_jump in (((X6, X28), True), ((X6, 5), False), ((5, X28), False), ((0, X28), False), ((1, X28), False)):
             for offset in (0, 16):
                 halves = immediate(0x67, 0, *registers, offset)
                 data = struct.pack("<2H", *halves)
@@ -60,7 +60,7 @@ class Files(WithFile):
         self.assertEqual(list(stubs(self.memory(parts()))), [Stub(STUB_AT, STUB_AT + 8, DATA_AT, RESOLVER, b"chosen")])
         self.assertEqual([stub.title for stub in stubs(self.memory(parts(False)))], [f"{STUB_AT:x}"])
         # Without the two instructions before it, it is no stub.
-        self.assertEqual(list(stubs(self.memory([code(NOP * 4 + immediate(0x67, 0, T1, T3, 0))]))), [])
+        self.assertEqual(list(stubs(self.memory([code(NOP * 4 + immediate(0x67, 0, X6, X28, 0))]))), [])
 
     def test_entries(self) -> None:
         path = self.elf_file(parts())
@@ -102,11 +102,11 @@ class Files(WithFile):
         self.assertEqual(listing.flow_at(STUB_AT + 8).kind, "unknown")
         self.assertEqual(listing.register_alone(STUB_AT + 8), "x28")
         # Behind the AUIPC of its register it is a call, and through another register it is one through a register.
-        paired = Listing(self.elf_file([code(upper(0x17, T3, 0) + immediate(0x67, 0, T1, T3, 12) + immediate(0x67, 0, T1, 5, 0) + RETURN)], "paired"))
+        paired = Listing(self.elf_file([code(upper(0x17, X28, 0) + immediate(0x67, 0, X6, X28, 12) + immediate(0x67, 0, X6, 5, 0) + RETURN)], "paired"))
         self.assertEqual((paired.flow_at(CODE_AT + 4).kind, paired.flow_at(CODE_AT + 8).kind), ("call", "icall"))
 
     def test_paired_in_code_that_is_tried(self) -> None:
-        elf = self.memory([code(upper(0x17, T3, 0) + immediate(0x67, 0, T1, T3, 12) + STUB[:2] + immediate(0x67, 0, T1, T3, 8) + RETURN * 2)])
+        elf = self.memory([code(upper(0x17, X28, 0) + immediate(0x67, 0, X6, X28, 12) + STUB[:2] + immediate(0x67, 0, X6, X28, 8) + RETURN * 2)])
         reached = Reached(elf, load(io.BytesIO(small.report("10000 may-return f: 10000", "10000 10002 stop"))))
         insn = reached.insn(CODE_AT + 4)
         self.assertTrue(insn.is_stub and reached.goes_on(CODE_AT + 4, insn) and reached.is_call(CODE_AT + 4, insn))
