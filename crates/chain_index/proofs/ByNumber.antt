@@ -4,7 +4,7 @@ use Rattle.std.specs.List.Sorted.{IsPartitionedBy}
 use Rattle.std.proofs.lemmas.Bool.{cases_order, eqb-true, ltb-true, lt-ltb}
 use Rattle.elf_image.specs.Code.{is_code}
 use Rattle.chain_index.specs.declared.lookup.SectionReaches.{SectionReaches}
-use Rattle.chain_index.specs.Found.{AreReachesOf}
+use Rattle.chain_index.specs.Found.{AreChainEndsOf}
 use Rattle.chain_index.specs.Numbers.{codes_below, code_count}
 use Rattle.chain_index.specs.Inner.{IsCountAbove, IsReachedAt}
 use Rattle.chain_index.proofs.Counts.{even_code, rises}
@@ -12,7 +12,7 @@ use Rattle.chain_index.proofs.Ends.{code_below}
 use Rattle.chain_index.proofs.Looking.{look_within, look}
 
 -- those whose first number lies above come first
-pub parted_by_number : (bytes : List ℕ) (found : List SectionReaches) (numbers n : ℕ) → AreReachesOf bytes found → IsPartitionedBy (λ (r : SectionReaches). ltb (n + r.from) numbers) found
+pub parted_by_number : (bytes : List ℕ) (found : List SectionReaches) (numbers n : ℕ) → AreChainEndsOf bytes found → IsPartitionedBy (λ (r : SectionReaches). ltb (n + r.from) numbers) found
 parted_by_number bytes found numbers n all i j d up below above =
     let high = (all.right i d (omega arith)).counted in
     let low = (all.right j d below).counted in
@@ -25,7 +25,7 @@ parted_by_number bytes found numbers n all i j d up below above =
     ] in
     lt-ltb _ _ (omega (arith, ltb-true _ _ above, high, low, less))
 
-module _ (bytes : List ℕ) (found : List SectionReaches) (numbers n a : ℕ) (all : AreReachesOf bytes found) (count : numbers ≡ code_count bytes) (code : is_code bytes a ≡ true) (is : n ≡ codes_below bytes a) where
+module _ (bytes : List ℕ) (found : List SectionReaches) (numbers n a : ℕ) (all : AreChainEndsOf bytes found) (count : numbers ≡ code_count bytes) (code : is_code bytes a ≡ true) (is : n ≡ codes_below bytes a) where
   pub first_above : (i : ℕ) (d : SectionReaches) → i < length found → n + (get_or found i d).from < numbers → a < (get_or found i d).address
   first_above i d within less = elim (cases_order a (get_or found i d).address) [
     | inl same ↦ let at = ap (codes_below bytes) same in absurd (omega (arith, at, is, count, less, (all.right i d within).counted))
@@ -54,7 +54,7 @@ address_there bytes a n numbers kept count code is start at =
     (omega (arith, place), omega (arith, place, at.start, a_even, start_even))
 
 -- the search by number finds that section
-module _ (bytes : List ℕ) (found : List SectionReaches) (numbers n a : ℕ) (all : AreReachesOf bytes found) (count : numbers ≡ code_count bytes) (code : is_code bytes a ≡ true) (is : n ≡ codes_below bytes a)
+module _ (bytes : List ℕ) (found : List SectionReaches) (numbers n a : ℕ) (all : AreChainEndsOf bytes found) (count : numbers ≡ code_count bytes) (code : is_code bytes a ≡ true) (is : n ≡ codes_below bytes a)
     (place : ℕ) (counted : IsCountAbove found a place) (kept : SectionReaches) (got : kept ≡ get_or found place kept) where
   kept_within : place < length found
   kept_within = look_within bytes found all a code place counted

@@ -15,7 +15,7 @@ use Rattle.elf_image.proofs.LaidOut.{holds-true, holds-above}
 use Rattle.elf_image.proofs.OneSection.{code_section-is}
 use Rattle.chain_index.specs.declared.lookup.SectionReaches.{SectionReaches}
 use Rattle.chain_index.specs.Chain.{IsChainEnd}
-use Rattle.chain_index.specs.Found.{IsCodeOf, AreReaches, IsSectionReaches, AreFalling, BeginsAt, AreReachesOf, last_count}
+use Rattle.chain_index.specs.Found.{IsCodeOf, AreReaches, IsSectionReaches, AreFalling, BeginsAt, AreChainEndsOf, last_count}
 use Rattle.chain_index.specs.Numbers.{codes_below, code_count}
 use Rattle.chain_index.specs.Inner.{Reaches, AreRight, AreRising, IsCountAbove, AreFoundBut, IsReachedAt}
 use Rattle.chain_index.proofs.CodeSections.{section-at, section-half, code-of, holds-at}
@@ -177,7 +177,7 @@ none_left zero some = refl
 none_left (suc n) some = let wrong = some (omega arith) in absurd (cc)
 
 -- all is found
-pub index_of : (bytes : List ℕ) (left : List Section) (found : List SectionReaches) → IsLeft bytes left found → length left ≡ 0 → AreReachesOf bytes found
+pub index_of : (bytes : List ℕ) (left : List Section) (found : List SectionReaches) → IsLeft bytes left found → length left ≡ 0 → AreChainEndsOf bytes found
 index_of bytes left found all none = record { right = all.right; falling = all.falling; whole = λ a. at (code_section_of bytes a) a refl; counted = counted }
   where
     counted : last_count 0 found ≡ code_count bytes
@@ -253,7 +253,7 @@ reached bytes a kept code right low within =
       number = omega (arith, right.counted, numbered, start_number);
     }
 
-module _ (bytes : List ℕ) (found : List SectionReaches) (index : AreReachesOf bytes found) (a : ℕ) (code : is_code bytes a ≡ true) (count : ℕ) (counted : IsCountAbove found a count) where
+module _ (bytes : List ℕ) (found : List SectionReaches) (index : AreChainEndsOf bytes found) (a : ℕ) (code : is_code bytes a ≡ true) (count : ℕ) (counted : IsCountAbove found a count) where
   section-of : (s : Section) × (code_section_of bytes a ≡ Some s)
   section-of = at (code_section_of bytes a) refl code
     where

@@ -58,7 +58,7 @@ last_count count (kept ∷ more) = last_count kept.from more
 -- These are the reaches of the chains of the image with these bytes, which an index of it keeps.
 -- Each item is of one code section, from the highest address down. The section of each code address
 -- is among them.
-pub record AreReachesOf (bytes : List ℕ) (found : List SectionReaches) : Type 0 where
+pub record AreChainEndsOf (bytes : List ℕ) (found : List SectionReaches) : Type 0 where
   pub right : All (IsSectionReaches bytes) found
   pub falling : AreFalling found
   pub whole : (a : ℕ) → IfSome (code_section_of bytes a) (λ s. BeginsAt found s.address)

@@ -7,7 +7,7 @@ ghost use Rattle.elf_image.specs.Architecture.{extensions_of};
 ghost use Rattle.elf_image.specs.Code.{is_code};
 ghost use Rattle.rv_flow.specs.InsnBytes.{AreBytesAt};
 ghost use Rattle.chain_index.specs.Chain.{next_of, IsChainEnd};
-ghost use Rattle.chain_index.specs.Found.{AreReachesOf, IsCodeOf};
+ghost use Rattle.chain_index.specs.Found.{AreChainEndsOf, IsCodeOf};
 ghost use Rattle.chain_index.specs.Numbers.{codes_below, code_count};
 ghost use Rattle.chain_index.specs.Inner.{IsReachedAt, Reaches, length_by};
 
@@ -44,21 +44,21 @@ impl<'a> Model for ChainIndex<'a> {
     ghost view = { λ index. index.image.now };
 
     ghost use Rattle.std.specs.Prelude.{◌≡◌};
-    ghost use Rattle.chain_index.specs.Found.{AreReachesOf};
+    ghost use Rattle.chain_index.specs.Found.{AreChainEndsOf};
     ghost use Rattle.chain_index.specs.Numbers.{code_count};
 
-    ghost invariant = { λ index. AreReachesOf index.image.now index.sections.items
+    ghost invariant = { λ index. AreChainEndsOf index.image.now index.sections.items
         × (index.numbers ≡ code_count index.image.now) };
 }
 
 /// What an index keeps beside the image, so that it can be made if no image can be borrowed for
 /// that long. Contracts see what is kept of each section.
 #[derive(Drop)]
-pub struct ChainReaches {
+pub struct ChainEnds {
     sections: Vec<SectionReaches>,
 }
 
-impl Model for ChainReaches {
+impl Model for ChainEnds {
     ghost use Rattle.std.specs.Prelude.{List};
     ghost use Rattle.chain_index.specs.declared.lookup.SectionReaches.{SectionReaches};
 
@@ -67,17 +67,17 @@ impl Model for ChainReaches {
     ghost view = { λ reaches. reaches.sections.items };
 }
 
-impl ChainReaches {
+impl ChainEnds {
     /// What an index keeps of an image. Memory is taken once a section, four bytes for each
     /// halfword. The only error is that memory ran out.
     /// Time: O(bytes of code). Memory: O(bytes of code).
-    pub fn new(alloc: Global, image: &Image) -> Result<ChainReaches, Memory>
-        ensures { IfOk result (AreReachesOf image.now) }
+    pub fn new(alloc: Global, image: &Image) -> Result<ChainEnds, Memory>
+        ensures { IfOk result (AreChainEndsOf image.now) }
     {
         let sections = over_sections(alloc, image, |forms, s, behind| {
             section_reaches(alloc, image, forms, s, behind)
         })?;
-        Ok(ChainReaches { sections })
+        Ok(ChainEnds { sections })
     }
 
     /// The same, made by `workers` workers, from 1 to 64. With one worker no thread is started, nor
@@ -89,15 +89,15 @@ impl ChainReaches {
         alloc: Global,
         image: &Image,
         workers: u32,
-    ) -> Result<ChainReaches, Memory>
+    ) -> Result<ChainEnds, Memory>
         requires some { 1 ≤ workers }
         requires most { workers ≤ MOST_WORKERS }
-        ensures { IfOk result (AreReachesOf image.now) }
+        ensures { IfOk result (AreChainEndsOf image.now) }
     {
         if workers == 1 {
-            return ChainReaches::new(alloc, image);
+            return ChainEnds::new(alloc, image);
         }
-        ChainReaches::shared(rt, alloc, image, workers)
+        ChainEnds::shared(rt, alloc, image, workers)
     }
 
     /// The same, with threads for longer sections.
@@ -106,9 +106,9 @@ impl ChainReaches {
         alloc: Global,
         image: &Image,
         workers: u32,
-    ) -> Result<ChainReaches, Memory>
+    ) -> Result<ChainEnds, Memory>
         requires { 1 ≤ workers }
-        ensures { IfOk result (AreReachesOf image.now) }
+        ensures { IfOk result (AreChainEndsOf image.now) }
     {
         let workers = workers as usize;
         let sections = over_sections(
@@ -124,23 +124,23 @@ impl ChainReaches {
                 reaches_by(rt, alloc, image, forms, s, behind, count)
             },
         )?;
-        Ok(ChainReaches { sections })
+        Ok(ChainEnds { sections })
     }
 }
 
 impl<'a> ChainIndex<'a> {
-    /// The index of an image, made on this thread as [`ChainReaches::new`] makes what it keeps. The
+    /// The index of an image, made on this thread as [`ChainEnds::new`] makes what it keeps. The
     /// only error is that memory ran out.
     pub fn new(alloc: Global, image: &'a Image) -> Result<ChainIndex<'a>, Memory>
         ensures { IfOk result (λ index. index ≡ image.now) }
     {
-        let reaches = ChainReaches::new(alloc, image)?;
+        let reaches = ChainEnds::new(alloc, image)?;
         Ok(ChainIndex::of(image, reaches))
     }
 
     /// The index of an image with what is to be kept of it.
-    pub fn of(image: &'a Image, reaches: ChainReaches) -> ChainIndex<'a>
-        requires { AreReachesOf image.now reaches }
+    pub fn of(image: &'a Image, reaches: ChainEnds) -> ChainIndex<'a>
+        requires { AreChainEndsOf image.now reaches }
         ensures { result ≡ image.now }
     {
         ChainIndex {

@@ -23,6 +23,6 @@ mod sections;
 mod sharing;
 mod walk;
 
-pub use index::{ChainIndex, ChainReaches};
+pub use index::{ChainEnds, ChainIndex};
 pub use laws::{numbers_differ, one_chain_end};
 pub use std::alloc::AllocError as Memory;

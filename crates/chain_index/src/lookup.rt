@@ -5,7 +5,7 @@ ghost use Rattle.std.specs.Prelude.{IfSome, IfNone, nat_le, nat_lt, ◌&&◌, tr
 ghost use Rattle.elf_image.specs.Code.{half_at, is_code};
 ghost use Rattle.rv_flow.specs.InsnBytes.{AreBytesAt};
 ghost use Rattle.chain_index.specs.Chain.{IsChainEnd};
-ghost use Rattle.chain_index.specs.Found.{AreFalling, AreReachesOf, BeginsAt, last_count};
+ghost use Rattle.chain_index.specs.Found.{AreFalling, AreChainEndsOf, BeginsAt, last_count};
 ghost use Rattle.chain_index.specs.Numbers.{codes_below, code_count};
 ghost use Rattle.chain_index.specs.Inner.{AreRight, IsCountAbove};
 ghost use Rattle.chain_index.specs.Inner.{IsReachedAt, Reaches};
@@ -115,8 +115,8 @@ pub(crate) fn count_above(sections: &[SectionReaches], a: u64) -> usize
 
 /// How many of the sections begin above the code address with the number `n`, of `numbers` in all.
 pub(crate) fn count_above_number(sections: &[SectionReaches], numbers: u32, n: u32) -> usize
-    requires { (bytes : List ℕ) × AreReachesOf bytes sections.now }
-    ensures { (bytes : List ℕ) (a : ℕ) → AreReachesOf bytes sections.now
+    requires { (bytes : List ℕ) × AreChainEndsOf bytes sections.now }
+    ensures { (bytes : List ℕ) (a : ℕ) → AreChainEndsOf bytes sections.now
         → numbers ≡ code_count bytes → is_code bytes a ≡ true → n ≡ codes_below bytes a
         → IsCountAbove sections.now a result }
 {

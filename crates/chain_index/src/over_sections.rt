@@ -2,7 +2,7 @@
 
 ghost use Rattle.std.specs.Prelude.{◌≡◌, ◌+◌, ◌*◌, ◌/◌, ◌^◌, ◌<◌, IfOk, length};
 ghost use Rattle.elf_image.specs.Architecture.{extensions_of};
-ghost use Rattle.chain_index.specs.Found.{IsCodeOf, AreReaches, AreReachesOf};
+ghost use Rattle.chain_index.specs.Found.{IsCodeOf, AreReaches, AreChainEndsOf};
 ghost use Rattle.chain_index.specs.Inner.{Reaches};
 
 use crate::Memory;
@@ -36,7 +36,7 @@ where
         → F.post pass forms s behind made left
         → IfOk made (λ reaches. (length reaches.items ≡ s.size / 2)
         × AreReaches image.now s.address reaches.items) }
-    ensures { IfOk result (λ found. AreReachesOf image.now found.items) }
+    ensures { IfOk result (λ found. AreChainEndsOf image.now found.items) }
 {
     let mut left = code_sections(alloc, image)?;
     let mut found = Vec::new(alloc);

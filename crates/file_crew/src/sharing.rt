@@ -7,7 +7,7 @@ ghost use Rattle.cfg_model.specs.Program.Status.{Returns};
 ghost use Rattle.code_view.specs.FileCode.{program_of};
 ghost use Rattle.code_view.specs.Tables.{AreAllTables};
 ghost use Rattle.cfg_model.specs.Graph.Graph.{IsGraph};
-ghost use Rattle.chain_index.specs.Found.{AreReachesOf};
+ghost use Rattle.chain_index.specs.Found.{AreChainEndsOf};
 ghost use Rattle.reached_cuts.specs.Reach.{IsReachOf};
 ghost use Rattle.file_graph.specs.Survey.{IsFaultOf, IsSurveyOf};
 ghost use Rattle.file_crew.specs.Inner.{AnswersSeeds};
@@ -15,7 +15,7 @@ ghost use Rattle.file_crew.specs.Inner.{AnswersSeeds};
 use crate::Memory;
 use crate::measure::workers_worth;
 use cfg_model::{Graph, Outline};
-use chain_index::ChainReaches;
+use chain_index::ChainEnds;
 use code_tables::all_tables_by;
 use code_view::{AllTables, Code};
 use crew::{Gate, build};
@@ -50,10 +50,10 @@ pub fn survey_with<R: Threads + Sync>(
         || -> Result<Seeds, ElfError>
             ensures { AnswersSeeds image.entry.now result }
         { seeds(alloc, image) },
-        || -> Result<ChainReaches, Memory>
+        || -> Result<ChainEnds, Memory>
             requires { IsSync R.row × (1 ≤ workers) × (workers ≤ 64) }
-            ensures { IfOk result (AreReachesOf image.entry.now) }
-        { ChainReaches::new_by(rt, alloc, image, workers) },
+            ensures { IfOk result (AreChainEndsOf image.entry.now) }
+        { ChainEnds::new_by(rt, alloc, image, workers) },
     );
     let seeds = seeds?;
     match reaches {

@@ -1,6 +1,6 @@
 -- The survey of a file, and why there is none.
 use Rattle.std.specs.Prelude.{◌≡◌, ℕ, List, Some}
-use Rattle.chain_index.specs.Found.{AreReachesOf}
+use Rattle.chain_index.specs.Found.{AreChainEndsOf}
 use Rattle.elf_image.specs.declared.fault.ElfError.{ElfError}
 use Rattle.elf_image.specs.Faults.{first_fault}
 use Rattle.elf_image.specs.Outcome.{IfMalformed}
@@ -10,7 +10,7 @@ use Rattle.file_graph.specs.declared.survey.Survey.{Survey}
 -- The survey of a file: its seeds, and the reaches of its chains.
 pub record IsSurveyOf (bytes : List ℕ) (survey : Survey) : Type 0 where
   pub seeds : AreSeedsOf bytes survey.seeds
-  pub reaches : AreReachesOf bytes survey.reaches
+  pub reaches : AreChainEndsOf bytes survey.reaches
 
 -- The error names the first fault of these bytes, or it is want of memory.
 abbrev pub IsFaultOf : List ℕ → ElfError → Type 0

@@ -1,7 +1,7 @@
 //! The graph of a file, step by step.
 
 ghost use Rattle.std.specs.Prelude.{IfOk};
-ghost use Rattle.chain_index.specs.Found.{AreReachesOf};
+ghost use Rattle.chain_index.specs.Found.{AreChainEndsOf};
 ghost use Rattle.cfg_model.specs.Graph.Graph.{IsGraph};
 ghost use Rattle.cfg_model.specs.Program.Reach.{AreSeeds};
 ghost use Rattle.code_view.specs.FileCode.{program_of};
@@ -12,7 +12,7 @@ use crate::Memory;
 use crate::builder::Builder;
 use crate::cuts::{likely_cuts, other_cuts};
 use cfg_model::Graph;
-use chain_index::{ChainIndex, ChainReaches};
+use chain_index::{ChainEnds, ChainIndex};
 use code_view::{Code, Cuts};
 use elf_image::Image;
 use elf_symbols::Seeds;
@@ -28,11 +28,11 @@ pub fn graph_of<B: Builder>(
     alloc: Global,
     by: &B,
     image: &Image,
-    reaches: ChainReaches,
+    reaches: ChainEnds,
     seeds: &Seeds,
 ) -> Result<Graph, Memory>
     requires build { B.ready by.now }
-    requires reaches { AreReachesOf image.now reaches }
+    requires reaches { AreChainEndsOf image.now reaches }
     requires seeds { AreSeedsOf image.now seeds.now }
     ensures { IfOk result (IsGraphOf image.now) }
 {

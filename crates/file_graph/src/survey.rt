@@ -3,7 +3,7 @@
 ghost use Rattle.std.specs.Prelude.{IfOk, IfErr};
 ghost use Rattle.file_graph.specs.Survey.{IsFaultOf, IsSurveyOf};
 
-use chain_index::ChainReaches;
+use chain_index::ChainEnds;
 use elf_image::{ElfError, Image};
 use elf_symbols::{Seeds, seeds};
 use std::alloc::Global;
@@ -14,7 +14,7 @@ pub struct Survey {
     /// Where its control flow starts.
     pub seeds: Seeds,
     /// How far the chains of its code reach.
-    pub reaches: ChainReaches,
+    pub reaches: ChainEnds,
 }
 
 /// The survey of a file, made on the caller's thread.
@@ -25,7 +25,7 @@ pub(crate) fn make_survey(alloc: Global, image: &Image) -> Result<Survey, ElfErr
     ensures refused { IfErr result (IsFaultOf image.now) }
 {
     let seeds = seeds(alloc, image)?;
-    match ChainReaches::new(alloc, image) {
+    match ChainEnds::new(alloc, image) {
         Ok(reaches) => Ok(Survey { seeds, reaches }),
         Err(_) => Err(ElfError::Memory),
     }

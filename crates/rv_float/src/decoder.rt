@@ -37,7 +37,7 @@ pub fn decode_float(word: u32) -> Option<Insn>
 {
     match opcode(word) {
         LOAD_FP | STORE_FP => from_integer(word, matches!(funct3(word), 2 | 3)),
-        MADD | MSUB | NMSUB | NMADD => within(is_precise(word) && rounds(word)),
+        MADD | MSUB | NMSUB | NMADD => within(is_single_or_double(word) && rounds(word)),
         OP_FP => operation(word),
         _ => None,
     }
@@ -87,7 +87,7 @@ fn is_one_of_two(word: u32) -> bool
 }
 
 /// Whether a fused operation is of single or double precision.
-fn is_precise(word: u32) -> bool
+fn is_single_or_double(word: u32) -> bool
     ensures { result ≡ is_among (0 ∷ 1 ∷ []) (precision word) }
 {
     (word >> 25 & 0b11) <= 1

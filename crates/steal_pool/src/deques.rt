@@ -73,7 +73,7 @@ pub trait Deques {
 }
 
 /// The deque that comes `step` deques after number `own` of `count`; the first follows the last.
-fn turn(own: u32, step: u32, count: u32) -> u32
+fn next_deque(own: u32, step: u32, count: u32) -> u32
     requires own { own < count }
     requires step { step < count }
     ensures { result ≡ (own + step) % count }
@@ -103,7 +103,7 @@ pub fn first_of<E: Deques>(ends: &mut E, own: u32, count: u32) -> Round
 {
     let mut beaten = false;
     for step in 0..count {
-        match ends.try_end(turn(own, step, count)) {
+        match ends.try_end(next_deque(own, step, count)) {
             Tried::Got { name } => return Round::Got { name },
             Tried::Beaten => beaten = true,
             Tried::Empty => {}

@@ -3,7 +3,7 @@
 ghost use Rattle.std.specs.Prelude.{◌≡◌};
 
 use crate::asserts::{holds, same, same_at};
-use chain_index::{ChainIndex, ChainReaches, one_chain_end};
+use chain_index::{ChainEnds, ChainIndex, one_chain_end};
 use elf_image::{ElfError, Image};
 use rv_flow::{flow_of_bytes, raw_flow};
 use std::alloc::Global;
@@ -139,7 +139,7 @@ fn bounds_cut_evenly(rt: HostRuntime) -> Result<(), Fail> {
 fn more_workers(rt: HostRuntime) -> Result<(), Fail> {
     let image = image(rt.alloc(), 2)?;
     for workers in [1, 2, 64] {
-        let reaches = ChainReaches::new_by(&rt, rt.alloc(), &image, workers)?;
+        let reaches = ChainEnds::new_by(&rt, rt.alloc(), &image, workers)?;
         let index = ChainIndex::of(&image, reaches);
         expect_ends(&rt, &image, &index, CASES.as_slice());
     }
@@ -184,7 +184,7 @@ fn long_run(alloc: Global) -> Result<Image, ElfError> {
 fn long_run_in_stretches(rt: HostRuntime) -> Result<(), Fail> {
     let image = long_run(rt.alloc())?;
     for workers in [1, 2, 3, 4, 7, 64] {
-        let reaches = ChainReaches::new_by(&rt, rt.alloc(), &image, workers)?;
+        let reaches = ChainEnds::new_by(&rt, rt.alloc(), &image, workers)?;
         let index = ChainIndex::of(&image, reaches);
         for i in 0..75_016u64 {
             let a = 0x20000 + 2 * i;

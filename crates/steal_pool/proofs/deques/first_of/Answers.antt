@@ -16,18 +16,18 @@ loop-step-preserved g c =
     elim c.match-try_end.branch [
       | in-Beaten w ↦
           let e = w.in-Beaten.ensures in
-          let b : Brings E.try_made E.size E.empties E.beaten E.got c.args.own c.args.count c.args.ends.now c.turn.result mid tried.Beaten now =
+          let b : Brings E.try_made E.size E.empties E.beaten E.got c.args.own c.args.count c.args.ends.now c.next_deque.result mid tried.Beaten now =
           record { made = e.made; sized = e.size; gets = e.got; cause = e.cause; empties_last = e.empties; beaten_last = e.beaten } in
           subst (λ b. SoFar E.try_made E.size E.empties E.beaten E.got c.args.own c.args.count c.args.ends.now now (step + 1) b) (sym w.beaten-is)
           (after_beaten E.try_made E.size E.empties E.beaten E.got _ _ _ (omega (arith, c.requires.own)) mid now step c.loop-step.beaten c.loop-step.invariant
-          (subst (λ i. Brings E.try_made E.size E.empties E.beaten E.got c.args.own c.args.count c.args.ends.now i mid tried.Beaten now) c.turn.ensures b))
+          (subst (λ i. Brings E.try_made E.size E.empties E.beaten E.got c.args.own c.args.count c.args.ends.now i mid tried.Beaten now) c.next_deque.ensures b))
       | in-Empty w ↦
           let e = w.in-Empty.ensures in
-          let b : Brings E.try_made E.size E.empties E.beaten E.got c.args.own c.args.count c.args.ends.now c.turn.result mid tried.Empty now =
+          let b : Brings E.try_made E.size E.empties E.beaten E.got c.args.own c.args.count c.args.ends.now c.next_deque.result mid tried.Empty now =
           record { made = e.made; sized = e.size; gets = e.got; cause = e.cause; empties_last = e.empties; beaten_last = e.beaten } in
           subst (λ b. SoFar E.try_made E.size E.empties E.beaten E.got c.args.own c.args.count c.args.ends.now now (step + 1) b) (sym w.beaten-is)
           (after_empty E.try_made E.size E.empties E.beaten E.got _ _ _ mid now step c.loop-step.beaten c.loop-step.invariant
-          (subst (λ i. Brings E.try_made E.size E.empties E.beaten E.got c.args.own c.args.count c.args.ends.now i mid tried.Empty now) c.turn.ensures b))
+          (subst (λ i. Brings E.try_made E.size E.empties E.beaten E.got c.args.own c.args.count c.args.ends.now i mid tried.Empty now) c.next_deque.ensures b))
     ]
 
 pub returns-else-beaten-clause-cause : goal.returns-else-beaten-clause-cause

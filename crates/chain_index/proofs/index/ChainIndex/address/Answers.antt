@@ -1,7 +1,7 @@
 use Rattle.std.proofs.Common.{◌≡◌, ℕ, ◌+◌, ◌-◌, ◌*◌, ◌<◌, ◌≤◌, ◌^◌, List, length, true, sym, ap, ◌∙◌, subst, arith}
 use Rattle.elf_image.specs.Code.{is_code}
 use Rattle.chain_index.specs.declared.lookup.SectionReaches.{SectionReaches}
-use Rattle.chain_index.specs.Found.{AreReachesOf}
+use Rattle.chain_index.specs.Found.{AreChainEndsOf}
 use Rattle.chain_index.specs.Numbers.{codes_below}
 use Rattle.chain_index.specs.Inner.{IsCountAbove}
 use Rattle.chain_index.proofs.Looking.{look_within}
@@ -25,7 +25,7 @@ module _ (c : After-count_above_number) (a : ℕ) (code : is_code c.args.self.no
 
   counted : IsCountAbove found a c.count_above_number.result
   counted = subst (λ xs. IsCountAbove xs a c.count_above_number.result) c.deref.ensures.value
-      (c.count_above_number.ensures bytes a (subst (AreReachesOf bytes) (sym c.deref.ensures.value) c.self.invariant.0) c.self.invariant.1 code_here is_here)
+      (c.count_above_number.ensures bytes a (subst (AreChainEndsOf bytes) (sym c.deref.ensures.value) c.self.invariant.0) c.self.invariant.1 code_here is_here)
 
 pub index-s-requires : goal.index-s-requires
 index-s-requires c =
