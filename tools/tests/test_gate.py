@@ -117,18 +117,27 @@ class GateTimes(unittest.TestCase):
         self.assertEqual((status, said), (2, "gate_times: the gate of this kit takes no crates\n"))
 
 
-# Refuses each edit but one, with an edit that cannot be read, and keeps what it was asked.
+# Refuses each edit but one, with an edit that cannot be read, and keeps what it was asked. If it is told to, it tries nothing
+# before it is run for two crates at once.
 RT_EDITS = """#!/bin/sh
 top=$(dirname "$0")
 echo "$(basename "$PWD") $*" >>"$top/asked"
 case $1 in
     version) echo "kit 1" ;;
     must-fail)
+        touch "$top/begun-$2"
+        if [ "$TWO" ]; then
+            for _ in $(seq 50); do
+                [ "$(ls "$top" | grep -c ^begun-)" -ge 2 ] && break
+                sleep 0.1
+            done
+            [ "$(ls "$top" | grep -c ^begun-)" -ge 2 ] || exit 1
+        fi
         for edit in crates/$2/must-fail/*; do
             name=$(basename "$edit")
             case $name in
                 more-weak.edit) echo "rt: must-fail $2/$name: NOT REFUSED: the crate is still proved with this edit" ;;
-                more-lost.edit) ;;
+                lost.edit) ;;
                 *) echo "rt: must-fail $2/$name: refused, as it must be: fn x" ;;
             esac
         done
@@ -158,16 +167,16 @@ class TryEdits(unittest.TestCase):
         file.parent.mkdir(parents=True, exist_ok=True)
         file.write_text(text)
 
-    def edits(self, *words: str) -> "subprocess.CompletedProcess[str]":
+    def edits(self, *words: str, **more: str) -> "subprocess.CompletedProcess[str]":
         command = [sys.executable, str(self.top / "tools" / "maintain" / "try_edits"), "--results", str(self.top / "kept"), *words]
         path = f"{self.top}{os.pathsep}{os.environ['PATH']}"
-        return subprocess.run(command, env=dict(os.environ, PATH=path), capture_output=True, text=True)
+        return subprocess.run(command, env=dict(os.environ, PATH=path, **more), capture_output=True, text=True)
 
     def tried(self) -> List[str]:
-        """The crates whose edits were tried since the last call."""
+        """The crates whose edits were tried since the last call, in the order of their names."""
         asked = (self.top / "asked").read_text() if (self.top / "asked").exists() else ""
         (self.top / "asked").write_text("")
-        return re.findall("must-fail (.*)", asked)
+        return sorted(re.findall("must-fail (.*)", asked))
 
     def test_all_edits_and_what_is_not_refused(self) -> None:
         done = self.edits()
@@ -177,7 +186,30 @@ class TryEdits(unittest.TestCase):
             "high/more-edits/weak.edit: NOT REFUSED: the crate is still proved with this edit",
             "3 refused, 2 not",
         ])
-        self.assertEqual(self.tried(), ["low", "high", "apart"])
+        self.assertEqual(self.tried(), ["apart", "high", "low"])
+
+    def test_crates_side_by_side(self) -> None:
+        done = self.edits("--jobs", "2", "low", "apart", TWO="1")
+        self.assertEqual((done.returncode, done.stdout.splitlines()[-1]), (0, "2 refused, 0 not"))
+        for it in self.top.glob("begun-*"):
+            it.unlink()
+        (self.top / "crates" / "low" / "src" / "lib.rt").write_text("changed")
+        done = self.edits("--jobs", "1", "low", TWO="1")
+        self.assertEqual((done.returncode, done.stdout.splitlines()[-1]), (1, "0 refused, 1 not"))
+        for word in ("0", "-1", "many"):
+            self.assertEqual(self.edits("--jobs", word).returncode, 2)
+
+    def test_a_library_is_built_once(self) -> None:
+        self.write("crates.txt", "low: clap\nhigh may_wait=1: low\napart: low\nnone:\n")
+        self.edits()
+        self.assertEqual(re.findall("(.*) lib", (self.top / "asked").read_text()), ["low"])
+
+    def test_an_edit_that_moves_has_not_changed(self) -> None:
+        self.edits("apart")
+        self.tried()
+        (self.top / "crates" / "apart" / "must-fail").mkdir()
+        (self.top / "crates" / "apart" / "more-edits" / "far.edit").rename(self.top / "crates" / "apart" / "must-fail" / "far.edit")
+        self.assertEqual((self.edits("apart").returncode, self.tried()), (0, []))
 
     def test_it_goes_on_where_it_stopped(self) -> None:
         self.edits("low")
@@ -214,7 +246,7 @@ class TryEdits(unittest.TestCase):
         edits.put_copy(str(room), str(self.top), edits.edits_of(str(self.top), "high"), uses)
         found = sorted(str(it.relative_to(room)) for it in room.rglob("*") if it.is_file())
         self.assertEqual(found, [
-            "HANDLES", "crates.txt", "crates/high/must-fail/more-lost.edit", "crates/high/must-fail/more-weak.edit",
+            "HANDLES", "crates.txt", "crates/high/must-fail/lost.edit", "crates/high/must-fail/more-weak.edit",
             "crates/high/must-fail/weak.edit", "crates/high/src/lib.rt", "crates/low/out/rlib/stamp", "crates/low/src/lib.rt"])
         self.assertEqual((room / "crates.txt").read_text(), "low: clap\nhigh may_wait=1: low\n")
 

@@ -13,8 +13,8 @@ use Rattle.cfg_model.proofs.Graphs.OneBlock.{one_last, straight_once, not_both}
 use Rattle.cert_text.specs.declared.lines.LeadLine.{LeadLine}
 use Rattle.cert_laws.specs.Lines.{IsLead}
 use Rattle.cert_laws.proofs.Member.{has_or_not}
-use Rattle.cert_places.specs.Places.{AreLeads, IsPlace}
-use Rattle.cert_places.proofs.Placed.{lead_at, one_address, one_place, place_of_lead, placed_before}
+use Rattle.cert_ends.specs.Places.{AreLeads, IsPlace}
+use Rattle.cert_ends.proofs.Placed.{lead_at, one_address, one_place, place_of_lead, placed_before}
 use Rattle.cert_check.specs.declared.blocks.Run.{Run}
 use Rattle.cert_check.specs.Inner.Blocks.{AreOwned, AreRuns, GoesInto, IsRun, LiesIn}
 use Rattle.cert_check.specs.Inner.Jumps.{IsForest, LeadsAlong, into_of}

@@ -12,8 +12,8 @@ use Rattle.cert_text.specs.declared.lines.LeadLine.{LeadLine}
 use Rattle.cert_text.specs.declared.certificate.Part.{Part}
 use Rattle.cert_laws.specs.Lines.{IsLead, IsReturn}
 use Rattle.cert_laws.specs.Valid.{LeadsAreClosed}
-use Rattle.cert_places.specs.Places.{AreLeads, IsPlace}
-use Rattle.cert_places.proofs.Placed.{lead_at, lead_known, place_at, place_of_lead}
+use Rattle.cert_ends.specs.Places.{AreLeads, IsPlace}
+use Rattle.cert_ends.proofs.Placed.{lead_at, lead_known, place_at, place_of_lead}
 use Rattle.cert_check.specs.declared.blocks.Blocks.{Blocks}
 use Rattle.cert_check.specs.Inner.Blocks.{AreBlocks, AreOwned, owner_by}
 use Rattle.cert_check.specs.Inner.Ways.{AreWays, IsWay}

@@ -8,3 +8,5 @@ pub mod Searched
 pub mod Decided
 pub mod Outlined
 pub mod Entered
+pub mod TablesFound
+pub mod Checked

@@ -32,8 +32,8 @@ use Rattle.cert_laws.specs.Ways.{EndsIn}
 use Rattle.cert_laws.specs.Valid.{IsValid}
 use Rattle.cert_laws.specs.Shown.{ShowsLines}
 use Rattle.cert_laws.proofs.ShowsGraph.{call_ends, valid_shows_graph}
-use Rattle.cert_places.specs.Places.{AreLeads, ReturnsRise}
-use Rattle.cert_places.proofs.Placed.{lead_at, lead_known, no_lead, one_address, place_at, place_of_lead, part_leads, part_returns}
+use Rattle.cert_ends.specs.Places.{AreLeads, ReturnsRise}
+use Rattle.cert_ends.proofs.Placed.{lead_at, lead_known, no_lead, one_address, place_at, place_of_lead, part_leads, part_returns}
 use Rattle.cert_check.specs.declared.blocks.Run.{Run}
 use Rattle.cert_check.specs.Inner.Blocks.{AreRuns, IsRun}
 use Rattle.cert_check.specs.Inner.Outlined.{AreMade, AreOutlined}

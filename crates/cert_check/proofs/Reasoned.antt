@@ -13,8 +13,8 @@ use Rattle.cert_text.specs.declared.lines.LeadLine.{LeadLine}
 use Rattle.cert_laws.specs.Lines.{IsLead, IsLeadBelow, IsReturn}
 use Rattle.cert_laws.specs.Ways.{EndsIn, LeadsOn}
 use Rattle.cert_laws.specs.Valid.{ComesFrom, GoesOnFrom}
-use Rattle.cert_places.specs.Places.{IsPlace}
-use Rattle.cert_places.proofs.Placed.{lead_at, lead_known, place_of_lead}
+use Rattle.cert_ends.specs.Places.{IsPlace}
+use Rattle.cert_ends.proofs.Placed.{lead_at, lead_known, place_of_lead}
 use Rattle.cert_check.specs.declared.leads.Reasons.{Reasons}
 use Rattle.cert_check.specs.Inner.Blocks.{LiesIn, owner_by}
 use Rattle.cert_check.specs.Inner.Jumps.{LeadsAlong}

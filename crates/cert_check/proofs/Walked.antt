@@ -13,9 +13,9 @@ use Rattle.cfg_model.proofs.Graphs.OneBlock.{straight_once, not_both}
 use Rattle.cert_text.specs.declared.lines.LeadLine.{LeadLine}
 use Rattle.cert_laws.specs.Lines.{IsLead}
 use Rattle.cert_laws.specs.Valid.{BlocksAreApart}
-use Rattle.cert_places.specs.Places.{AreLeads, IsPlace, LeadsRise}
+use Rattle.cert_ends.specs.Places.{AreLeads, IsPlace, LeadsRise}
 use Rattle.cert_check.specs.Inner.Blocks.{AreOwned, GoesInto, IsClaimed, IsRun, LiesIn}
-use Rattle.cert_places.proofs.Placed.{lead_at, lead_known, no_lead, one_address, place_at, place_of_lead, places_rise}
+use Rattle.cert_ends.proofs.Placed.{lead_at, lead_known, no_lead, one_address, place_at, place_of_lead, places_rise}
 
 abbrev pub Owner : Type 0
 Owner = ℕ → Option ℕ

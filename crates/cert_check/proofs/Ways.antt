@@ -21,8 +21,8 @@ use Rattle.cert_text.specs.declared.lines.ReturnLine.{ReturnLine}
 use Rattle.cert_text.specs.declared.lines.LeadLine.{LeadLine}
 use Rattle.cert_laws.specs.Lines.{IsLead, IsReturn}
 use Rattle.cert_laws.specs.Ways.{EndsIn, LeadsOn}
-use Rattle.cert_places.specs.Places.{IsPlace}
-use Rattle.cert_places.proofs.Placed.{lead_at, no_lead, one_address, place_at, place_of_lead}
+use Rattle.cert_ends.specs.Places.{IsPlace}
+use Rattle.cert_ends.proofs.Placed.{lead_at, no_lead, one_address, place_at, place_of_lead}
 use Rattle.cert_check.specs.declared.blocks.Run.{Run}
 use Rattle.cert_check.specs.Inner.Blocks.{AreRuns, IsRun}
 use Rattle.cert_check.specs.Inner.Ways.{IsWay}

@@ -3,17 +3,17 @@
 ghost use Rattle.std.specs.Prelude.{◌≡◌, ◌↔◌, ◌+◌, ◌<◌, ◌^◌, IfOk, IsTrue, MatchOption, Some, length};
 ghost use Rattle.cfg_model.specs.declared.flow.Flow.TheVariants.{Straight};
 ghost use Rattle.cfg_model.specs.Program.Chain.{EndsChain};
-ghost use Rattle.reached_terms.specs.Numbering.{IsNumbering};
+ghost use Rattle.numbered.specs.Numbering.{IsNumbering};
 ghost use Rattle.cert_laws.specs.Lines.{IsLead};
 ghost use Rattle.cert_laws.specs.Valid.{BlocksAreApart};
-ghost use Rattle.cert_places.specs.Places.{AreLeads, IsPlace};
+ghost use Rattle.cert_ends.specs.Places.{AreLeads, IsPlace};
 ghost use Rattle.cert_check.specs.Inner.Blocks.{AreBlocks, AreOwned, IsRun, owner_by};
 
 use crate::owners::Owners;
-use cert_places::place_from;
+use cert_ends::place_from;
 use cert_text::{LeadLine, Part};
 use cfg_model::{Flow, Memory};
-use reached_terms::Numbered;
+use numbered::Numbered;
 use std::alloc::Global;
 
 /// The block of a leader, which is cut before the next leader on its chain.

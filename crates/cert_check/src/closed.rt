@@ -3,14 +3,14 @@
 ghost use Rattle.std.specs.Prelude.{◌↔◌, IsTrue};
 ghost use Rattle.cfg_model.specs.Program.Instructions.{IsLawful};
 ghost use Rattle.cert_laws.specs.Valid.{LeadsAreClosed};
-ghost use Rattle.cert_places.specs.Places.{AreLeads};
+ghost use Rattle.cert_ends.specs.Places.{AreLeads};
 ghost use Rattle.cert_check.specs.Inner.Blocks.{AreBlocks};
 ghost use Rattle.cert_check.specs.Inner.Ways.{AreWays};
 
 use crate::blocks::Blocks;
 use cert_text::Part;
 use cfg_model::Edge;
-use reached_terms::Numbered;
+use numbered::Numbered;
 
 /// Whether no leader is missing to which one of the ends of the listed leaders leads: whether each
 /// edge from their blocks leads to one. So no end is looked at again.

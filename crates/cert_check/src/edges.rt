@@ -8,15 +8,15 @@ ghost use Rattle.cfg_model.specs.Program.Successors.{IsCall};
 ghost use Rattle.cfg_model.specs.Program.Instructions.{IsLawful, flow_at};
 ghost use Rattle.cert_laws.specs.Lines.{IsReturn};
 ghost use Rattle.cert_laws.specs.Ways.{EndsIn};
-ghost use Rattle.cert_places.specs.Places.{AreLeads, AreNumbered};
+ghost use Rattle.cert_ends.specs.Places.{AreLeads, AreNumbered};
 ghost use Rattle.cert_check.specs.Inner.Blocks.{AreRuns};
 ghost use Rattle.cert_check.specs.Inner.Ways.{AreWays, HasEdge, comes_before};
 
 use crate::blocks::Run;
-use cert_places::NumberedReturns;
+use cert_ends::NumberedReturns;
 use cert_text::LeadLine;
 use cfg_model::{Edge, Flow, Memory, add_edges_by, edges_in_order};
-use reached_terms::Numbered;
+use numbered::Numbered;
 use std::alloc::Global;
 
 /// The edges from the blocks of these leaders, in the order of a graph. A call returns if its target

@@ -8,14 +8,14 @@ ghost use Rattle.outline_funcs.specs.Listed.{AreOrdered, HaveEachEntry};
 ghost use Rattle.cert_laws.specs.Lines.{IsReturn};
 ghost use Rattle.cert_laws.specs.Ways.{EndsIn};
 ghost use Rattle.cert_laws.specs.Valid.{IsValid};
-ghost use Rattle.cert_places.specs.Places.{ReturnsRise};
+ghost use Rattle.cert_ends.specs.Places.{ReturnsRise};
 
 use crate::part::{know_laws, outline_of_part};
-use cert_places::is_return;
+use cert_ends::is_return;
 use cert_text::{Part, ReturnLine};
 use cfg_model::{Chains, Functions, Graph, Memory, Outline};
+use numbered::Numbered;
 use outline_funcs::{functions_among, mark_tails};
-use reached_terms::Numbered;
 use std::alloc::Global;
 
 /// The graph of the program `code`, whose seeds are these, if the part of a certificate is valid for

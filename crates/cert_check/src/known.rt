@@ -3,9 +3,9 @@
 ghost use Rattle.std.specs.Prelude.{◌↔◌, All, IsSome, IsTrue};
 ghost use Rattle.cert_laws.specs.Lines.{IsLead};
 ghost use Rattle.cert_laws.specs.Valid.{AreInCode};
-ghost use Rattle.cert_places.specs.Places.{LeadsRise};
+ghost use Rattle.cert_ends.specs.Places.{LeadsRise};
 
-use cert_places::is_lead;
+use cert_ends::is_lead;
 use cert_text::{LeadLine, Part, ReturnLine};
 use cfg_model::Chains;
 

@@ -13,7 +13,7 @@ use crate::edges::has_edge;
 use crate::jumps::{Jump, leads_along};
 use cert_text::{LeadLine, LeadWhy, Part};
 use cfg_model::{Edge, Flow};
-use reached_terms::Numbered;
+use numbered::Numbered;
 
 /// What the reasons of leaders are tested by.
 #[derive(Clone, Copy)]

@@ -1,5 +1,7 @@
-//! The checker of certificates: whether a part of a certificate is valid for a program. It stands on
-//! no crate that builds a graph.
+//! The checker of certificates: whether a part of a certificate is valid for a program, and the graph
+//! of a file from a certificate of it, whoever made that. It stands on no crate that builds a graph.
+//!
+//! Over any program whose addresses are numbered:
 //!
 //! - [`part`]: whether a part is valid, and the blocks and edges that a valid one tells.
 //! - [`graph`]: the whole graph that a valid part tells.
@@ -9,20 +11,33 @@
 //! - `closed`: whether a leader is missing that a block leads to.
 //! - `jumps`: which blocks come after which.
 //! - `leads`: the reasons of the leaders.
+//!
+//! Of a file:
+//!
+//! - [`check`]: whether a certificate of a file is valid, and then the graph of the file.
+//! - `tables`: the jump tables that its first part reaches, and how they cut one another.
+//! - `last_part`: the graph that its last part tells.
+//! - `error`: why there is no graph.
 #![tactic(auto)]
 
 mod blocks;
+mod checker;
 mod closed;
 mod edges;
+mod error;
 pub mod graph;
 mod jumps;
 pub mod known;
+mod last_part;
 mod leads;
 mod outline;
 mod owners;
 pub mod part;
+mod tables;
 
 pub use cfg_model::Memory;
+pub use checker::check;
+pub use error::CheckError;
 pub use graph::{graph_of_outline, graph_of_part};
 pub use known::{are_in_code, seeds_lead};
 pub use part::{outline_of_part, part_is_valid};

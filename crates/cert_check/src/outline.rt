@@ -1,7 +1,7 @@
 //! The blocks of a graph, from the leaders of a part and where their blocks end.
 
 ghost use Rattle.std.specs.Prelude.{IfOk, length};
-ghost use Rattle.cert_places.specs.Places.{AreLeads};
+ghost use Rattle.cert_ends.specs.Places.{AreLeads};
 ghost use Rattle.cert_check.specs.Inner.Blocks.{AreRuns};
 ghost use Rattle.cert_check.specs.Inner.Outlined.{AreMade};
 

@@ -1,11 +1,11 @@
 //! Whose block each address of a program lies in.
 
 ghost use Rattle.std.specs.Prelude.{◌≡◌, ◌<◌, ℕ, IfOk, IsSome, MatchBool, length, None};
-ghost use Rattle.reached_terms.specs.Numbering.{IsNumbering};
+ghost use Rattle.numbered.specs.Numbering.{IsNumbering};
 ghost use Rattle.cert_check.specs.Inner.Blocks.{IsClaimed, owner_by};
 
 use cfg_model::Memory;
-use reached_terms::Numbered;
+use numbered::Numbered;
 use std::alloc::Global;
 
 /// For each address of a program, the place of the leader whose block it lies in.

@@ -4,7 +4,7 @@ ghost use Rattle.std.specs.Prelude.{◌≡◌, ◌↔◌, ℕ, All, Contains, If
 ghost use Rattle.std.specs.List.Sorted.{IsStrictlyIncreasing};
 ghost use Rattle.cfg_model.specs.Program.Instructions.{IsLawful};
 ghost use Rattle.cert_laws.specs.Valid.{AreInCode, BlocksAreApart, IsValid, LeadsBy};
-ghost use Rattle.cert_places.specs.Places.{AreLeads, AreNumbered, LeadsRise, ReturnsRise};
+ghost use Rattle.cert_ends.specs.Places.{AreLeads, AreNumbered, LeadsRise, ReturnsRise};
 ghost use Rattle.cert_check.specs.Inner.Blocks.{AreBlocks};
 ghost use Rattle.cert_check.specs.Inner.Right.{AreFormed, EndsAreRight, HaveReasons};
 ghost use Rattle.cert_check.specs.Inner.Right.{LeadersAreRight, LeadsAreRight};
@@ -19,11 +19,12 @@ use crate::jumps::jumps_of;
 use crate::known::{are_in_code, seeds_lead};
 use crate::leads::{Reasons, leads_have_reasons};
 use crate::outline::blocks_made;
-use cert_ends::{ends_of, returns_are_closed, returns_end, returns_have_reasons};
-use cert_places::{NumberedReturns, part_rises};
+use cert_ends::{
+    NumberedReturns, ends_of, part_rises, returns_are_closed, returns_end, returns_have_reasons,
+};
 use cert_text::Part;
 use cfg_model::{Chains, Edge, Edges, Memory, Outline};
-use reached_terms::Numbered;
+use numbered::Numbered;
 use std::alloc::Global;
 
 /// Whether a part of a certificate is valid for the program `code`, whose seeds are these: each line

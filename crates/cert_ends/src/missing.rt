@@ -5,15 +5,15 @@ ghost use Rattle.std.specs.List.Sorted.{IsStrictlyIncreasing};
 ghost use Rattle.cert_laws.specs.Lines.{IsReturn};
 ghost use Rattle.cert_laws.specs.Valid.{ReturnsAreClosed};
 ghost use Rattle.cert_laws.specs.Ways.{EndsIn};
-ghost use Rattle.cert_places.specs.Places.{AreNumbered};
+ghost use Rattle.cert_ends.specs.Places.{AreNumbered};
 ghost use Rattle.cert_ends.specs.Ends.{AreEnds, ReturnsEnd};
 ghost use Rattle.cert_ends.specs.Inner.{ReturnIsListed};
 
+use crate::numbered_returns::NumberedReturns;
 use crate::ways::{ends_in, find_successors, returns_by_both, returns_by_itself};
-use cert_places::NumberedReturns;
 use cert_text::Part;
 use cfg_model::{Chains, Memory};
-use reached_terms::Numbered;
+use numbered::Numbered;
 use std::alloc::Global;
 
 /// Whether each listed return is one of the ends of the listed leaders. The program itself is not

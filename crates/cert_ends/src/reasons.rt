@@ -6,14 +6,14 @@ ghost use Rattle.cfg_model.specs.Program.Successors.{IsSuccessor};
 ghost use Rattle.cert_laws.specs.Lines.{IsReturnBelow};
 ghost use Rattle.cert_laws.specs.Valid.{AreInCode};
 ghost use Rattle.cert_laws.specs.Ways.{EndsIn, ReturnsBy};
-ghost use Rattle.cert_places.specs.Places.{AreNumbered};
+ghost use Rattle.cert_ends.specs.Places.{AreNumbered};
 ghost use Rattle.cert_ends.specs.Ends.{ReturnsHaveReasons};
 
+use crate::numbered_returns::NumberedReturns;
 use crate::ways::{ends_in, find_successors, returns_by_both, returns_by_itself};
-use cert_places::NumberedReturns;
 use cert_text::{Part, ReturnLine, ReturnWhy};
 use cfg_model::Memory;
-use reached_terms::Numbered;
+use numbered::Numbered;
 use std::alloc::Global;
 
 /// Whether each listed return has its reason, by returns of lower rank. [`Memory`] if memory ran

@@ -4,12 +4,12 @@ ghost use Rattle.std.specs.Prelude.{◌≡◌, ◌↔◌, ◌++◌, IsSome, IsTr
 ghost use Rattle.cfg_model.specs.Program.Instructions.{IsLawful, flow_at};
 ghost use Rattle.cfg_model.specs.Program.Successors.{LeavesFunction, successors_of};
 ghost use Rattle.cert_laws.specs.Ways.{EndsIn, ReturnsByBoth};
-ghost use Rattle.cert_places.specs.Places.{AreNumbered};
+ghost use Rattle.cert_ends.specs.Places.{AreNumbered};
 ghost use Rattle.cert_ends.specs.Inner.{IsReturnUnder};
 
-use cert_places::NumberedReturns;
+use crate::numbered_returns::NumberedReturns;
 use cfg_model::{Chains, Flow, Memory};
-use reached_terms::Numbered;
+use numbered::Numbered;
 
 /// Puts the successors of the instruction at `k`, whose flow this is, in place of the items of
 /// `successors`.

@@ -13,8 +13,8 @@ use Rattle.cfg_model.proofs.Graphs.LeaderFacts.{has_length}
 use Rattle.cert_text.specs.declared.lines.LeadLine.{LeadLine}
 use Rattle.cert_laws.specs.Lines.{IsLead}
 use Rattle.cert_laws.proofs.Member.{has_or_not}
-use Rattle.cert_places.specs.Places.{AreLeads, IsPlace}
-use Rattle.cert_places.proofs.Placed.{lead_at, one_address, one_place, place_of_lead, placed_before}
+use Rattle.cert_ends.specs.Places.{AreLeads, IsPlace}
+use Rattle.cert_ends.proofs.Placed.{lead_at, one_address, one_place, place_of_lead, placed_before}
 use Rattle.cert_make.specs.Reason.{MeetsBy}
 use Rattle.cert_make.specs.declared.runs.Run.{Run}
 use Rattle.cert_make.specs.Inner.Runs.{AreRuns, GoesInto, IsRun, IsUpstream, LeadsAlong, run_at}

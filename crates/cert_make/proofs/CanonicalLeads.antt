@@ -16,9 +16,9 @@ use Rattle.cfg_model.proofs.Program.ChainEnds.{one_end}
 use Rattle.cfg_model.proofs.Graphs.LeaderFacts.{reached_along}
 use Rattle.cert_ends.proofs.ListedEnds.{terminator_stands}
 use Rattle.cert_laws.specs.Lines.{IsLead, IsReturn}
-use Rattle.cert_places.specs.Places.{LeadsRise}
-use Rattle.cert_places.proofs.Adjacent.{rise_on}
-use Rattle.cert_places.proofs.Placed.{no_lead}
+use Rattle.cert_ends.specs.Places.{LeadsRise}
+use Rattle.cert_ends.proofs.Adjacent.{rise_on}
+use Rattle.cert_ends.proofs.Placed.{no_lead}
 use Rattle.cert_make.specs.Canonical.{IsLeadLine, ListsLines, ReturnsReached}
 use Rattle.cert_make.specs.Inner.Offers.{TellCall}
 use Rattle.cert_make.specs.Inner.Settled.{AreLeadsSettledBy, ListAllLeaders}

@@ -9,9 +9,9 @@ use Rattle.cfg_model.specs.Program.Instructions.{InstructionMap}
 use Rattle.cfg_model.specs.Program.Chain.{IsTerminator}
 use Rattle.cert_ends.proofs.ListedEnds.{terminator_stands}
 use Rattle.cert_laws.specs.Lines.{IsReturn}
-use Rattle.cert_places.specs.Places.{ReturnsRise}
-use Rattle.cert_places.proofs.Adjacent.{rise_on}
-use Rattle.cert_places.proofs.Placed.{no_return}
+use Rattle.cert_ends.specs.Places.{ReturnsRise}
+use Rattle.cert_ends.proofs.Adjacent.{rise_on}
+use Rattle.cert_ends.proofs.Placed.{no_return}
 use Rattle.cert_make.specs.Canonical.{IsReturnLine, ListsLines, ReturnsReached}
 use Rattle.cert_make.specs.Inner.Returns.{AreSettledBy, ListAllReturns}
 use Rattle.cert_make.proofs.Rows.{at_of}

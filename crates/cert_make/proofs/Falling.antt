@@ -9,8 +9,8 @@ use Rattle.cfg_model.proofs.Program.Code.{flow_stands}
 use Rattle.cfg_model.proofs.Graphs.LeaderFacts.{has_length}
 use Rattle.cert_text.specs.declared.lines.LeadLine.{LeadLine}
 use Rattle.cert_laws.specs.Lines.{IsLead}
-use Rattle.cert_places.specs.Places.{AreLeads, IsPlace}
-use Rattle.cert_places.proofs.Placed.{place_at, place_of_line, one_place}
+use Rattle.cert_ends.specs.Places.{AreLeads, IsPlace}
+use Rattle.cert_ends.proofs.Placed.{place_at, place_of_line, one_place}
 use Rattle.cert_make.specs.Reason.{MeetsBy}
 use Rattle.cert_make.specs.declared.fronts.Source.{Source}
 use Rattle.cert_make.specs.declared.runs.Run.{Run}

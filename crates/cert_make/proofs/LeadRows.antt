@@ -6,9 +6,9 @@ use Rattle.std.proofs.Math.ListN.{get_or-map}
 use Rattle.std.proofs.lemmas.List.Elements.{All-push}
 use Rattle.cert_text.specs.declared.lines.LeadLine.{LeadLine}
 use Rattle.cfg_model.specs.Program.Instructions.{InstructionMap}
-use Rattle.cert_places.specs.Places.{LeadsRise}
-use Rattle.cert_places.proofs.Adjacent.{rise_on, rise_next}
-use Rattle.cert_places.proofs.Placed.{no_lead}
+use Rattle.cert_ends.specs.Places.{LeadsRise}
+use Rattle.cert_ends.proofs.Adjacent.{rise_on, rise_next}
+use Rattle.cert_ends.proofs.Placed.{no_lead}
 use Rattle.cert_make.specs.Inner.Settled.{IsSettledLead, IsSettledLeadFor, AreLeadsSettledBy, LeadsHaveSameRanks}
 use Rattle.cert_make.proofs.ExactLeads.{lead_at_of}
 use Rattle.cert_make.proofs.Ranks.{leads_weaker}

@@ -7,7 +7,7 @@ use Rattle.cert_text.specs.declared.lines.LeadLine.{LeadLine}
 use Rattle.cert_text.specs.declared.lines.LeadWhy.{LeadWhy}
 use Rattle.cert_text.specs.declared.lines.LeadWhy.TheVariants.{Seed, From, Join}
 use Rattle.cert_laws.specs.Lines.{IsLeadBelow}
-use Rattle.cert_places.specs.Places.{IsPlace}
+use Rattle.cert_ends.specs.Places.{IsPlace}
 use Rattle.cert_make.specs.declared.firsts.Offer.{Offer}
 use Rattle.cert_make.specs.declared.joins.Meeting.{Meeting}
 use Rattle.cert_make.specs.Reason.{LeadsFor, MeetsBy}

@@ -10,7 +10,7 @@ use Rattle.cfg_model.specs.Program.Instructions.{InstructionMap}
 use Rattle.cfg_model.specs.Graph.Leader.{IsLeader}
 use Rattle.outline_funcs.proofs.Search.{one_by_key}
 use Rattle.cert_laws.specs.Lines.{IsLeadBelow}
-use Rattle.cert_places.specs.Places.{LeadsRise}
+use Rattle.cert_ends.specs.Places.{LeadsRise}
 use Rattle.cert_make.specs.Reason.{LeadsFor}
 use Rattle.cert_make.specs.Rank.{LeadsBelow}
 use Rattle.cert_make.specs.Inner.Settled.{AreLeadsSettledBy, HasNoLeadReason, IsSettledLead, LeadsHaveSameRanks, ListAllLeaders}

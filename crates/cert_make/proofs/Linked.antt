@@ -13,8 +13,8 @@ use Rattle.cert_text.specs.declared.lines.LeadLine.{LeadLine}
 use Rattle.cert_text.specs.declared.lines.ReturnLine.{ReturnLine}
 use Rattle.cert_laws.specs.Lines.{IsLead, IsLeadBelow}
 use Rattle.cert_ends.proofs.ListedEnds.{terminator_stands}
-use Rattle.cert_places.specs.Places.{IsPlace}
-use Rattle.cert_places.proofs.Placed.{no_lead}
+use Rattle.cert_ends.specs.Places.{IsPlace}
+use Rattle.cert_ends.proofs.Placed.{no_lead}
 use Rattle.cert_make.specs.declared.chain_ends.Ends.{Ends}
 use Rattle.cert_make.specs.declared.exits.Exit.{Exit}
 use Rattle.cert_make.specs.declared.firsts.Offer.{Offer}

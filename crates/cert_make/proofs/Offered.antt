@@ -4,7 +4,7 @@ use Rattle.std.specs.Prelude.{IfSome, MatchOption}
 use Rattle.std.proofs.lemmas.Bool.{cases_eq}
 use Rattle.std.proofs.lemmas.List.{get_or-set_same, get_or-set_other, length-set}
 use Rattle.cert_text.specs.declared.lines.LeadLine.{LeadLine}
-use Rattle.cert_places.proofs.Placed.{no_lead}
+use Rattle.cert_ends.proofs.Placed.{no_lead}
 use Rattle.cert_make.specs.declared.exits.Exit.{Exit}
 use Rattle.cert_make.specs.declared.firsts.Offer.{Offer}
 use Rattle.cert_make.specs.Inner.Returns.{IsNotAfter}

@@ -10,9 +10,9 @@ use Rattle.cfg_model.specs.Program.Reach.{AreSeeds}
 use Rattle.cfg_model.specs.Graph.Leader.{IsLeader}
 use Rattle.cfg_model.proofs.Graphs.Places.{reached_known}
 use Rattle.cert_laws.specs.Lines.{IsReturn}
-use Rattle.cert_places.specs.Places.{ReturnsRise}
-use Rattle.cert_places.proofs.Adjacent.{rise_on}
-use Rattle.cert_places.proofs.Placed.{no_return}
+use Rattle.cert_ends.specs.Places.{ReturnsRise}
+use Rattle.cert_ends.proofs.Adjacent.{rise_on}
+use Rattle.cert_ends.proofs.Placed.{no_return}
 use Rattle.cert_make.specs.Canonical.{IsReturnLine, IsLeadLine, ListsLines, ReturnsReached, IsCanonical}
 use Rattle.cert_make.proofs.Rows.{at_of}
 use Rattle.cert_make.proofs.ExactLeads.{lead_at_of}

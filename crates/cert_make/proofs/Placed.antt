@@ -7,7 +7,7 @@ use Rattle.std.proofs.lemmas.List.{get_or_default, get_or-set_same, get_or-set_o
 use Rattle.std.proofs.lemmas.List.Elements.{All-contains}
 use Rattle.std.proofs.lemmas.List.Kept.{AllPairs-from_increasing}
 use Rattle.cfg_model.specs.Program.Instructions.{InstructionMap}
-use Rattle.reached_terms.specs.Numbering.{IsNumbering}
+use Rattle.numbered.specs.Numbering.{IsNumbering}
 use Rattle.cert_make.specs.declared.places.Places.{Places}
 use Rattle.cert_make.specs.Inner.Places.{ArePlaced, IsAt, at}
 

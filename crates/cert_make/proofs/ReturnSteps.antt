@@ -16,8 +16,8 @@ use Rattle.cfg_model.proofs.Program.Along.{returns_along}
 use Rattle.cfg_model.proofs.Graphs.LeaderFacts.{reached_along}
 use Rattle.outline_funcs.proofs.Search.{one_by_key}
 use Rattle.cert_laws.specs.Lines.{IsReturnBelow}
-use Rattle.cert_places.specs.Places.{ReturnsRise}
-use Rattle.cert_places.proofs.Placed.{no_return}
+use Rattle.cert_ends.specs.Places.{ReturnsRise}
+use Rattle.cert_ends.proofs.Placed.{no_return}
 use Rattle.cert_make.specs.Reason.{EndCounts, ReturnsFor}
 use Rattle.cert_make.specs.Rank.{ReturnsBelow}
 use Rattle.cert_make.specs.Canonical.{ReturnsReached}

@@ -5,9 +5,9 @@ use Rattle.std.proofs.lemmas.List.{length-map, get_or_default}
 use Rattle.std.proofs.Math.ListN.{get_or-map}
 use Rattle.cert_text.specs.declared.lines.ReturnLine.{ReturnLine}
 use Rattle.cfg_model.specs.Program.Instructions.{InstructionMap}
-use Rattle.cert_places.specs.Places.{ReturnsRise}
-use Rattle.cert_places.proofs.Adjacent.{rise_on, rise_next}
-use Rattle.cert_places.proofs.Placed.{no_return}
+use Rattle.cert_ends.specs.Places.{ReturnsRise}
+use Rattle.cert_ends.proofs.Adjacent.{rise_on, rise_next}
+use Rattle.cert_ends.proofs.Placed.{no_return}
 use Rattle.cert_make.specs.Inner.Returns.{IsSettledReturn, AreSettledBy, HaveSameRanks}
 use Rattle.cert_make.proofs.Ranks.{returns_weaker}
 use Rattle.cert_laws.specs.Lines.{IsReturnBelow}

@@ -14,7 +14,7 @@ use Rattle.cfg_model.proofs.Program.ChainEnds.{one_end}
 use Rattle.cfg_model.proofs.Program.Listed.{none_in}
 use Rattle.outline_funcs.proofs.Search.{one_by_key}
 use Rattle.cert_laws.specs.Lines.{IsReturn, IsReturnBelow}
-use Rattle.cert_places.specs.Places.{ReturnsRise}
+use Rattle.cert_ends.specs.Places.{ReturnsRise}
 use Rattle.cert_make.specs.Reason.{ReturnsFor}
 use Rattle.cert_make.specs.First.{ReturnWhyBefore}
 use Rattle.cert_make.specs.Inner.Returns.{EndIsBelow, EndHasRank, EndHasNone, ComesAfter, HasNoReason, IsNotAfter, IsNearest, IsSettledReturn}

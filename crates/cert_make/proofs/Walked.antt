@@ -12,8 +12,8 @@ use Rattle.cfg_model.specs.Graph.Block.{RunsTo}
 use Rattle.cfg_model.proofs.Graphs.Runs.{run_step}
 use Rattle.cert_text.specs.declared.lines.LeadLine.{LeadLine}
 use Rattle.cert_laws.specs.Lines.{IsLead}
-use Rattle.cert_places.specs.Places.{IsPlace, LeadsRise}
-use Rattle.cert_places.proofs.Placed.{no_lead, place_at, place_of_lead, places_rise}
+use Rattle.cert_ends.specs.Places.{IsPlace, LeadsRise}
+use Rattle.cert_ends.proofs.Placed.{no_lead, place_at, place_of_lead, places_rise}
 use Rattle.cert_make.specs.Inner.Runs.{GoesInto, IsRun}
 
 -- the block of the leader at place i has come to `at`

@@ -6,17 +6,16 @@ ghost use Rattle.cfg_model.specs.Program.Instructions.{IsLawful, flow_at};
 ghost use Rattle.cfg_model.specs.Program.Chain.{IsTerminatorOf};
 ghost use Rattle.cfg_model.specs.Program.Status.{Returns};
 ghost use Rattle.cert_laws.specs.Lines.{IsReturn};
-ghost use Rattle.cert_places.specs.Places.{AreNumbered};
+ghost use Rattle.cert_ends.specs.Places.{AreNumbered};
 ghost use Rattle.cert_make.specs.Reason.{GoesTo};
 ghost use Rattle.cert_make.specs.Inner.Ends.{AreExits, IsExitOf};
 ghost use Rattle.cert_make.specs.Inner.Offers.{TellCall};
 ghost use Rattle.cert_make.specs.Inner.Places.{ArePlaced};
 
 use crate::places::Places;
-use cert_ends::find_successors;
-use cert_places::NumberedReturns;
+use cert_ends::{NumberedReturns, find_successors};
 use cfg_model::{Flow, Memory};
-use reached_terms::Numbered;
+use numbered::Numbered;
 use std::alloc::Global;
 
 /// A way from the end of chains to a leader.

@@ -6,7 +6,7 @@
 ghost use Rattle.std.specs.Prelude.{◌≡◌, ◌≢◌, ◌⊎◌, ◌+◌, ◌<◌, ℕ, List, [], All, Contains, IfOk, IsSome};
 ghost use Rattle.std.specs.Prelude.{◌↔◌, IsTrue, MatchOption, OnOk, Some, length, slice_index_or};
 ghost use Rattle.cert_text.specs.declared.lines.LeadLine.{LeadLine};
-ghost use Rattle.cert_places.specs.Places.{AreLeads};
+ghost use Rattle.cert_ends.specs.Places.{AreLeads};
 ghost use Rattle.cfg_model.specs.Program.Instructions.{InstructionMap, IsLawful, length_at};
 ghost use Rattle.cert_make.specs.Reason.{MeetsBy};
 ghost use Rattle.cert_make.specs.declared.fronts.Source.{Source};

@@ -10,7 +10,7 @@ ghost use Rattle.cfg_model.specs.Graph.Leader.{IsLeader};
 ghost use Rattle.cfg_model.specs.Program.Instructions.{InstructionMap};
 ghost use Rattle.cert_text.specs.declared.lines.LeadWhy.TheVariants.{From, Join};
 ghost use Rattle.cert_laws.specs.Lines.{IsReturn};
-ghost use Rattle.cert_places.specs.Places.{AreLeads, ReturnsRise};
+ghost use Rattle.cert_ends.specs.Places.{AreLeads, ReturnsRise};
 ghost use Rattle.cert_text.specs.declared.lines.LeadLine.{LeadLine};
 ghost use Rattle.cert_make.specs.Canonical.{IsLeadLine, ListsLines, ReturnsReached};
 ghost use Rattle.cert_make.specs.Inner.Links.{AreLinks};
@@ -25,10 +25,10 @@ use crate::lead_ranks::lead_ranks;
 use crate::levels::Levels;
 use crate::links::Links;
 use crate::runs::know_laws;
-use cert_places::NumberedReturns;
+use cert_ends::NumberedReturns;
 use cert_text::{LeadLine, LeadWhy, ReturnLine};
 use cfg_model::{Chains, Memory};
-use reached_terms::Numbered;
+use numbered::Numbered;
 use std::alloc::Global;
 
 /// The lines of these leaders. If they are all of the program from these seeds, these are the lines

@@ -4,7 +4,7 @@ ghost use Rattle.std.specs.Prelude.{◌≡◌, ℕ, Contains, IfOk, IsSome, All,
 ghost use Rattle.std.specs.List.Sorted.{IsStrictlyIncreasing};
 ghost use Rattle.cfg_model.specs.Program.Chain.{IsTerminatorOf};
 ghost use Rattle.cert_text.specs.declared.lines.LeadLine.{LeadLine};
-ghost use Rattle.cert_places.specs.Places.{AreNumbered};
+ghost use Rattle.cert_ends.specs.Places.{AreNumbered};
 ghost use Rattle.cert_make.specs.Inner.Links.{AreLinks};
 ghost use Rattle.cert_make.specs.Inner.Offers.{TellCall};
 
@@ -12,10 +12,10 @@ use crate::chain_ends::Ends;
 use crate::exits::{Exit, exits_of};
 use crate::places::Places;
 use crate::runs::{Run, runs_of};
-use cert_places::NumberedReturns;
+use cert_ends::NumberedReturns;
 use cert_text::LeadLine;
 use cfg_model::Memory;
-use reached_terms::Numbered;
+use numbered::Numbered;
 use std::alloc::Global;
 
 /// The blocks of the leaders, the ends of their chains, and the ways from these to the leaders.

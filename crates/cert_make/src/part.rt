@@ -11,7 +11,7 @@ use crate::returns::return_lines;
 use crate::runs::know_laws;
 use cert_text::{LeadLines, Part, ReturnLines};
 use cfg_model::Memory;
-use reached_terms::Numbered;
+use numbered::Numbered;
 use std::alloc::Global;
 
 /// The canonical part of a certificate of this program, of all its leaders and all its reached

@@ -2,11 +2,11 @@
 
 ghost use Rattle.std.specs.Prelude.{◌≡◌, ℕ, All, Contains, IfOk, IsSome, MatchOption, length};
 ghost use Rattle.std.specs.List.Sorted.{IsStrictlyIncreasing};
-ghost use Rattle.reached_terms.specs.Numbering.{IsNumbering};
+ghost use Rattle.numbered.specs.Numbering.{IsNumbering};
 ghost use Rattle.cert_make.specs.Inner.Places.{ArePlaced, IsAt, placed_by};
 
 use cfg_model::Memory;
-use reached_terms::Numbered;
+use numbered::Numbered;
 use std::alloc::Global;
 
 /// The places of addresses in a list that rises, each of which is found in one step.

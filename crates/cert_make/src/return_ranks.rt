@@ -5,11 +5,10 @@ ghost use Rattle.cfg_model.specs.Program.Instructions.{flow_at};
 ghost use Rattle.cert_make.specs.Inner.Returns.{AreFlows};
 
 use crate::levels::Levels;
-use cert_ends::{find_successors, returns_by_itself};
-use cert_places::NumberedReturns;
+use cert_ends::{NumberedReturns, find_successors, returns_by_itself};
 use cert_text::ReturnLine;
 use cfg_model::{Flow, Memory};
-use reached_terms::Numbered;
+use numbered::Numbered;
 use std::alloc::Global;
 
 /// A terminator that may return once another does. Those that wait for the same one are a list.

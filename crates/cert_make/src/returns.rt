@@ -12,7 +12,7 @@ ghost use Rattle.std.specs.List.Sorted.{IsStrictlyIncreasing};
 ghost use Rattle.cfg_model.specs.Program.Instructions.{IsLawful, flow_at};
 ghost use Rattle.cfg_model.specs.Program.Chain.{IsTerminator};
 ghost use Rattle.cfg_model.specs.Program.Successors.{IsCall, LeavesFunction, successors_of};
-ghost use Rattle.cert_places.specs.Places.{AreNumbered, ReturnsRise};
+ghost use Rattle.cert_ends.specs.Places.{AreNumbered, ReturnsRise};
 ghost use Rattle.cert_text.specs.declared.lines.ReturnLine.{ReturnLine};
 ghost use Rattle.cert_make.specs.Canonical.{IsReturnLine, ListsLines, ReturnsReached};
 ghost use Rattle.cert_make.specs.Inner.Returns.{EndHasRank, EndHasNone, IsNearest, IsNotAfter};
@@ -23,11 +23,10 @@ ghost use Rattle.cert_make.specs.Inner.Returns.{ListAllReturns};
 use crate::levels::Levels;
 use crate::return_ranks::return_ranks;
 use crate::runs::know_laws;
-use cert_ends::{find_successors, returns_by_itself};
-use cert_places::NumberedReturns;
+use cert_ends::{NumberedReturns, find_successors, returns_by_itself};
 use cert_text::{ReturnLine, ReturnWhy};
 use cfg_model::{Chains, Flow, Memory};
-use reached_terms::Numbered;
+use numbered::Numbered;
 use std::alloc::Global;
 
 /// A successor, and the rank of the end of its chain.

@@ -3,10 +3,10 @@
 ghost use Rattle.std.specs.Prelude.{◌≡◌, ◌↔◌, ◌<◌, IfOk, IsSome, IsTrue, MatchOption, length};
 ghost use Rattle.cfg_model.specs.Program.Instructions.{IsLawful};
 ghost use Rattle.cfg_model.specs.Program.Chain.{GoesOnTo, IsTerminator};
-ghost use Rattle.cert_places.specs.Places.{AreLeads, IsPlace};
+ghost use Rattle.cert_ends.specs.Places.{AreLeads, IsPlace};
 ghost use Rattle.cert_make.specs.Inner.Runs.{AreRuns, IsRun};
 
-use cert_places::place_from;
+use cert_ends::place_from;
 use cert_text::LeadLine;
 use cfg_model::{Chains, Flow, Memory};
 use std::alloc::Global;

@@ -22,7 +22,7 @@ use Rattle.cert_text.specs.Text.{PartRises}
 use Rattle.cert_laws.specs.Certificate.{TableCuts, uncut}
 use Rattle.cert_laws.specs.Valid.{IsListedEnd, IsValid}
 use Rattle.cert_laws.proofs.ShowsGraph.{reached_ends}
-use Rattle.cert_files.proofs.FileShown.{cuts-fit, none-cut, no-cuts, uncut-lawful, tables-at-ends}
+use Rattle.cert_laws.proofs.FileShown.{cuts-fit, none-cut, no-cuts, uncut-lawful, tables-at-ends}
 use Rattle.cert_make.specs.Canonical.{IsCanonical}
 use Rattle.cert_make.proofs.Unique.{one_part}
 use Rattle.cert_make.proofs.ValidCanonical.{canonical_is_valid}

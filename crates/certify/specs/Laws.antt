@@ -3,7 +3,7 @@ use Rattle.std.specs.Prelude.{◌≡◌, ℕ, List}
 use Rattle.elf_image.specs.Faults.{IsImage}
 use Rattle.cert_text.specs.declared.certificate.Certificate.{Certificate}
 use Rattle.cert_text.specs.Text.{Rises}
-use Rattle.cert_files.specs.FileCertificate.{IsCertificateOf}
+use Rattle.cert_laws.specs.FileCertificate.{IsCertificateOf}
 use Rattle.certify.specs.FileCanonical.{IsCanonicalOf}
 
 -- A file has one.

@@ -8,8 +8,9 @@ ghost use Rattle.cert_make.specs.Canonical.{IsCanonical};
 use crate::Memory;
 use cert_make::canonical_part;
 use cert_text::Part;
+use numbered::Numbered;
 use reached_graph::leaders_of;
-use reached_terms::{Numbered, ReachedTerms};
+use reached_terms::ReachedTerms;
 use std::alloc::Global;
 
 /// The canonical part of a certificate of the program `code` from its seeds, from what it reaches.

@@ -4,16 +4,15 @@
 #![tactic(auto)]
 
 use cfg_io::{FileInput, StdSink};
-use check_run::{Refusal, check_run};
-use std::env;
-use std::io::{self, ErrorKind};
+use check_run::{Refusal, check_run, refuse};
+use run_ends::command_words;
 use std::process::ExitCode;
 
 /// Runs the program on the command line, the files of the system and the standard streams.
 fn main(rt: HostRuntime) -> ExitCode {
     let mut out = StdSink::new(rt.stdout());
     let mut err = StdSink::new(rt.stderr());
-    let status = match word_list(&rt) {
+    let status = match command_words(&rt, Refusal::Usage, Refusal::Memory) {
         Ok(words) => {
             let mut file = FileInput::new(rt);
             let mut certificate = FileInput::new(rt);
@@ -26,19 +25,7 @@ fn main(rt: HostRuntime) -> ExitCode {
                 &mut err,
             )
         }
-        Err(e) => {
-            let refusal = match e.kind() {
-                ErrorKind::OutOfMemory => Refusal::Memory,
-                _ => Refusal::Usage,
-            };
-            refusal.tell(&mut err);
-            refusal.status()
-        }
+        Err(refusal) => refuse(refusal, &mut err),
     };
     ExitCode::from(status.number())
-}
-
-// The words of the command line, the program's name first. A word that is not UTF-8 is an error.
-fn word_list(rt: &HostRuntime) -> io::Result<Vec<String>> {
-    Ok(env::args(rt)?.collect(rt.alloc())?)
 }

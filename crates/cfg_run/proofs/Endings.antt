@@ -1,15 +1,14 @@
 -- How a run ends: what each refusal leaves, by its kind.
-use Rattle.std.proofs.Common.{cond, ◌≡◌, ℕ, ◌<◌, ◌≤◌, List, [], ◌++◌, length, Option, Some, None, refl, sym, ap, subst, arith, length-append, append-nil, ◌∙◌}
-use Rattle.std.specs.Prelude.{◌≢◌, IfSome, IfErr, nat_lt, nat_le, ◌&&◌, Result, Ok, Err, codes, Bool, true, false}
+use Rattle.std.proofs.Common.{cond, ◌≡◌, ℕ, ◌≤◌, List, Option, Some, None, refl, sym, subst, arith}
+use Rattle.std.specs.Prelude.{IfSome, nat_le, ◌&&◌, codes, Bool, true, false}
 use Rattle.std.specs.Option.{option_and_then}
-use Rattle.std.proofs.lemmas.Bool.{cond-true, lt-ltb, leb-true}
+use Rattle.std.proofs.lemmas.Bool.{leb-true}
 use Rattle.std.proofs.lemmas.Option.{cond_some, same_Some, none-some}
 use Rattle.elf_image.specs.declared.fault.ElfError.{ElfError}
 use Rattle.elf_image.specs.declared.fault.ElfError.TheVariants as errors
 use Rattle.elf_image.specs.declared.fault.Fault.TheVariants.{TooLarge}
-use Rattle.elf_image.specs.FaultTests.{is_too_large}
-use Rattle.elf_image.specs.Faults.{first_fault, first_among, has_fault}
-use Rattle.cfg_io.specs.Told.{Appends, Takes, TakesCount}
+use Rattle.elf_image.specs.Faults.{first_fault}
+use Rattle.cfg_io.specs.Told.{TakesCount}
 use Rattle.graph_report.specs.declared.kind.ReportKind.{ReportKind}
 use Rattle.cfg_words.specs.Command.{is_taken, text_of}
 use Rattle.cfg_words.specs.Value.{number_of, kept_within, number_within, workers_of, report_kind_of}
@@ -20,7 +19,7 @@ use Rattle.cfg_run.specs.declared.refusal.Refusal.{Refusal}
 use Rattle.cfg_run.specs.declared.refusal.Refusal.TheVariants as refusals
 use Rattle.cfg_run.specs.declared.status.Status.{Status}
 use Rattle.cfg_run.specs.declared.status.Status.TheVariants as statuses
-use Rattle.cfg_run.specs.Answer.{IsAnswer, usage_answer, malformed_answer}
+use Rattle.cfg_run.specs.Answer.{IsAnswer, refused_with}
 use Rattle.run_ends.specs.declared.reading.Unread.{Unread}
 use Rattle.run_ends.specs.declared.reading.Unread.TheVariants as unread
 use Rattle.cfg_run.specs.Refusal.{status_of, refusal_of, refusal_of_words, refusal_of_unread}
@@ -30,37 +29,23 @@ use Rattle.cfg_run.specs.Lines.{refusal_line}
 use Rattle.cfg_run.specs.Inner.{IsRefusalOf, IsTrueOf}
 use Rattle.run_ends.specs.Told.{Grows}
 use Rattle.run_ends.specs.Inputs.{AreBytesFor, OverInput}
+use Rattle.run_ends.proofs.Inputs.{taken-too-large}
+use Rattle.run_ends.proofs.Pieces.{appends-nothing}
 use Rattle.cfg_run.specs.Run.{IsDecided, HasRead, Gives, IsLineOf}
-
--- Nothing was appended.
-pub appends-nothing : (old : Option (List ℕ)) → Appends old [] old
-appends-nothing None = refl
-appends-nothing (Some had) = ap (λ xs. Some xs) (sym (append-nil had))
 
 -- ---- reading
 
--- A file of more bytes than the limit is too large.
-too-large : (bytes : List ℕ) → 67108864 < length bytes → first_fault bytes ≡ Some TooLarge
-unfolding first_fault first_among has_fault is_too_large
-too-large bytes more = cond-true (nat_lt 67108864 (length bytes)) _ _ (lt-ltb 67108864 (length bytes) more)
-
-taken-more : (bytes : List ℕ) (new : Option (List ℕ)) → TakesCount (Some bytes) 67108865 new → 67108864 < length bytes
-taken-more bytes None (taken, takes, count) = absurd (cc)
-taken-more bytes (Some left) (taken, takes, count) =
-    let same : bytes ≡ taken ++ left = cc in
-    omega (arith, ap length same, length-append taken left, count)
-
 -- What reading refuses is true of the file that is asked for.
 module _ (path : List ℕ) (workers : ℕ) (kind : ReportKind) where
-  told-too-large : (told new : Option (List ℕ)) → TakesCount told 67108865 new
-      → OverInput (Some path) told (λ bytes. IsAnswer bytes (Some (of_file path workers kind)) (malformed_answer TooLarge))
-  told-too-large told new takes = λ bytes are.
-      IsAnswer.malformed (too-large bytes (taken-more bytes new (subst (λ (t : Option (List ℕ)). TakesCount t 67108865 new) are takes)))
-
   pub unread-true : (told new : Option (List ℕ)) (rose : Type 0) (e : Unread) → (e ≡ unread.ReadFault → rose)
       → (e ≡ unread.TooLarge → TakesCount told 67108865 new) → IsTrueOf (Some (of_file path workers kind)) told rose (refusal_of_unread e)
   unread-true told new rose unread.ReadFault failed takes = (tt, failed refl)
-  unread-true told new rose unread.TooLarge failed takes = (tt, told-too-large told new (takes refl))
+  unread-true told new rose unread.TooLarge failed takes = (
+    tt,
+    λ bytes are.
+        IsAnswer.malformed
+        (subst (λ (t : Option (List ℕ)). IfSome t (λ b. first_fault b ≡ Some TooLarge)) are (taken-too-large told new (takes refl))),
+  )
   unread-true told new rose unread.Memory failed takes = tt
 
   -- So is what the bytes that were read refuse.
@@ -87,14 +72,14 @@ refusal-of bytes errors.Memory is = tt
 pub decided-true : (asked : Option Asked) (told : Option (List ℕ)) (rose : Type 0) (r : Refusal) (old : Option (List ℕ)) (Error : List ℕ → Type 0)
     → IsTrueOf asked told rose r → Error (refusal_line r) → OverInput (path_of asked) told (λ bytes. IsDecided (status_of r) → Gives bytes asked (status_of r) (Grows old old) Error)
 decided-true asked told rose refusals.Usage old Error is line = λ bytes are _. record {
-  answer = usage_answer;
-  is_answer = subst (λ (a : Option Asked). IsAnswer bytes a usage_answer) (sym is) IsAnswer.usage;
+  answer = refused_with refusals.Usage;
+  is_answer = subst (λ (a : Option Asked). IsAnswer bytes a (refused_with refusals.Usage)) (sym is) IsAnswer.usage;
   status = refl;
   output = appends-nothing old;
   error = line;
 }
 decided-true asked told rose (refusals.Malformed fault) old Error is line = λ bytes are _. record {
-  answer = malformed_answer fault;
+  answer = refused_with (refusals.Malformed fault);
   is_answer = is.1 bytes are;
   status = refl;
   output = appends-nothing old;
@@ -131,18 +116,6 @@ made-unread n workers statuses.Memory = λ read. absurd read
 pub words-unread : (asked : Option Asked) (e : WordsError) → ¬ HasRead asked (status_of (refusal_of_words e))
 words-unread asked words.Usage = λ read. absurd read
 words-unread asked words.Memory = λ read. absurd read
-
-pub if_err_map : {T E : Type 0} {P Q : E → Type 0} (r : Result T E) → ((e : E) → P e → Q e) → IfErr r P → IfErr r Q
-if_err_map (Ok x) f p = tt
-if_err_map (Err e) f p = f e p
-
--- What was read to the end is all that was there.
-pub read-whole : (old new : Option (List ℕ)) (bytes : List ℕ) → Takes old bytes new → IfSome new (λ left. left ≡ []) → IfSome old (λ b. b ≡ bytes)
-read-whole None new bytes takes ends = tt
-read-whole (Some b) None bytes takes ends = absurd (cc)
-read-whole (Some b) (Some left) bytes takes ends =
-    let same : b ≡ bytes ++ left = same_Some b (bytes ++ left) takes in
-    same ∙ ap (λ xs. bytes ++ xs) ends ∙ append-nil bytes
 
 -- Words that make no request ask for nothing, or memory ran out.
 pub words-true : (asked : Option Asked) (told : Option (List ℕ)) (rose : Type 0) (e : WordsError) → (e ≡ words.Usage → asked ≡ None) → IsTrueOf asked told rose (refusal_of_words e)

@@ -13,46 +13,34 @@ use Rattle.graph_report.specs.Summary.{summary_text}
 use Rattle.elf_maker.specs.MadeFile.{made_file}
 use Rattle.big_case.specs.BigCase.{big_parts}
 use Rattle.cfg_words.specs.Request.{Asked, of_file, of_made}
+use Rattle.run_ends.specs.Answer.{Answer}
+use Rattle.cfg_run.specs.declared.refusal.Refusal.{Refusal}
 use Rattle.cfg_run.specs.declared.refusal.Refusal.TheVariants as refusals
 use Rattle.cfg_run.specs.declared.status.Status.{Status}
 use Rattle.cfg_run.specs.declared.status.Status.TheVariants as statuses
 use Rattle.file_program.specs.FileGraph.{IsGraphOf}
 use Rattle.live_regs.specs.Masks.{AreAllLivesOf}
+use Rattle.cfg_run.specs.Refusal.{status_of}
 use Rattle.cfg_run.specs.Lines.{refusal_line}
 
--- An exit status, and what goes to standard output and to standard error.
-pub record Answer : Type 0 where
-  pub status : Status
-  pub output : List ℕ
-  pub error : List ℕ
-
--- The words were refused.
-abbrev pub usage_answer : Answer
-usage_answer = record { status = statuses.Usage; output = []; error = refusal_line refusals.Usage }
-
--- The file has this fault.
-abbrev pub malformed_answer : Fault → Answer
-malformed_answer fault =
-    record {
-      status = statuses.Malformed;
-      output = [];
-      error = refusal_line
-          (refusals.Malformed fault);
-    }
+-- Nothing is written but the line that says why.
+abbrev pub refused_with : Refusal → Answer Status
+refused_with refusal =
+    record { status = status_of refusal; output = []; error = refusal_line refusal }
 
 -- This is the report or the summary.
-abbrev pub text_answer : List ℕ → Answer
+abbrev pub text_answer : List ℕ → Answer Status
 text_answer text = record { status = statuses.Done; output = text; error = [] }
 
 -- The answer to what is asked for, over a file of these bytes. Words that ask for nothing are
 -- refused. Of a file with a fault, the first one is named. Of any other, the graph is reported, or
 -- a part of it, or the live registers of its functions. A made program gets the summary of its
 -- graph, and the bytes do not count.
-pub data IsAnswer (bytes : List ℕ) : Option Asked → Answer → Type 0 where
-  usage : IsAnswer bytes None usage_answer
+pub data IsAnswer (bytes : List ℕ) : Option Asked → Answer Status → Type 0 where
+  usage : IsAnswer bytes None (refused_with refusals.Usage)
   malformed : {path : List ℕ} {workers : ℕ} {kind : ReportKind} {fault : Fault}
       → first_fault bytes ≡ Some fault
-      → IsAnswer bytes (Some (of_file path workers kind)) (malformed_answer fault)
+      → IsAnswer bytes (Some (of_file path workers kind)) (refused_with (refusals.Malformed fault))
   done : {path : List ℕ} {workers : ℕ} {kind : ReportKind} {graph : Graph}
       → first_fault bytes ≡ None → kind ≢ reports.Live → IsGraphOf bytes graph
       → IsAnswer bytes (Some (of_file path workers kind))

@@ -1,4 +1,4 @@
--- Words that no public clause cites: what the steps of a run tell one another.
+-- Words that no public clause cites: what the steps of a run answer one another.
 use Rattle.std.specs.Prelude.{◌≡◌, ℕ, List, Vec, Option, Some, None, IfSome, IfOk, IfErr}
 use Rattle.std.specs.Prelude.{Result, Ok, Err, All}
 use Rattle.std.specs.List.Sorted.{IsStrictlyIncreasing}
@@ -22,7 +22,7 @@ use Rattle.cfg_run.specs.declared.status.Status.{Status}
 use Rattle.cfg_run.specs.declared.status.Status.TheVariants as statuses
 use Rattle.cfg_run.specs.Refusal.{status_of}
 use Rattle.cfg_run.specs.Words.{path_of, IsForFile}
-use Rattle.cfg_run.specs.Answer.{IsAnswer, malformed_answer}
+use Rattle.cfg_run.specs.Answer.{IsAnswer, refused_with}
 
 -- An answer with texts that follow each other and are this text; or with none, if it is to be made
 -- while it is written.
@@ -48,7 +48,8 @@ IsRefusalOf bytes refusals.Memory = Unit {0}
 abbrev pub IsTrueOf : Option Asked → Option (List ℕ) → Type 0 → Refusal → Type 0
 IsTrueOf asked told rose refusals.Usage = asked ≡ None
 IsTrueOf asked told rose (refusals.Malformed fault) = IsForFile asked
-    × OverInput (path_of asked) told (λ bytes. IsAnswer bytes asked (malformed_answer fault))
+    × OverInput (path_of asked) told
+    (λ bytes. IsAnswer bytes asked (refused_with (refusals.Malformed fault)))
 IsTrueOf asked told rose refusals.ReadFault = IsForFile asked × rose
 IsTrueOf asked told rose refusals.WriteFault = ⊥
 IsTrueOf asked told rose refusals.Memory = Unit {0}

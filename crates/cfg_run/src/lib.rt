@@ -4,7 +4,7 @@
 //! - `whole_run`: a whole run over any input and any sinks, and what is proved of it.
 //! - `answer`: from the bytes of a file to the text of an answer, and `text`: writing that text.
 //! - `maker`: who makes what a text shows; here the caller's thread, in `run_crew` workers.
-//! - `status`, `refusal`: how a run ends, and the line that tells why it failed.
+//! - `status`, `refusal`: how a run ends, and the line that reports why it failed.
 //! - `laws`: that a run has one answer.
 #![tactic(auto)]
 

@@ -1,4 +1,4 @@
-//! Why a run wrote no whole report, and the line that tells it.
+//! Why a run wrote no whole report, and the line that reports it.
 
 ghost use Rattle.std.specs.Prelude.{◌≡◌};
 ghost use Rattle.cfg_io.specs.Fault.{Rose};
@@ -12,7 +12,7 @@ use cfg_io::Sink;
 use cfg_model::Memory;
 use cfg_words::WordsError;
 use elf_image::{ElfError, Fault};
-use run_ends::{Unread, tell};
+use run_ends::{Unread, write_failure};
 
 /// Why a run wrote no whole report.
 #[derive(Clone, Copy, Debug, PartialEq, Eq)]
@@ -67,7 +67,7 @@ impl From<WordsError> for Refusal {
 }
 
 impl Refusal {
-    /// The status that tells it.
+    /// The status that it ends a run with.
     pub fn status(&self) -> Status
         ensures { result ≡ status_of self.now }
     {
@@ -106,10 +106,10 @@ impl Refusal {
     }
 
     /// Writes its line, without taking memory. If a write fails, a part of the line went out.
-    pub fn tell<E: Sink>(&self, err: &mut E)
+    pub fn report<E: Sink>(&self, err: &mut E)
         ensures { Tells (E.written err.old) (E.written err.new)
             (Rose (E.faults err.old) (E.faults err.new)) (refusal_line self.now) }
     {
-        tell("cfg", self.text(), self.detail(), err);
+        write_failure("cfg", self.text(), self.detail(), err);
     }
 }

@@ -28,7 +28,7 @@ use std::alloc::Global;
 use std::mem;
 
 /// Runs the program on the caller's thread: reads the file that `words` ask for from `input`, writes
-/// the report of its control-flow graph or of the graph's live registers to `out`, and tells on
+/// the report of its control-flow graph or of the graph's live registers to `out`, and reports on
 /// `err` why it did not. Of a made program, for which nothing is read, it writes the summary.
 ///
 /// It starts no thread, waits for nobody and returns, whatever number of workers is asked for: the
@@ -151,7 +151,7 @@ pub fn refuse<E: Sink>(refusal: Refusal, err: &mut E) -> Status
     ensures line { Tells (E.written err.old) (E.written err.new)
         (Rose (E.faults err.old) (E.faults err.new)) (refusal_line refusal) }
 {
-    refusal.tell(err);
+    refusal.report(err);
     refusal.status()
 }
 

@@ -1,15 +1,15 @@
 -- The section of the code address with a number.
-use Rattle.std.proofs.Common.{◌≡◌, ℕ, ◌+◌, ◌-◌, ◌*◌, ◌/◌, ◌%◌, ◌<◌, ◌≤◌, ◌^◌, true, List, length, get_or, ltb, ap, sym, subst, arith, inl, inr}
+use Rattle.std.proofs.Common.{◌≡◌, ℕ, ◌+◌, ◌-◌, ◌*◌, ◌/◌, ◌%◌, ◌<◌, ◌≤◌, true, List, length, get_or, ltb, ap, sym, subst, arith, inl, inr}
 use Rattle.std.specs.List.Sorted.{IsPartitionedBy}
 use Rattle.std.proofs.lemmas.Bool.{cases_order, eqb-true, ltb-true, lt-ltb}
 use Rattle.elf_image.specs.Code.{is_code}
 use Rattle.chain_index.specs.declared.lookup.SectionReaches.{SectionReaches}
-use Rattle.chain_index.specs.Found.{AreChainEndsOf}
+use Rattle.chain_index.specs.Found.{AreChainEndsOf, IsSectionReaches}
 use Rattle.chain_index.specs.Numbers.{codes_below, code_count}
-use Rattle.chain_index.specs.Inner.{IsCountAbove, IsReachedAt}
-use Rattle.chain_index.proofs.Counts.{even_code, rises}
-use Rattle.chain_index.proofs.Ends.{code_below}
-use Rattle.chain_index.proofs.Looking.{look_within, look}
+use Rattle.chain_index.specs.Inner.{IsCountAbove, IsNumberedIn, IsReachedAt}
+use Rattle.chain_index.proofs.CodeSections.{code-half}
+use Rattle.chain_index.proofs.Counts.{even_code, in_section, rises}
+use Rattle.chain_index.proofs.Looking.{look_within, look, reached}
 
 -- those whose first number lies above come first
 pub parted_by_number : (bytes : List ℕ) (found : List SectionReaches) (numbers n : ℕ) → AreChainEndsOf bytes found → IsPartitionedBy (λ (r : SectionReaches). ltb (n + r.from) numbers) found
@@ -53,20 +53,38 @@ address_there bytes a n numbers kept count code is start at =
     let place : n + kept.from ≡ numbers + (a - kept.address) / 2 = omega (arith, at.number, is, count) in
     (omega (arith, place), omega (arith, place, at.start, a_even, start_even))
 
+-- one number is that of one code address
+one_address : (bytes : List ℕ) (a b : ℕ) → is_code bytes a ≡ true → is_code bytes b ≡ true → codes_below bytes a ≡ codes_below bytes b → a ≡ b
+one_address bytes a b code other same = elim (cases_order a b) [
+  | inl is ↦ is
+  | inr apart ↦ elim apart [
+    | inl less ↦ absurd (omega (arith, same, rises bytes a b code less))
+    | inr more ↦ absurd (omega (arith, same, rises bytes b a other more))
+  ]
+]
+
+-- a section that has the number is that of its address
+pub numbered_there : (bytes : List ℕ) (kept : SectionReaches) (numbers n a : ℕ) → IsSectionReaches bytes kept → numbers ≡ code_count bytes → is_code bytes a ≡ true → n ≡ codes_below bytes a
+    → numbers ≤ n + kept.from → n + kept.from - numbers < length kept.reaches.items → IsNumberedIn bytes a kept
+numbered_there bytes kept numbers n a right count code is from within =
+    let s = right.section in
+    let p : ℕ = n + kept.from - numbers in
+    let b : ℕ = s.address + 2 * p in
+    let inside : 2 * p + 2 ≤ s.size = omega (arith, within, right.size) in
+    let b_code : is_code bytes b ≡ true = code-half bytes s right.of p inside in
+    let numbered : codes_below bytes b ≡ codes_below bytes s.address + p = in_section bytes s right.of p (omega (arith, inside)) in
+    let start : codes_below bytes kept.address ≡ codes_below bytes s.address = ap (codes_below bytes) right.address in
+    let same : b ≡ a = one_address bytes b a b_code code (omega (arith, numbered, start, right.counted, count, is, from)) in
+    record {
+      at = reached bytes a kept code right (omega (arith, same, right.address)) (omega (arith, same, right.address, within));
+      first = right.reaches.code;
+    }
+
 -- the search by number finds that section
-module _ (bytes : List ℕ) (found : List SectionReaches) (numbers n a : ℕ) (all : AreChainEndsOf bytes found) (count : numbers ≡ code_count bytes) (code : is_code bytes a ≡ true) (is : n ≡ codes_below bytes a)
-    (place : ℕ) (counted : IsCountAbove found a place) (kept : SectionReaches) (got : kept ≡ get_or found place kept) where
-  kept_within : place < length found
-  kept_within = look_within bytes found all a code place counted
-
-  kept_at : IsReachedAt bytes a kept
-  kept_at = subst (IsReachedAt bytes a) (sym got) (look bytes found all a code place counted kept)
-
-  kept_start : is_code bytes kept.address ≡ true
-  kept_start = subst (λ (k : SectionReaches). is_code bytes k.address ≡ true) (sym got) (all.right place kept kept_within).reaches.code
-
-  pub kept_place : (numbers ≤ n + kept.from) × (kept.address + 2 * (n + kept.from - numbers) ≡ a)
-  kept_place = address_there bytes a n numbers kept count code is kept_start kept_at
-
-  pub kept_small : a < 2 ^ 64
-  kept_small = code_below bytes kept_at.image a code
+pub kept_there : (bytes : List ℕ) (found : List SectionReaches) (a : ℕ) → AreChainEndsOf bytes found → is_code bytes a ≡ true → (place : ℕ) → IsCountAbove found a place → (kept : SectionReaches) → kept ≡ get_or found place kept → IsNumberedIn bytes a kept
+kept_there bytes found a all code place counted kept got =
+    let within : place < length found = look_within bytes found all a code place counted in
+    record {
+      at = subst (IsReachedAt bytes a) (sym got) (look bytes found all a code place counted kept);
+      first = subst (λ (k : SectionReaches). is_code bytes k.address ≡ true) (sym got) (all.right place kept within).reaches.code;
+    }

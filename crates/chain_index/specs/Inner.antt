@@ -112,3 +112,8 @@ pub record IsReachedAt (bytes : List ℕ) (a : ℕ) (kept : SectionReaches) : Ty
   pub small : length bytes ≤ 67108864
   pub counted : kept.from ≤ code_count bytes
   pub number : codes_below bytes a + kept.from ≡ code_count bytes + (a - kept.address) / 2
+
+-- The same, and an instruction stands at the section's first address too.
+pub record IsNumberedIn (bytes : List ℕ) (a : ℕ) (kept : SectionReaches) : Type 0 where
+  pub at : IsReachedAt bytes a kept
+  pub first : is_code bytes kept.address ≡ true

@@ -9,7 +9,7 @@ ghost use Rattle.rv_flow.specs.InsnBytes.{AreBytesAt};
 ghost use Rattle.chain_index.specs.Chain.{next_of, IsChainEnd};
 ghost use Rattle.chain_index.specs.Found.{AreChainEndsOf, IsCodeOf};
 ghost use Rattle.chain_index.specs.Numbers.{codes_below, code_count};
-ghost use Rattle.chain_index.specs.Inner.{IsReachedAt, Reaches, length_by};
+ghost use Rattle.chain_index.specs.Inner.{IsNumberedIn, IsReachedAt, Reaches, length_by};
 
 use crate::Memory;
 use crate::lookup::{SectionReaches, count_above, count_above_number, halfwords, widest};
@@ -212,14 +212,37 @@ impl<'a> ChainIndex<'a> {
     }
 
     /// The code address with the number `n`: what [`number`](Self::number) gives `n` for.
-    /// Time: O(log sections).
+    /// Time: as [`term`](Self::term).
+    #[inline]
     pub fn address(&self, n: u32) -> u64
         requires { (a : ℕ) × (is_code self.now a ≡ true) × (n ≡ codes_below self.now a) }
         ensures { (a : ℕ) → is_code self.now a ≡ true → n ≡ codes_below self.now a → result ≡ a }
     {
-        let s = &self.sections[count_above_number(&self.sections, self.numbers, n)];
+        let s = self.section_of(n);
         let place = u64::from(n) + u64::from(s.from) - u64::from(self.numbers);
         s.address + 2 * place
+    }
+
+    /// The section of the code address with the number `n`: the widest is asked first.
+    #[inline(always)]
+    fn section_of(&self, n: u32) -> &SectionReaches
+        requires { (a : ℕ) × (is_code self.now a ≡ true) × (n ≡ codes_below self.now a) }
+        ensures { (a : ℕ) → is_code self.now a ≡ true → n ≡ codes_below self.now a
+            → IsNumberedIn self.now a result.now }
+    {
+        match self.sections.get(self.widest) {
+            Some(s) if s.has_number(self.numbers, n) => s,
+            _ => self.section_by_number(n),
+        }
+    }
+
+    /// The same, by a search among all sections.
+    fn section_by_number(&self, n: u32) -> &SectionReaches
+        requires { (a : ℕ) × (is_code self.now a ≡ true) × (n ≡ codes_below self.now a) }
+        ensures { (a : ℕ) → is_code self.now a ≡ true → n ≡ codes_below self.now a
+            → IsNumberedIn self.now a result.now }
+    {
+        &self.sections[count_above_number(&self.sections, self.numbers, n)]
     }
 
     /// How many code addresses there are: all numbers are below.

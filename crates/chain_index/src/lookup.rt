@@ -36,6 +36,17 @@ impl SectionReaches {
         a >= self.address && (a - self.address) / 2 < self.reaches.len() as u64
     }
 
+    /// Whether the number `n`, of `numbers` in all, is that of one of its halfwords.
+    #[inline]
+    pub(crate) fn has_number(&self, numbers: u32, n: u32) -> bool
+        ensures { result ≡ (nat_le numbers (n + self.now.from)
+            && nat_lt (n + self.now.from - numbers) (length self.now.reaches.items)) }
+    {
+        let above = u64::from(n) + u64::from(self.from);
+        let numbers = u64::from(numbers);
+        above >= numbers && above - numbers < self.reaches.len() as u64
+    }
+
     /// How many halfwords the end of the chain of its address `a` lies ahead.
     #[inline]
     pub(crate) fn reach(&self, a: u64) -> u32

@@ -1,17 +1,16 @@
 -- How a run ends: what each refusal leaves, by its kind.
-use Rattle.std.proofs.Common.{◌≡◌, ℕ, ◌<◌, List, [], ◌++◌, length, Option, Some, None, refl, sym, ap, subst, arith, length-append, append-nil}
-use Rattle.std.specs.Prelude.{◌↔◌, ◌+◌, IfSome, IsErrOf, nat_lt, Err}
-use Rattle.std.proofs.lemmas.Bool.{cond-true, lt-ltb}
-use Rattle.std.proofs.lemmas.Option.{none-some}
-use Rattle.elf_image.specs.declared.fault.Fault.TheVariants.{TooLarge}
-use Rattle.elf_image.specs.FaultTests.{is_too_large}
-use Rattle.elf_image.specs.Faults.{first_fault, first_among, has_fault}
-use Rattle.cfg_io.specs.Told.{Appends, TakesCount}
+use Rattle.std.proofs.Common.{◌≡◌, ℕ, List, [], Option, Some, None, refl, sym, subst}
+use Rattle.std.specs.Prelude.{◌↔◌, IfSome, IsErrOf, Err}
+use Rattle.std.proofs.lemmas.Option.{IfSome_then, none-some}
+use Rattle.elf_image.specs.Faults.{first_fault}
+use Rattle.cfg_io.specs.Told.{TakesCount}
 use Rattle.run_ends.specs.declared.reading.Unread.{Unread}
 use Rattle.run_ends.specs.declared.reading.Unread.TheVariants as unread
 use Rattle.run_ends.specs.Told.{Grows}
+use Rattle.run_ends.proofs.Inputs.{taken-too-large}
+use Rattle.run_ends.proofs.Pieces.{appends-nothing}
 use Rattle.cert_text.specs.declared.certificate.Certificate.{Certificate}
-use Rattle.cert_files.specs.FileCertificate.{IsCertificateOf}
+use Rattle.cert_laws.specs.FileCertificate.{IsCertificateOf}
 use Rattle.check_run.specs.declared.refusal.Refusal.{Refusal}
 use Rattle.check_run.specs.declared.refusal.Refusal.TheVariants as refusals
 use Rattle.check_run.specs.declared.status.CheckStatus.TheVariants as statuses
@@ -24,44 +23,19 @@ use Rattle.check_run.specs.Refusal.{status_of, refusal_of_file}
 use Rattle.check_run.specs.Lines.{refusal_line}
 use Rattle.check_run.specs.Inner.{IsTrueOfFile, IsTrueOf}
 use Rattle.check_run.specs.Run.{IsDecided, Gives, NamesFault, Judges, IsLineOf, OverBoth, OverInputs}
-use Rattle.check_run.proofs.Unique.{judges, tells-made}
+use Rattle.check_run.proofs.Unique.{judges, made-exactly}
 
--- Nothing was appended.
-pub appends-nothing : (old : Option (List ℕ)) → Appends old [] old
-appends-nothing None = refl
-appends-nothing (Some had) = ap (λ xs. Some xs) (sym (append-nil had))
-
-pub if_some_map : {A : Type 0} {P Q : A → Type 0} (o : Option A) → ((x : A) → P x → Q x) → IfSome o P → IfSome o Q
-if_some_map None f p = tt
-if_some_map (Some x) f p = f x p
-
--- An error tells its value.
+-- An error has one value.
 pub err-same : {T E : Type 0} {a b : E} → IsErrOf {T = T} (Err a) b → a ≡ b
 err-same is = cc
 
 -- ---- reading
 
--- More bytes than a limit were taken.
-taken-more : (limit : ℕ) (bytes : List ℕ) (new : Option (List ℕ)) → TakesCount (Some bytes) (1 + limit) new → limit < length bytes
-taken-more limit bytes None (taken, takes, count) = absurd (cc)
-taken-more limit bytes (Some left) (taken, takes, count) =
-    let same : bytes ≡ taken ++ left = cc in
-    omega (arith, ap length same, length-append taken left, count)
-
--- A file of more bytes than the limit is too large.
-too-large : (bytes : List ℕ) → 67108864 < length bytes → first_fault bytes ≡ Some TooLarge
-unfolding first_fault first_among has_fault is_too_large
-too-large bytes more = cond-true (nat_lt 67108864 (length bytes)) _ _ (lt-ltb 67108864 (length bytes) more)
-
-told-too-large : (told new : Option (List ℕ)) → TakesCount told 67108865 new → IfSome told (λ bytes. first_fault bytes ≡ Some TooLarge)
-told-too-large None new takes = tt
-told-too-large (Some bytes) new takes = too-large bytes (taken-more 67108864 bytes new takes)
-
 -- What reading refuses is true of the file.
 pub unread-file : (told new : Option (List ℕ)) (rose : Type 0) (e : Unread) → (e ≡ unread.ReadFault → rose)
     → (e ≡ unread.TooLarge → TakesCount told 67108865 new) → IsTrueOfFile told rose (refusal_of_file e)
 unread-file told new rose unread.ReadFault failed takes = failed refl
-unread-file told new rose unread.TooLarge failed takes = told-too-large told new (takes refl)
+unread-file told new rose unread.TooLarge failed takes = taken-too-large told new (takes refl)
 unread-file told new rose unread.Memory failed takes = tt
 
 -- ---- a certificate that is made
@@ -70,9 +44,9 @@ unread-file told new rose unread.Memory failed takes = tt
 pub made-true : (path : List ℕ) (file : Option (List ℕ)) (bytes text : List ℕ) → IfSome file (λ b. b ≡ bytes) → first_fault bytes ≡ None
     → IsCanonicalText bytes text → IfSome file (λ b. IsAnswer b [] (Some (of_make path)) (text_answer text))
 made-true path file bytes text same accepted is =
-    if_some_map file (λ b equal. subst (λ (x : List ℕ). IsAnswer x [] (Some (of_make path)) (text_answer text)) (sym equal)
+    IfSome_then file same (λ b equal. subst (λ (x : List ℕ). IsAnswer x [] (Some (of_make path)) (text_answer text)) (sym equal)
     (subst (λ (t : List ℕ). IsAnswer bytes [] (Some (of_make path)) (text_answer t)) (sym is.is_text)
-    (IsAnswer.made {canonical = is.certificate} accepted is.is_canonical))) same
+    (IsAnswer.made {canonical = is.certificate} accepted is.is_canonical)))
 
 -- ---- a file and a certificate
 
@@ -145,7 +119,7 @@ module _ (asked : Option Asked) (file certificate : Option (List ℕ)) (rose : T
       → status_of r ≡ statuses.Malformed → AsksFile asked × IfSome file (λ bytes. NamesFault bytes Error)
   ends-malformed refusals.Usage Error is line ends = absurd (cc)
   ends-malformed (refusals.Malformed fault) Error is line ends =
-      (is.0, if_some_map file (λ bytes first. record { fault = fault; is_first = first; line = line }) is.1)
+      (is.0, IfSome_then file is.1 (λ bytes first. record { fault = fault; is_first = first; line = line }))
   ends-malformed refusals.ReadFault Error is line ends = absurd (cc)
   ends-malformed refusals.WriteFault Error is line ends = absurd (cc)
   ends-malformed refusals.Memory Error is line ends = absurd (cc)
@@ -162,7 +136,7 @@ line-of refusals.Memory = refl
 line-of refusals.NoText = refl
 line-of refusals.Refused = refl
 
--- ---- what a decided run tells of the certificate
+-- ---- what a decided run shows of the certificate
 
 -- The answer of a decided test judges the certificate.
 pub judged-by : (asked : Option Asked) (file certificate : Option (List ℕ)) (end : CheckStatus) (Output Error : List ℕ → Type 0)
@@ -176,7 +150,7 @@ judged-by (Some (of_test path other)) (Some bytes) (Some text) end Output Error 
     let gave = gives decided in
     subst (λ (s : CheckStatus). Judges bytes text s) (sym gave.status) (judges gave.is_answer)
 
--- That of a run that makes one tells that the file has no fault.
+-- That of a run that makes one shows that the file has no fault.
 pub made-by : (asked : Option Asked) (file certificate : Option (List ℕ)) (end : CheckStatus) (Output Error : List ℕ → Type 0)
     → OverInputs asked file certificate (λ bytes text. IsDecided end → Gives bytes text asked end Output Error)
     → IfSome file (λ bytes. IsDecided end → AsksMake asked → (end ≡ statuses.Done) ↔ (first_fault bytes ≡ None))
@@ -184,7 +158,7 @@ made-by asked None certificate end Output Error gives = tt
 made-by None (Some bytes) certificate end Output Error gives = λ decided asks. absurd asks
 made-by (Some (of_make path)) (Some bytes) certificate end Output Error gives = λ decided asks.
     let gave = gives decided in
-    subst (λ (s : CheckStatus). (s ≡ statuses.Done) ↔ (first_fault bytes ≡ None)) (sym gave.status) (tells-made gave.is_answer)
+    subst (λ (s : CheckStatus). (s ≡ statuses.Done) ↔ (first_fault bytes ≡ None)) (sym gave.status) (made-exactly gave.is_answer)
 made-by (Some (of_test path other)) (Some bytes) certificate end Output Error gives = λ decided asks. absurd asks
 
 -- ---- writing

@@ -11,6 +11,7 @@ use Rattle.graph_report.specs.Report.{report_text}
 use Rattle.cert_text.specs.declared.certificate.Certificate.{Certificate}
 use Rattle.cert_text.specs.Text.{certificate_text}
 use Rattle.certify.specs.FileCanonical.{IsCanonicalOf}
+use Rattle.run_ends.specs.Answer.{Answer}
 use Rattle.check_run.specs.declared.refusal.Refusal.{Refusal}
 use Rattle.check_run.specs.declared.refusal.Refusal.TheVariants as refusals
 use Rattle.check_run.specs.declared.status.CheckStatus.{CheckStatus}
@@ -20,14 +21,8 @@ use Rattle.check_run.specs.Lines.{refusal_line}
 use Rattle.check_run.specs.Evidence.{HasNoText, HasFalse, HasValid}
 use Rattle.check_run.specs.Words.{Asked, of_make, of_test}
 
--- An exit status, and what goes to standard output and to standard error.
-pub record Answer : Type 0 where
-  pub status : CheckStatus
-  pub output : List ℕ
-  pub error : List ℕ
-
--- Nothing is written but the line that tells why.
-abbrev pub refused_with : Refusal → Answer
+-- Nothing is written but the line that says why.
+abbrev pub refused_with : Refusal → Answer CheckStatus
 refused_with refusal =
     record { status = status_of refusal; output = []; error = refusal_line refusal }
 
@@ -36,7 +31,7 @@ abbrev pub report_of : List ℕ → Graph → List ℕ
 report_of bytes graph = report_text reports.Graph (seed_name bytes) graph
 
 -- This text is written: a certificate or a report.
-abbrev pub text_answer : List ℕ → Answer
+abbrev pub text_answer : List ℕ → Answer CheckStatus
 text_answer text = record { status = statuses.Done; output = text; error = [] }
 
 -- The answer to what is asked for, over a file of these bytes and a certificate of that text. Words
@@ -44,7 +39,7 @@ text_answer text = record { status = statuses.Done; output = text; error = [] }
 -- its canonical certificate is made, if that is asked for; the text does not count then. For a
 -- test, a text that is none and a certificate that is not valid are refused. A valid one gets the
 -- report of the graph of the file.
-pub data IsAnswer (bytes text : List ℕ) : Option Asked → Answer → Type 0 where
+pub data IsAnswer (bytes text : List ℕ) : Option Asked → Answer CheckStatus → Type 0 where
   usage : IsAnswer bytes text None (refused_with refusals.Usage)
   malformed : {asked : Asked} {fault : Fault} → first_fault bytes ≡ Some fault
       → IsAnswer bytes text (Some asked) (refused_with (refusals.Malformed fault))

@@ -3,7 +3,7 @@ use Rattle.std.specs.Prelude.{◌≡◌, ℕ, ◌≤◌, List, None, length}
 use Rattle.elf_image.specs.Faults.{first_fault}
 use Rattle.cert_text.specs.declared.certificate.Certificate.{Certificate}
 use Rattle.cert_text.specs.Text.{IsTextOf}
-use Rattle.cert_files.specs.FileCertificate.{IsCertificateOf}
+use Rattle.cert_laws.specs.FileCertificate.{IsCertificateOf}
 use Rattle.check_run.specs.declared.reading.TheConstants.{CERTIFICATE_LIMIT}
 
 -- These bytes, no more of them than are read, are the text of this certificate.

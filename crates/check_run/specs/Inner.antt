@@ -1,8 +1,8 @@
--- Words that no public clause cites: what the steps of a run tell one another.
+-- Words that no public clause cites: what the steps of a run answer one another.
 use Rattle.std.specs.Prelude.{◌≡◌, ℕ, List, Option, Some, None, IfSome, Result, Ok, Err}
 use Rattle.elf_image.specs.Faults.{first_fault}
 use Rattle.cert_text.specs.declared.certificate.Certificate.{Certificate}
-use Rattle.cert_files.specs.FileCertificate.{IsCertificateOf}
+use Rattle.cert_laws.specs.FileCertificate.{IsCertificateOf}
 use Rattle.check_run.specs.declared.refusal.Refusal.{Refusal}
 use Rattle.check_run.specs.declared.refusal.Refusal.TheVariants as refusals
 use Rattle.check_run.specs.declared.status.CheckStatus.{CheckStatus}

@@ -8,8 +8,8 @@ use Rattle.run_ends.specs.declared.reading.Unread.{Unread}
 use Rattle.run_ends.specs.declared.reading.Unread.TheVariants as unread
 use Rattle.cert_text.specs.declared.error.TextError.{TextError}
 use Rattle.cert_text.specs.declared.error.TextError.TheVariants as texts
-use Rattle.cert_graph.specs.declared.error.CheckError.{CheckError}
-use Rattle.cert_graph.specs.declared.error.CheckError.TheVariants as checks
+use Rattle.cert_check.specs.declared.error.CheckError.{CheckError}
+use Rattle.cert_check.specs.declared.error.CheckError.TheVariants as checks
 use Rattle.check_run.specs.declared.status.CheckStatus.{CheckStatus}
 use Rattle.check_run.specs.declared.status.CheckStatus.TheVariants as statuses
 

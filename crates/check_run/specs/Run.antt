@@ -2,14 +2,14 @@
 use Rattle.std.specs.Prelude.{◌≡◌, ◌↔◌, ℕ, ◌⊎◌, List, [], Option, Some, None, IfSome}
 use Rattle.elf_image.specs.declared.fault.Fault.{Fault}
 use Rattle.elf_image.specs.Faults.{first_fault}
-use Rattle.cfg_io.specs.Told.{AppendsPrefix}
+use Rattle.run_ends.specs.Answer.{GivesAnswer, GivesAnswerPart}
 use Rattle.check_run.specs.declared.status.CheckStatus.{CheckStatus}
 use Rattle.check_run.specs.declared.status.CheckStatus.TheVariants as statuses
 use Rattle.check_run.specs.declared.refusal.Refusal.TheVariants as refusals
 use Rattle.check_run.specs.Lines.{refusal_line}
 use Rattle.check_run.specs.Words.{Asked, of_make, of_test}
 use Rattle.check_run.specs.Evidence.{HasNoText, HasFalse, HasValid}
-use Rattle.check_run.specs.Answer.{Answer, IsAnswer}
+use Rattle.check_run.specs.Answer.{IsAnswer}
 
 -- The words and the bytes decided the status: nothing failed, and memory sufficed.
 abbrev pub IsDecided : CheckStatus → Type 0
@@ -42,22 +42,14 @@ FailedToRead (Some (of_test path other)) file certificate = file ⊎ certificate
 
 -- A run that ended in this way gave the answer: its status is the answer's, and standard output and
 -- standard error took the texts of it.
-pub record Gives
-    (bytes text : List ℕ) (asked : Option Asked) (end : CheckStatus)
-    (Output Error : List ℕ → Type 0) : Type 0 where
-  pub answer : Answer
-  pub is_answer : IsAnswer bytes text asked answer
-  pub status : end ≡ answer.status
-  pub output : Output answer.output
-  pub error : Error answer.error
+abbrev pub Gives : List ℕ → List ℕ → Option Asked → CheckStatus → (List ℕ → Type 0)
+    → (List ℕ → Type 0) → Type 0
+Gives bytes text asked end Output Error = GivesAnswer (IsAnswer bytes text asked) end Output Error
 
 -- A run whose writing failed: standard output grew by a part, from its front, of the output.
-pub record GivesPart (bytes text : List ℕ) (asked : Option Asked)
-    (old new : Option (List ℕ)) : Type 0 where
-  pub answer : Answer
-  pub is_answer : IsAnswer bytes text asked answer
-  pub status : answer.status ≡ statuses.Done
-  pub output : AppendsPrefix old answer.output new
+abbrev pub GivesPart : List ℕ → List ℕ → Option Asked → Option (List ℕ) → Option (List ℕ) → Type 0
+GivesPart bytes text asked old new =
+    GivesAnswerPart (IsAnswer bytes text asked) statuses.Done old new
 
 -- The file with these bytes has a fault, and standard error took the line that names the first one.
 pub record NamesFault (bytes : List ℕ) (Error : List ℕ → Type 0) : Type 0 where

@@ -1,12 +1,12 @@
-//! One whole run of the program `cfg_check`: from its words and the bytes of a file to the file's
-//! canonical certificate; or with those of a certificate to the report of the graph that it
-//! certifies. And its line on standard error and its exit status.
+//! One whole run of the program `cfg_check`: from its words and the bytes of a file to a text, its
+//! line on standard error and its exit status. The text is the file's canonical certificate; or, with
+//! the bytes of a certificate, the report of the graph that it certifies.
 //!
 //! - `whole_run`: a whole run over any two inputs and any sinks, and what is proved of it.
 //! - `reading`: reading the file and the certificate. `seeded`: a file with its seeds.
 //! - `report`: the report of a file whose graph is certified. `text`: a certificate or a report.
 //! - `words`: what the words ask for.
-//! - `status`, `refusal`: how a run ends, and the line that tells why it failed.
+//! - `status`, `refusal`: how a run ends, and the line that reports why it failed.
 //! - `laws`: that a run has one answer.
 //!
 //! A test calls no builder of graphs: its yes rests on the checker alone. What makes certificates
@@ -27,4 +27,4 @@ pub use laws::one_check_answer;
 pub use reading::CERTIFICATE_LIMIT;
 pub use refusal::Refusal;
 pub use status::CheckStatus;
-pub use whole_run::check_run;
+pub use whole_run::{check_run, refuse};

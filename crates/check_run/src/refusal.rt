@@ -1,4 +1,4 @@
-//! Why a run wrote no whole text, and the line that tells it.
+//! Why a run wrote no whole text, and the line that reports it.
 
 ghost use Rattle.std.specs.Prelude.{◌≡◌};
 ghost use Rattle.cfg_io.specs.Fault.{Rose};
@@ -10,11 +10,11 @@ ghost use Rattle.check_run.specs.Lines.{refusal_line, text_of, detail_of};
 ghost use Rattle.run_ends.specs.Told.{Tells};
 
 use crate::status::CheckStatus;
-use cert_graph::CheckError;
+use cert_check::CheckError;
 use cert_text::TextError;
 use cfg_io::Sink;
 use elf_image::{ElfError, Fault};
-use run_ends::{Unread, tell};
+use run_ends::{Unread, write_failure};
 
 /// Why a run wrote no whole text.
 #[derive(Clone, Copy, Debug, PartialEq, Eq)]
@@ -92,7 +92,7 @@ impl Refusal {
         }
     }
 
-    /// The status that tells it.
+    /// The status that it ends a run with.
     pub fn status(&self) -> CheckStatus
         ensures { result ≡ status_of self.now }
     {
@@ -133,10 +133,10 @@ impl Refusal {
     }
 
     /// Writes its line, without taking memory. If a write fails, a part of the line went out.
-    pub fn tell<E: Sink>(&self, err: &mut E)
+    pub fn report<E: Sink>(&self, err: &mut E)
         ensures { Tells (E.written err.old) (E.written err.new)
             (Rose (E.faults err.old) (E.faults err.new)) (refusal_line self.now) }
     {
-        tell("cfg_check", self.text(), self.detail(), err);
+        write_failure("cfg_check", self.text(), self.detail(), err);
     }
 }

@@ -62,6 +62,6 @@ impl GraphReport {
     {
         let names = FileNames::new(&self.image, &self.seeds);
         let pieces = ReportPieces::new(alloc, &names, &self.graph, ReportKind::Graph)?;
-        Ok(write_pieces(alloc, pieces, out)?)
+        write_pieces(alloc, pieces, out)
     }
 }

@@ -3,13 +3,13 @@
 ghost use Rattle.std.specs.Prelude.{◌≡◌, Some, None, IfOk, IfErr, OnOk};
 ghost use Rattle.elf_image.specs.Faults.{first_fault};
 ghost use Rattle.elf_image.specs.Outcome.{IfMalformed};
-ghost use Rattle.cert_files.specs.FileCertificate.{IsCertificateOf};
+ghost use Rattle.cert_laws.specs.FileCertificate.{IsCertificateOf};
 ghost use Rattle.check_run.specs.Inner.{IsTrueOfCheck};
 ghost use Rattle.check_run.specs.Text.{IsCanonicalText, IsReportOf};
 
 use crate::refusal::Refusal;
 use crate::report::GraphReport;
-use cert_graph::check;
+use cert_check::check;
 use cert_text::{Certificate, print};
 use certify::file_certificate;
 use elf_image::{ElfError, Image};

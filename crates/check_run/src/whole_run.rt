@@ -30,14 +30,14 @@ use std::mem;
 /// Runs the program. If `words` ask for a certificate, it reads the file from its input and writes
 /// the file's canonical certificate to `out`. If they ask for a test, it reads the file and the
 /// certificate, each from its own input, and writes the report of the graph that the certificate
-/// certifies. Why it did not, it tells on `err`. It starts no thread and waits for nobody.
+/// certifies. Why it did not, it reports on `err`. It starts no thread and waits for nobody.
 ///
 /// The clause `answer` is what the program is for. If the words and the bytes decide the end of a
 /// run, its status, standard output and standard error are exactly those of the answer to them. By
 /// `complete` they do if neither an input nor standard output failed in this run and memory
 /// sufficed. The other clauses say what holds if something failed.
 ///
-/// Time: that of `certify::file_certificate`, or that of `cert_graph::check` and linear in the
+/// Time: that of `certify::file_certificate`, or that of `cert_check::check` and linear in the
 /// certificate. Memory: the file, the bytes of the certificate and its lines, and that of the call.
 pub fn check_run<I: Input, J: Input, O: Sink, E: Sink>(
     alloc: Global,
@@ -119,13 +119,13 @@ pub fn check_run<I: Input, J: Input, O: Sink, E: Sink>(
     }
 }
 
-// Ends a run that writes no whole text.
-fn refuse<E: Sink>(refusal: Refusal, err: &mut E) -> CheckStatus
+/// Ends a run that writes no whole text.
+pub fn refuse<E: Sink>(refusal: Refusal, err: &mut E) -> CheckStatus
     ensures status { result ≡ status_of refusal }
     ensures line { Tells (E.written err.old) (E.written err.new)
         (Rose (E.faults err.old) (E.faults err.new)) (refusal_line refusal) }
 {
-    refusal.tell(err);
+    refusal.report(err);
     refusal.status()
 }
 

@@ -293,6 +293,7 @@ impl<'a> Chains for Code<'a> {
         }
     }
 
+    #[inline(always)]
     fn term(&self, a: u64) -> u64 {
         self.index.term(a)
     }

@@ -7,7 +7,6 @@ use crate::tally::{Tally, add_one};
 use crate::worker_ids::WorkerIds;
 use core_state::Name;
 use std::alloc::Global;
-use std::collections::VecDeque;
 use std::marker::{Model, PhantomData};
 use std::sync::Wait;
 use steal_pool::{Hand, Pool};
@@ -22,7 +21,7 @@ const KEPT: usize = 64;
 /// Contracts see the hand.
 #[derive(Drop)]
 pub(crate) struct Names<S: WorkerIds> {
-    names: VecDeque<Name>,
+    names: Vec<Name>,
     hand: Hand,
     ids: PhantomData<S>,
 }
@@ -44,7 +43,7 @@ impl<S: WorkerIds> Names<S> {
         requires { IsHandAt S.deques S.number hand }
     {
         Names {
-            names: VecDeque::new(alloc),
+            names: Vec::new(alloc),
             hand,
             ids: PhantomData,
         }
@@ -62,14 +61,24 @@ impl<S: WorkerIds> Names<S> {
         self.hand.stolen()
     }
 
-    /// The newest name, or else the oldest of a deque.
-    pub(crate) fn take<R: Wait>(&mut self, tally: &mut Tally, rt: &R, pool: &Pool) -> Option<Name>
+    /// The newest name that was kept.
+    #[inline]
+    pub(crate) fn take_kept(&mut self, tally: &mut Tally) -> Option<Name> {
+        let name = self.names.pop()?;
+        add_one(&mut tally.from_kept);
+        Some(name)
+    }
+
+    /// The oldest name of a deque.
+    #[inline(never)]
+    pub(crate) fn take_from_deque<R: Wait>(
+        &mut self,
+        tally: &mut Tally,
+        rt: &R,
+        pool: &Pool,
+    ) -> Option<Name>
         requires { pool.now.deques ≡ S.deques }
     {
-        if let Some(name) = self.names.pop_back() {
-            add_one(&mut tally.from_kept);
-            return Some(name);
-        }
         let name = self.hand.take(rt, pool)?;
         add_one(&mut tally.from_deques);
         Some(name)
@@ -77,10 +86,10 @@ impl<S: WorkerIds> Names<S> {
 
     /// Takes the newest name, if it is this one. Whether it was.
     pub(crate) fn take_newest(&mut self, tally: &mut Tally, name: Name) -> bool {
-        if self.names.back() != Some(&name) {
+        if self.names.last() != Some(&name) {
             return false;
         }
-        self.names.pop_back();
+        self.names.pop();
         add_one(&mut tally.from_kept);
         true
     }
@@ -88,26 +97,37 @@ impl<S: WorkerIds> Names<S> {
     /// Keeps a name. If there are many already, the oldest goes into the hand's deque. If that
     /// gives it back, or memory is missing, the new name is dropped; its work is found after all
     /// workers have ended.
+    #[inline]
     pub(crate) fn keep(&mut self, tally: &mut Tally, name: Name) {
+        if self.names.len() < self.names.capacity() {
+            self.names.push_reserved(name);
+            add_one(&mut tally.kept);
+        } else {
+            self.keep_more(tally, name);
+        }
+    }
+
+    /// The same, if there is no room for another name.
+    #[cold]
+    #[inline(never)]
+    fn keep_more(&mut self, tally: &mut Tally, name: Name) {
         if self.names.len() >= KEPT && !self.pass_on(tally) {
             return;
         }
-        if self.names.push_back(name).is_ok() {
+        if self.names.push(name).is_ok() {
             add_one(&mut tally.kept);
         }
     }
 
     /// Puts the oldest name into the deque. Whether there is room for another now.
-    #[cold]
-    #[inline(never)]
     fn pass_on(&mut self, tally: &mut Tally) -> bool {
-        let Some(oldest) = self.names.front() else {
+        let Some(oldest) = self.names.first() else {
             return true;
         };
         if self.hand.put(*oldest).is_err() {
             return false;
         }
-        self.names.pop_front();
+        self.names.remove(0);
         add_one(&mut tally.put);
         true
     }

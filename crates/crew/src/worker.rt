@@ -74,11 +74,20 @@ impl<'a, J: Job, S: WorkerIds> Worker<'a, J, S> {
         (self.desk.into_seat(), self.names.into_hand())
     }
 
+    /// A work item: the newest that it keeps for itself.
+    #[inline]
+    pub(crate) fn take_kept(&mut self) -> Option<Name> {
+        self.names.take_kept(&mut self.tally)
+    }
+
     /// A work item: the newest that it keeps for itself, or else the oldest of a deque.
     pub(crate) fn take<R: Wait>(&mut self, rt: &R, pool: &Pool) -> Option<Name>
         requires { pool.now.deques ≡ S.deques }
     {
-        self.names.take(&mut self.tally, rt, pool)
+        match self.take_kept() {
+            Some(name) => Some(name),
+            None => self.names.take_from_deque(&mut self.tally, rt, pool),
+        }
     }
 
     /// Takes the newest name that it keeps for itself, if it is this one. Whether it was.
@@ -190,6 +199,7 @@ impl<J: Job, S: WorkerIds> Place<J> for Worker<'_, J, S> {
         desk.seat.settle(desk.board, k, x)
     }
 
+    #[inline(always)]
     fn term(&mut self, k: u64) -> Result<bool, PlaceEnd> {
         let desk = &mut self.desk;
         if desk.cache.terminators.has(k) {
@@ -247,6 +257,7 @@ impl<J: Job, S: WorkerIds> Place<J> for Worker<'_, J, S> {
         desk.seat.edges_done(desk.board, k)
     }
 
+    #[inline(always)]
     fn has_start(&mut self, s: u64) -> Result<bool, PlaceEnd> {
         let desk = &mut self.desk;
         if desk.cache.starts.has(s) {

@@ -100,6 +100,21 @@ fn next_name<J: Job, S: WorkerIds, R: Wait, C, G>(
     requires pool { shared.now.pool.now.deques ≡ S.deques }
 {
     pause.reset();
+    match worker.take_kept() {
+        Some(name) => Some(name),
+        None => name_from_deques(shared, worker, pause),
+    }
+}
+
+/// The same, if the worker keeps no name for itself.
+#[inline(never)]
+fn name_from_deques<J: Job, S: WorkerIds, R: Wait, C, G>(
+    shared: &Shared<J, R, C, G>,
+    worker: &mut Worker<J, S>,
+    pause: &mut Pause,
+) -> Option<Name>
+    requires pool { shared.now.pool.now.deques ≡ S.deques }
+{
     if let Some(name) = worker.take(shared.rt, shared.pool) {
         return Some(name);
     }

@@ -11,5 +11,5 @@ mod sharing;
 mod workers;
 
 pub use file::file_graph_by;
-pub use measure::{LEAST_SHARE, workers_worth};
+pub use measure::{LEAST_SHARES, Step, workers_worth};
 pub use std::alloc::AllocError as Memory;

@@ -13,23 +13,24 @@ ghost use Rattle.file_graph.specs.Survey.{IsFaultOf, IsSurveyOf};
 ghost use Rattle.file_crew.specs.Inner.{AnswersSeeds};
 
 use crate::Memory;
-use crate::measure::workers_worth;
+use crate::measure::{Step, workers_worth};
 use cfg_model::{Graph, Outline};
 use chain_index::ChainEnds;
 use code_tables::all_tables_by;
 use code_view::{AllTables, Code};
-use crew::{Gate, build};
+use crew::{Gate, work};
 use elf_image::{ElfError, Image};
 use elf_symbols::{Seeds, seeds};
 use file_graph::Survey;
 use outline_funcs::{functions_among_by, mark_tails_by};
 use reached_graph::outline_by;
 use reached_terms::ReachedTerms;
-use state_marks::marks_of_by;
+use state_marks::{marks_if_closed_by, marks_of};
 use std::alloc::Global;
 use std::marker::Sync;
 use std::sync::Wait;
 use std::thread::{Threads, join};
+use work_ops::finish;
 
 /// The survey of a file, made by `workers` workers. One thread more reads the seeds meanwhile.
 ///
@@ -72,7 +73,7 @@ pub fn tables_with<R: Threads + Sync>(
     requires { 1 ≤ workers }
     ensures { IfOk result (AreAllTables code.now.bytes) }
 {
-    let workers = workers_worth(code.index().numbers() as usize, workers);
+    let workers = workers_worth(Step::Tables, code.index().numbers() as usize, workers);
     all_tables_by(rt, alloc, code, workers)
 }
 
@@ -95,8 +96,12 @@ pub fn follow_with<R: Threads + Wait + Sync, G: Gate>(
     if seeds.len() < 2 {
         return ReachedTerms::of(alloc, code, seeds);
     }
-    let state = build(rt, alloc, code, seeds, workers, gate)?;
-    marks_of_by(rt, alloc, code, &state, workers)
+    let mut state = work(rt, alloc, code, seeds, workers, gate)?;
+    if let Some(reached) = marks_if_closed_by(rt, alloc, code, seeds, &state, workers)? {
+        return Ok(reached);
+    }
+    finish(alloc, code, seeds, &mut state)?;
+    marks_of(alloc, code, &state)
 }
 
 /// The graph of a program with this entry, from what it reaches, made by `workers` workers. Each
@@ -116,17 +121,17 @@ pub fn graph_with<R: Threads + Sync>(
     requires reached { IsReachOf code.now seeds.now reached.now }
     ensures { IfOk result (IsGraph (program_of code.now) seeds.now entry) }
 {
-    let for_code = workers_worth(code.index().numbers() as usize, workers);
+    let for_code = workers_worth(Step::Outline, code.index().numbers() as usize, workers);
     let outline = outline_by(rt, alloc, code, reached, for_code)?;
     let returns = |a: u64| -> bool
         requires { (from : List ℕ) × IsReachOf code.now from reached.now
             × Reached (program_of code.now) from a }
         ensures { IsTrue result ↔ Returns (program_of code.entry.now) a }
     { reached.returns(code, a) };
-    let for_blocks = workers_worth(outline.blocks.as_slice().len(), workers);
+    let for_blocks = workers_worth(Step::Functions, outline.blocks.as_slice().len(), workers);
     let functions = functions_among_by(rt, alloc, code, seeds, &outline, &returns, for_blocks)?;
     let Outline { blocks, mut edges } = outline;
-    let for_edges = workers_worth(edges.as_slice().len(), workers);
+    let for_edges = workers_worth(Step::Tails, edges.as_slice().len(), workers);
     mark_tails_by(rt, alloc, &functions, &mut edges, for_edges)?;
     Ok(Graph {
         entry,

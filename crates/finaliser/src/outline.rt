@@ -5,8 +5,8 @@ ghost use Rattle.finaliser.specs.Closed.{IsClosedFromSome, IsOutlineOf};
 
 use cfg_model::{Memory, Outline};
 use core_state::State;
+use numbered::Numbered;
 use reached_graph::outline_from;
-use reached_terms::Numbered;
 use state_marks::marks_of;
 use std::alloc::Global;
 

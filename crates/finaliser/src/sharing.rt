@@ -6,8 +6,8 @@ ghost use Rattle.finaliser.specs.Closed.{IsClosedFromSome, IsOutlineOf};
 
 use cfg_model::{Memory, Outline};
 use core_state::State;
+use numbered::Numbered;
 use reached_graph::outline_by;
-use reached_terms::Numbered;
 use state_marks::marks_of_by;
 use std::alloc::Global;
 use std::thread::Threads;

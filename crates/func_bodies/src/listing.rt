@@ -13,8 +13,8 @@ ghost use Rattle.reached_terms.specs.Reached.{AreReachedTerms};
 
 use cfg_model::{Functions, Outline};
 use core_state::State;
+use numbered::Numbered;
 use outline_funcs::{Memory, functions_among};
-use reached_terms::Numbered;
 use state_marks::marks_of;
 use std::alloc::Global;
 

@@ -13,9 +13,9 @@ ghost use Rattle.reached_terms.specs.Reached.{AreReachedTerms};
 
 use cfg_model::{Functions, Outline};
 use core_state::State;
+use numbered::Numbered;
 use outline_funcs::{Memory, functions_among_by};
 use parallel::MOST_WORKERS;
-use reached_terms::Numbered;
 use state_marks::marks_of_by;
 use std::alloc::Global;
 use std::thread::Threads;

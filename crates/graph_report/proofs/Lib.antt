@@ -1,4 +1,5 @@
 pub mod Digits
 pub mod Lefts
+pub mod Filling
 pub mod Giving
 mod Worked

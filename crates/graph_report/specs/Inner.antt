@@ -1,11 +1,11 @@
 -- Words of private functions, which no public contract cites: what is left of a report.
-use Rattle.std.specs.Prelude.{ℕ, ◌+◌, ◌<◌, ◌≤◌, Bool, true, false, if◌then◌else◌}
+use Rattle.std.specs.Prelude.{◌≡◌, ℕ, ◌+◌, ◌<◌, ◌≤◌, Bool, true, false, if◌then◌else◌}
 use Rattle.std.specs.Prelude.{List, [], ◌++◌, length, zip, Option, Some, None, codes}
 use Rattle.std.specs.List.{flat_map}
 use Rattle.std.specs.Option.{option_map}
 use Rattle.cfg_model.specs.declared.graph.Block.{Block}
 use Rattle.cfg_model.specs.declared.graph.Edge.{Edge}
-use Rattle.graph_report.specs.declared.page.TheConstants.{LINE_ROOM}
+use Rattle.graph_report.specs.declared.page.TheConstants.{LINE_ROOM, PAGE_ROOM, PIECE}
 use Rattle.graph_report.specs.declared.kind.ReportKind.{ReportKind}
 use Rattle.graph_report.specs.declared.kind.ReportKind.TheVariants as reports
 use Rattle.graph_report.specs.declared.left.FunctionsLeft.{FunctionsLeft}
@@ -25,6 +25,14 @@ use Rattle.graph_report.specs.Report.{heading, function_lines}
 -- The text grew, by a line at most.
 abbrev pub IsLine : List ℕ → List ℕ → Type 0
 IsLine old new = (length old < length new) × (length new ≤ length old + LINE_ROOM)
+
+-- Text moved from the front of what is left to the end of a page, until a piece stood there or
+-- nothing was left.
+pub record Fills (page left new_page new_left : List ℕ) : Type 0 where
+  pub moves : new_page ++ new_left ≡ page ++ left
+  pub room : length new_page ≤ PAGE_ROOM
+  pub filled : length new_page < PIECE → new_left ≡ []
+  pub stays : PIECE ≤ length page → (new_page ≡ page) × (new_left ≡ left)
 
 -- Which sections a kind of report has.
 abbrev pub has_functions : ReportKind → Bool

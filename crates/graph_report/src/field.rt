@@ -1,6 +1,6 @@
 //! The fields of a line: words, addresses and counts.
 
-ghost use Rattle.std.specs.Prelude.{◌≡◌, ◌≤◌, ◌<◌, ◌+◌, ◌/◌, ◌%◌, ◌++◌, length, codes, decimal};
+ghost use Rattle.std.specs.Prelude.{◌≡◌, ◌≤◌, ◌<◌, ◌+◌, ◌/◌, ◌%◌, ◌++◌, length, take, codes, decimal};
 ghost use Rattle.graph_report.specs.Number.{hex_digit, hex_digits, address_digits, mask_digits};
 ghost use Rattle.graph_report.specs.Words.{status_word, end_word, edge_word};
 
@@ -37,45 +37,54 @@ pub fn end_word(kind: EndKind) -> &'static [u8]
     }
 }
 
-/// Appends the last field of a block's line, the word for what the block ends with. A space comes
-/// before it and the newline after it: 12 bytes at most.
-pub fn push_end_field(page: &mut Page, kind: EndKind)
-    requires room { length page.old + 12 ≤ PAGE_ROOM }
-    ensures text { page.new ≡ page.old ++ (codes " " ++ end_word kind ++ codes "\n") }
-    ensures most { length page.new ≤ length page.old + 12 }
-{
-    match kind {
-        EndKind::Fall => page.push(b" fall\n"),
-        EndKind::Branch => page.push(b" branch\n"),
-        EndKind::BranchOut => page.push(b" branch-out\n"),
-        EndKind::Jump => page.push(b" jump\n"),
-        EndKind::Call => page.push(b" call\n"),
-        EndKind::IndirectCall => page.push(b" icall\n"),
-        EndKind::Return => page.push(b" return\n"),
-        EndKind::Table => page.push(b" table\n"),
-        EndKind::TableCut => page.push(b" table-cut\n"),
-        EndKind::TableOpen => page.push(b" table-open\n"),
-        EndKind::Unknown => page.push(b" unknown\n"),
-        EndKind::Stop => page.push(b" stop\n"),
-    }
+/// The last field of a line, with the space before it and the newline after it.
+#[derive(Clone, Copy)]
+pub struct LastField {
+    /// Its bytes, and spaces after them.
+    pub text: [u8; 12],
+    /// How many bytes it has.
+    pub len: usize,
 }
 
-/// Appends the last field of an edge's line, the word for the kind of the edge. A space comes
-/// before it and the newline after it: 7 bytes at most.
-pub fn push_edge_field(page: &mut Page, kind: EdgeKind)
-    requires room { length page.old + 7 ≤ PAGE_ROOM }
-    ensures text { page.new ≡ page.old ++ (codes " " ++ edge_word kind ++ codes "\n") }
-    ensures most { length page.new ≤ length page.old + 7 }
+/// The last field of a block's line, the word for what the block ends with.
+#[inline(always)]
+pub fn end_field(kind: EndKind) -> LastField
+    ensures within { result.len ≤ 12 }
+    ensures text { take result.len result.text ≡ codes " " ++ end_word kind ++ codes "\n" }
 {
-    match kind {
-        EdgeKind::Fall => page.push(b" fall\n"),
-        EdgeKind::Taken => page.push(b" taken\n"),
-        EdgeKind::Jump => page.push(b" jump\n"),
-        EdgeKind::Tail => page.push(b" tail\n"),
-        EdgeKind::Call => page.push(b" call\n"),
-        EdgeKind::After => page.push(b" after\n"),
-        EdgeKind::Table => page.push(b" table\n"),
-    }
+    let (text, len) = match kind {
+        EndKind::Fall => (b" fall\n      ", 6),
+        EndKind::Branch => (b" branch\n    ", 8),
+        EndKind::BranchOut => (b" branch-out\n", 12),
+        EndKind::Jump => (b" jump\n      ", 6),
+        EndKind::Call => (b" call\n      ", 6),
+        EndKind::IndirectCall => (b" icall\n     ", 7),
+        EndKind::Return => (b" return\n    ", 8),
+        EndKind::Table => (b" table\n     ", 7),
+        EndKind::TableCut => (b" table-cut\n ", 11),
+        EndKind::TableOpen => (b" table-open\n", 12),
+        EndKind::Unknown => (b" unknown\n   ", 9),
+        EndKind::Stop => (b" stop\n      ", 6),
+    };
+    LastField { text: *text, len }
+}
+
+/// The last field of an edge's line, the word for the kind of the edge.
+#[inline(always)]
+pub fn edge_field(kind: EdgeKind) -> LastField
+    ensures within { result.len ≤ 7 }
+    ensures text { take result.len result.text ≡ codes " " ++ edge_word kind ++ codes "\n" }
+{
+    let (text, len) = match kind {
+        EdgeKind::Fall => (b" fall\n      ", 6),
+        EdgeKind::Taken => (b" taken\n     ", 7),
+        EdgeKind::Jump => (b" jump\n      ", 6),
+        EdgeKind::Tail => (b" tail\n      ", 6),
+        EdgeKind::Call => (b" call\n      ", 6),
+        EdgeKind::After => (b" after\n     ", 7),
+        EdgeKind::Table => (b" table\n     ", 7),
+    };
+    LastField { text: *text, len }
 }
 
 /// The hexadecimal digit of a number below 16, in lower case.

@@ -1,18 +1,19 @@
 //! What is left of a report: its sections, each from where it stands on.
 
-ghost use Rattle.std.specs.Prelude.{◌≡◌, ℕ, ◌+◌, ◌≤◌, [], ◌++◌, false, length};
+ghost use Rattle.std.specs.Prelude.{◌≡◌, ◌<◌, ◌≤◌, [], ◌++◌, false, length};
 ghost use Rattle.std.specs.Prelude.{IsTrue, if◌then◌else◌};
 ghost use Rattle.elf_image.specs.Seeds.{seed_name};
 ghost use Rattle.graph_report.specs.Name.{Names};
 ghost use Rattle.graph_report.specs.Line.{end_line};
 ghost use Rattle.graph_report.specs.Report.{functions_section, sections};
-ghost use Rattle.graph_report.specs.Inner.{IsLine, functions_left, end_left, report_left};
+ghost use Rattle.graph_report.specs.Inner.{Fills, functions_left, end_left, report_left};
 
 use crate::file_names::FileNames;
 use crate::kind::ReportKind;
-use crate::line::{begin_function, go_on_with_name, push_end, push_function_count, push_in};
+use crate::line::{begin_function, go_on_with_name, push_end, push_function_count};
+use crate::lined::push_lines;
 use crate::list_left::ListLeft;
-use crate::page::{LINE_ROOM, PAGE_ROOM, Page};
+use crate::page::{PAGE_ROOM, PIECE, Page};
 use cfg_model::{Block, Edge, Function, Graph};
 
 /// What is left of the section of the functions.
@@ -88,14 +89,28 @@ impl<'a> FunctionsLeft<'a> {
         cut
     }
 
-    /// Puts the next line on the page, or a part of it; `false` if nothing is left.
+    /// Puts text on the page until a piece stands there or nothing is left.
+    fn fill(&mut self, names: &FileNames<'a>, page: &mut Page)
+        requires room { length page.old ≤ PAGE_ROOM }
+        ensures { Fills page.old (functions_left (seed_name names.now) self.old) page.new
+            (functions_left (seed_name names.now) self.new) }
+    {
+        while page.len() < PIECE {
+            if !self.step(names, page) {
+                break;
+            }
+        }
+    }
+
+    /// Puts the next line on the page, a part of it, or lines of blocks until a piece stands there;
+    /// `false` if nothing is left.
     fn step(&mut self, names: &FileNames<'a>, page: &mut Page) -> bool
-        requires room { length page.old + LINE_ROOM ≤ PAGE_ROOM }
+        requires room { length page.old < PIECE }
         ensures moves { page.new ++ functions_left (seed_name names.now) self.new
             ≡ page.old ++ functions_left (seed_name names.now) self.old }
-        ensures line { IsTrue result → IsLine page.old page.new }
-        ensures stays { result ≡ false → (page.new ≡ page.old) × (self.new ≡ self.old) }
-        ensures end { result ≡ false → functions_left (seed_name names.now) self.old ≡ [] }
+        ensures grows { IsTrue result → length page.old < length page.new }
+        ensures room { length page.new ≤ PAGE_ROOM }
+        ensures end { result ≡ false → functions_left (seed_name names.now) self.new ≡ [] }
     {
         if let Some(count) = self.count {
             self.count = None;
@@ -106,9 +121,8 @@ impl<'a> FunctionsLeft<'a> {
             self.name = go_on_with_name(page, name);
             return true;
         }
-        if let [block, rest @ ..] = self.body {
-            push_in(page, *block);
-            self.body = rest;
+        if !self.body.is_empty() {
+            self.body = push_lines(self.body, page);
             return true;
         }
         let [function, rest @ ..] = self.functions else {
@@ -213,40 +227,27 @@ impl<'a> ReportLeft<'a> {
         cut
     }
 
-    /// Puts the next line on the page, or a part of it; `false` if nothing is left.
-    pub fn step(&mut self, names: &FileNames<'a>, page: &mut Page) -> bool
-        requires room { length page.old + LINE_ROOM ≤ PAGE_ROOM }
-        ensures moves { page.new ++ report_left (seed_name names.now) self.new
-            ≡ page.old ++ report_left (seed_name names.now) self.old }
-        ensures line { IsTrue result → IsLine page.old page.new }
-        ensures stays { result ≡ false → page.new ≡ page.old }
-        ensures end { result ≡ false → report_left (seed_name names.now) self.new ≡ [] }
+    /// Puts text on the page until a piece stands there or nothing is left.
+    pub fn fill(&mut self, names: &FileNames<'a>, page: &mut Page)
+        requires room { length page.old ≤ PAGE_ROOM }
+        ensures { Fills page.old (report_left (seed_name names.now) self.old) page.new
+            (report_left (seed_name names.now) self.new) }
     {
-        if self.functions.step(names, page) {
-            return true;
-        }
-        if self.blocks.step(page) {
-            return true;
-        }
-        if self.edges.step(page) {
-            return true;
-        }
-        step_end(&mut self.ended, page)
+        self.functions.fill(names, page);
+        self.blocks.fill(page);
+        self.edges.fill(page);
+        fill_end(&mut self.ended, page);
     }
 }
 
-/// Puts the last line on the page; `false` if it was given.
-pub fn step_end(ended: &mut bool, page: &mut Page) -> bool
-    requires room { length page.old + LINE_ROOM ≤ PAGE_ROOM }
-    ensures moves { page.new ++ end_left ended.new ≡ page.old ++ end_left ended.old }
-    ensures line { IsTrue result → IsLine page.old page.new }
-    ensures stays { result ≡ false → page.new ≡ page.old }
-    ensures end { result ≡ false → end_left ended.new ≡ [] }
+/// Puts the last line on the page, unless it was given or a piece stands there.
+#[tactic(auto, using(crate::proofs::Filling::filled_line, crate::proofs::Filling::filled_before))]
+pub fn fill_end(ended: &mut bool, page: &mut Page)
+    requires room { length page.old ≤ PAGE_ROOM }
+    ensures { Fills page.old (end_left ended.old) page.new (end_left ended.new) }
 {
-    if *ended {
-        return false;
+    if page.len() < PIECE && !*ended {
+        push_end(page);
+        *ended = true;
     }
-    *ended = true;
-    push_end(page);
-    true
 }

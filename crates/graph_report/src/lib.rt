@@ -8,7 +8,7 @@
 //! - [`kind`]: what a report shows.
 //! - [`left`]: the three sections of a report and its last line, each from where it stands on.
 //!   [`list_left`]: a section that lists blocks or edges. [`live_left`]: the same of a report of live
-//!   registers.
+//!   registers. [`lined`]: the loop that puts lines on a page.
 //! - [`line`]: each line form. [`field`]: the fields of a line. [`name`]: how a name becomes one.
 //! - [`page`]: the page that lines are put on.
 //! - `specs/`: the format, line by line, as definitions of its bytes.
@@ -19,6 +19,7 @@ mod file_names;
 mod kind;
 mod left;
 mod line;
+mod lined;
 mod lines;
 mod list_left;
 mod live_left;

@@ -9,9 +9,10 @@ ghost use Rattle.graph_report.specs.Line.{made_line, may_return_line, no_return_
 ghost use Rattle.graph_report.specs.Inner.{IsLine, name_left};
 
 use crate::field::{
-    address_and_mask, address_digits, push_address, push_count, push_edge_field, push_end_field,
-    push_field, push_number, status_word, two_addresses,
+    address_and_mask, address_digits, edge_field, end_field, push_address, push_count, push_field,
+    push_number, status_word, two_addresses,
 };
+use crate::lined::Lined;
 use crate::list_left::Listed;
 use crate::name::{begin_name, push_front};
 use crate::page::{LINE_ROOM, PAGE_ROOM, Page};
@@ -78,50 +79,56 @@ pub fn go_on_with_name<'a>(page: &mut Page, name: &'a [u8]) -> Option<&'a [u8]>
     Some(push_front(page, name))
 }
 
-/// Appends the line of a block of the function above, which starts at an address.
-pub fn push_in(page: &mut Page, block: u64)
-    requires room { length page.old + LINE_ROOM ≤ PAGE_ROOM }
-    ensures text { page.new ≡ page.old ++ in_line block }
-    ensures line { IsLine page.old page.new }
-{
-    let mut line = *b"in 0000000000000000\n";
-    line[3..19].copy_from_slice(&address_digits(block));
-    page.push(&line);
+/// The start of a block of the function above.
+impl Lined for u64 {
+    ghost line = { in_line };
+
+    fn push_line(&self, page: &mut Page) {
+        let mut line = *b"in 0000000000000000\n";
+        line[3..19].copy_from_slice(&address_digits(*self));
+        page.push(&line);
+    }
 }
 
 impl Listed for Block {
     ghost first = { blocks_line };
 
-    ghost line = { block_line };
-
     fn push_count(page: &mut Page, count: usize) {
         page.push(b"blocks");
         push_count(page, count);
     }
+}
+
+impl Lined for Block {
+    ghost line = { block_line };
 
     fn push_line(&self, page: &mut Page) {
-        let mut front = *b"block 0000000000000000 0000000000000000";
-        front[5..].copy_from_slice(&two_addresses(self.start, self.end));
-        page.push(&front);
-        push_end_field(page, self.kind);
+        let last = end_field(self.kind);
+        let mut line = *b"block 0000000000000000 0000000000000000            ";
+        line[5..39].copy_from_slice(&two_addresses(self.start, self.end));
+        line[39..].copy_from_slice(&last.text);
+        page.push_front(&line, 39 + last.len);
     }
 }
 
 impl Listed for Edge {
     ghost first = { edges_line };
 
-    ghost line = { edge_line };
-
     fn push_count(page: &mut Page, count: usize) {
         page.push(b"edges");
         push_count(page, count);
     }
+}
+
+impl Lined for Edge {
+    ghost line = { edge_line };
 
     fn push_line(&self, page: &mut Page) {
-        let mut front = *b"edge 0000000000000000 0000000000000000";
-        front[4..].copy_from_slice(&two_addresses(self.from, self.to));
-        page.push(&front);
-        push_edge_field(page, self.kind);
+        let last = edge_field(self.kind);
+        let mut line = *b"edge 0000000000000000 0000000000000000            ";
+        line[4..38].copy_from_slice(&two_addresses(self.from, self.to));
+        line[38..].copy_from_slice(&last.text);
+        page.push_front(&line, 38 + last.len);
     }
 }
 
@@ -135,15 +142,15 @@ pub fn push_live_count(page: &mut Page, count: usize)
     push_count(page, count);
 }
 
-/// Appends the line of a block of the function above, with the registers that are live there.
-pub fn push_live(page: &mut Page, live: &Live)
-    requires room { length page.old + LINE_ROOM ≤ PAGE_ROOM }
-    ensures text { page.new ≡ page.old ++ live_line live.now }
-    ensures line { IsLine page.old page.new }
-{
-    let mut line = *b"live 0000000000000000 00000000\n";
-    line[4..30].copy_from_slice(&address_and_mask(live.block, live.mask));
-    page.push(&line);
+/// A block of the function above, with the registers that are live there.
+impl Lined for Live {
+    ghost line = { live_line };
+
+    fn push_line(&self, page: &mut Page) {
+        let mut line = *b"live 0000000000000000 00000000\n";
+        line[4..30].copy_from_slice(&address_and_mask(self.block, self.mask));
+        page.push(&line);
+    }
 }
 
 /// Appends the first line of the summary of the program that is made from `n`.

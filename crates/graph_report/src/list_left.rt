@@ -1,32 +1,24 @@
 //! What is left of a section that lists items, each with a line of its own.
 
-ghost use Rattle.std.specs.Prelude.{◌≡◌, ◌+◌, ◌≤◌, [], ◌++◌, false, length};
+ghost use Rattle.std.specs.Prelude.{◌≡◌, ◌+◌, ◌≤◌, [], ◌++◌, length};
 ghost use Rattle.std.specs.Prelude.{IsTrue, if◌then◌else◌};
 ghost use Rattle.std.specs.List.{flat_map};
-ghost use Rattle.graph_report.specs.Inner.{IsLine, list_left};
+ghost use Rattle.graph_report.specs.Inner.{Fills, IsLine, count_left, list_left};
 
-use crate::page::{LINE_ROOM, PAGE_ROOM, Page};
+use crate::lined::{Lined, push_lines};
+use crate::page::{LINE_ROOM, PAGE_ROOM, PIECE, Page};
 
 /// An item that a section lists, with a line of its own.
-pub trait Listed {
+pub trait Listed: Lined {
     ghost use Rattle.std.specs.Prelude.{ℕ, List};
 
     /// The first line of the section, which tells how many items it has.
     ghost first: { ℕ → List ℕ };
 
-    /// The line of an item.
-    ghost line: { Self → List ℕ };
-
     /// Appends the first line of the section.
     fn push_count(page: &mut Page, count: usize)
         requires room { length page.old + LINE_ROOM ≤ PAGE_ROOM }
         ensures text { page.new ≡ page.old ++ first count }
-        ensures line { IsLine page.old page.new };
-
-    /// Appends the line of this item.
-    fn push_line(&self, page: &mut Page)
-        requires room { length page.old + LINE_ROOM ≤ PAGE_ROOM }
-        ensures text { page.new ≡ page.old ++ line self.now }
         ensures line { IsLine page.old page.new };
 }
 
@@ -92,25 +84,29 @@ impl<'a, T: Listed> ListLeft<'a, T> {
         cut
     }
 
-    /// Puts the next line on the page; `false` if none is left.
-    pub fn step(&mut self, page: &mut Page) -> bool
-        requires room { length page.old + LINE_ROOM ≤ PAGE_ROOM }
-        ensures moves { page.new ++ list_left T.first T.line self.new
-            ≡ page.old ++ list_left T.first T.line self.old }
-        ensures line { IsTrue result → IsLine page.old page.new }
-        ensures stays { result ≡ false → (page.new ≡ page.old) × (self.new ≡ self.old) }
-        ensures end { result ≡ false → list_left T.first T.line self.old ≡ [] }
+    /// Puts lines on the page until a piece stands there or none is left.
+    pub fn fill(&mut self, page: &mut Page)
+        requires room { length page.old ≤ PAGE_ROOM }
+        ensures { Fills page.old (list_left T.first T.line self.old) page.new
+            (list_left T.first T.line self.new) }
     {
-        if let Some(count) = self.count {
-            self.count = None;
-            T::push_count(page, count);
-            return true;
+        self.fill_count(page);
+        self.items = push_lines(self.items, page);
+    }
+
+    /// Puts the first line on the page, unless it was given or a piece stands there.
+    fn fill_count(&mut self, page: &mut Page)
+        requires room { length page.old ≤ PAGE_ROOM }
+        ensures fills { Fills page.old (count_left self.old.count T.first) page.new
+            (count_left self.new.count T.first) }
+        ensures items { self.new.items ≡ self.old.items }
+    {
+        if PIECE <= page.len() {
+            return;
         }
-        let [item, rest @ ..] = self.items else {
-            return false;
-        };
-        item.push_line(page);
-        self.items = rest;
-        true
+        if let Some(count) = self.count {
+            T::push_count(page, count);
+            self.count = None;
+        }
     }
 }

@@ -1,17 +1,18 @@
 //! What is left of a report of live registers: its one section, from where it stands on.
 
-ghost use Rattle.std.specs.Prelude.{◌≡◌, ℕ, ◌+◌, ◌≤◌, [], ◌++◌, false, length};
+ghost use Rattle.std.specs.Prelude.{◌≡◌, ◌<◌, ◌≤◌, [], ◌++◌, false, length};
 ghost use Rattle.std.specs.Prelude.{IsTrue};
 ghost use Rattle.elf_image.specs.Seeds.{seed_name};
 ghost use Rattle.graph_report.specs.Name.{Names};
 ghost use Rattle.graph_report.specs.Line.{end_line};
 ghost use Rattle.graph_report.specs.Live.{lives_section};
-ghost use Rattle.graph_report.specs.Inner.{IsLine, lives_left, live_left, text_left};
+ghost use Rattle.graph_report.specs.Inner.{Fills, lives_left, live_left, text_left};
 
 use crate::file_names::FileNames;
-use crate::left::{ReportLeft, count_lines, functions_with, step_end};
-use crate::line::{begin_function, go_on_with_name, push_live, push_live_count};
-use crate::page::{LINE_ROOM, PAGE_ROOM, Page};
+use crate::left::{ReportLeft, count_lines, fill_end, functions_with};
+use crate::line::{begin_function, go_on_with_name, push_live_count};
+use crate::lined::push_lines;
+use crate::page::{PAGE_ROOM, PIECE, Page};
 use cfg_model::{AllLives, Function, Graph, Live, Lives};
 
 /// What is left of the section of the live registers.
@@ -91,14 +92,28 @@ impl<'a> LivesLeft<'a> {
         cut
     }
 
-    /// Puts the next line on the page, or a part of it; `false` if nothing is left.
+    /// Puts text on the page until a piece stands there or nothing is left.
+    fn fill(&mut self, names: &FileNames<'a>, page: &mut Page)
+        requires room { length page.old ≤ PAGE_ROOM }
+        ensures { Fills page.old (lives_left (seed_name names.now) self.old) page.new
+            (lives_left (seed_name names.now) self.new) }
+    {
+        while page.len() < PIECE {
+            if !self.step(names, page) {
+                break;
+            }
+        }
+    }
+
+    /// Puts the next line on the page, a part of it, or lines of blocks until a piece stands there;
+    /// `false` if nothing is left.
     fn step(&mut self, names: &FileNames<'a>, page: &mut Page) -> bool
-        requires room { length page.old + LINE_ROOM ≤ PAGE_ROOM }
+        requires room { length page.old < PIECE }
         ensures moves { page.new ++ lives_left (seed_name names.now) self.new
             ≡ page.old ++ lives_left (seed_name names.now) self.old }
-        ensures line { IsTrue result → IsLine page.old page.new }
-        ensures stays { result ≡ false → (page.new ≡ page.old) × (self.new ≡ self.old) }
-        ensures end { result ≡ false → lives_left (seed_name names.now) self.old ≡ [] }
+        ensures grows { IsTrue result → length page.old < length page.new }
+        ensures room { length page.new ≤ PAGE_ROOM }
+        ensures end { result ≡ false → lives_left (seed_name names.now) self.new ≡ [] }
     {
         if let Some(count) = self.count {
             self.count = None;
@@ -109,9 +124,8 @@ impl<'a> LivesLeft<'a> {
             self.name = go_on_with_name(page, name);
             return true;
         }
-        if let [live, rest @ ..] = self.body {
-            push_live(page, live);
-            self.body = rest;
+        if !self.body.is_empty() {
+            self.body = push_lines(self.body, page);
             return true;
         }
         let [function, functions @ ..] = self.functions else {
@@ -178,19 +192,14 @@ impl<'a> LiveLeft<'a> {
         cut
     }
 
-    /// Puts the next line on the page, or a part of it; `false` if nothing is left.
-    pub fn step(&mut self, names: &FileNames<'a>, page: &mut Page) -> bool
-        requires room { length page.old + LINE_ROOM ≤ PAGE_ROOM }
-        ensures moves { page.new ++ live_left (seed_name names.now) self.new
-            ≡ page.old ++ live_left (seed_name names.now) self.old }
-        ensures line { IsTrue result → IsLine page.old page.new }
-        ensures stays { result ≡ false → page.new ≡ page.old }
-        ensures end { result ≡ false → live_left (seed_name names.now) self.new ≡ [] }
+    /// Puts text on the page until a piece stands there or nothing is left.
+    pub fn fill(&mut self, names: &FileNames<'a>, page: &mut Page)
+        requires room { length page.old ≤ PAGE_ROOM }
+        ensures { Fills page.old (live_left (seed_name names.now) self.old) page.new
+            (live_left (seed_name names.now) self.new) }
     {
-        if self.lives.step(names, page) {
-            return true;
-        }
-        step_end(&mut self.ended, page)
+        self.lives.fill(names, page);
+        fill_end(&mut self.ended, page);
     }
 }
 
@@ -231,18 +240,15 @@ impl<'a> TextLeft<'a> {
         }
     }
 
-    /// Puts the next line on the page, or a part of it; `false` if nothing is left.
-    pub fn step(&mut self, names: &FileNames<'a>, page: &mut Page) -> bool
-        requires room { length page.old + LINE_ROOM ≤ PAGE_ROOM }
-        ensures moves { page.new ++ text_left (seed_name names.now) self.new
-            ≡ page.old ++ text_left (seed_name names.now) self.old }
-        ensures line { IsTrue result → IsLine page.old page.new }
-        ensures stays { result ≡ false → page.new ≡ page.old }
-        ensures end { result ≡ false → text_left (seed_name names.now) self.new ≡ [] }
+    /// Puts text on the page until a piece stands there or nothing is left.
+    pub fn fill(&mut self, names: &FileNames<'a>, page: &mut Page)
+        requires room { length page.old ≤ PAGE_ROOM }
+        ensures { Fills page.old (text_left (seed_name names.now) self.old) page.new
+            (text_left (seed_name names.now) self.new) }
     {
         match self {
-            TextLeft::Graph(left) => left.step(names, page),
-            TextLeft::Live(left) => left.step(names, page),
+            TextLeft::Graph(left) => left.fill(names, page),
+            TextLeft::Live(left) => left.fill(names, page),
         }
     }
 }

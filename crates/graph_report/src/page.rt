@@ -1,7 +1,6 @@
 //! The page that text is made on.
 
-ghost use Rattle.std.specs.Prelude.{◌≡◌, ◌≤◌, ◌+◌, [], ◌++◌, length, drop, IfOk};
-ghost use Rattle.std.specs.Prelude.{vec_len, vec_capacity};
+ghost use Rattle.std.specs.Prelude.{◌≡◌, ◌≤◌, ◌+◌, [], ◌++◌, length, take, drop, IfOk};
 
 use crate::Memory;
 use std::alloc::Global;
@@ -20,18 +19,21 @@ pub const PAGE_ROOM: usize = 4160;
 /// Text that is made and not yet given away, in room that is taken once.
 #[derive(Drop)]
 pub struct Page {
+    /// All the room, of which the text takes the front.
     bytes: Vec<u8>,
+    /// How many bytes the text has.
+    len: usize,
 }
 
 impl Model for Page {
-    ghost use Rattle.std.specs.Prelude.{ℕ, ◌≤◌, List, vec_capacity};
+    ghost use Rattle.std.specs.Prelude.{ℕ, ◌≤◌, List, length, take};
     ghost use Rattle.graph_report.specs.declared.page.TheConstants.{PAGE_ROOM};
 
     ghost Value = { List ℕ };
 
-    ghost view = { λ p. p.bytes.items };
+    ghost view = { λ p. take p.len p.bytes.items };
 
-    ghost invariant = { λ p. PAGE_ROOM ≤ vec_capacity p.bytes };
+    ghost invariant = { λ p. (PAGE_ROOM ≤ length p.bytes.items) × (p.len ≤ length p.bytes.items) };
 }
 
 impl Page {
@@ -39,29 +41,30 @@ impl Page {
     pub fn new(alloc: Global) -> Result<Self, Memory>
         ensures { IfOk result (λ page. page ≡ []) }
     {
-        let bytes = Vec::with_capacity(alloc, PAGE_ROOM)?;
-        Ok(Page { bytes })
+        let bytes = vec![in alloc; 0; PAGE_ROOM]?;
+        Ok(Page { bytes, len: 0 })
     }
 
     /// How many bytes are on it.
     pub fn len(&self) -> usize
         ensures { result ≡ length self.now }
     {
-        self.bytes.len()
+        self.len
     }
 
     /// The bytes on it.
     pub fn bytes(&self) -> &[u8]
         ensures { result.now ≡ self.now }
     {
-        self.bytes.as_slice()
+        &self.bytes[..self.len]
     }
 
     /// The bytes on it, without the page.
     pub fn into_bytes(self) -> Vec<u8>
         ensures { result.items ≡ self }
     {
-        let Page { bytes } = self;
+        let Page { mut bytes, len } = self;
+        bytes.truncate(len);
         bytes
     }
 
@@ -70,7 +73,20 @@ impl Page {
         requires { length self.old + length text.now ≤ PAGE_ROOM }
         ensures { self.new ≡ self.old ++ text.now }
     {
-        self.bytes.extend_from_slice(text).unwrap();
+        self.push_front(text, text.len());
+    }
+
+    /// Appends the first `n` bytes of a text. The page has room for all of it, so that a text of
+    /// fixed length is copied as a whole.
+    #[inline(always)]
+    pub fn push_front(&mut self, text: &[u8], n: usize)
+        requires within { n ≤ length text.now }
+        requires room { length self.old + length text.now ≤ PAGE_ROOM }
+        ensures { self.new ≡ self.old ++ take n text.now }
+    {
+        let len = self.len;
+        self.bytes[len..len + text.len()].copy_from_slice(text);
+        self.len = len + n;
     }
 
     /// Takes the first `n` bytes away.
@@ -78,8 +94,7 @@ impl Page {
         requires { n ≤ length self.old }
         ensures { self.new ≡ drop n self.old }
     {
-        let len = self.bytes.len();
-        self.bytes.copy_within(n..len, 0);
-        self.bytes.truncate(len - n);
+        self.bytes.copy_within(n..self.len, 0);
+        self.len -= n;
     }
 }

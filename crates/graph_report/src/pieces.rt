@@ -114,7 +114,7 @@ impl<'a> ReportPieces<'a> {
             (λ _ _. ⊤) (GivesPiece self.old (option_map (λ s. s.now) result))) }
     {
         self.page.drop_front(self.given);
-        fill(&self.names, &mut self.left, &mut self.page);
+        self.left.fill(&self.names, &mut self.page);
         let n = self.page.len().min(PIECE);
         self.given = n;
         if n == 0 {
@@ -144,19 +144,4 @@ fn headed(alloc: Global, entry: u64) -> Result<Page, Memory>
     push_first(&mut page);
     push_entry(&mut page, entry);
     Ok(page)
-}
-
-/// Puts lines on the page until a piece stands there or nothing is left.
-fn fill<'a>(names: &FileNames<'a>, left: &mut TextLeft<'a>, page: &mut Page)
-    requires room { length page.old ≤ PAGE_ROOM }
-    ensures moves { page.new ++ text_left (seed_name names.now) left.new ≡ page.old ++ text_left
-        (seed_name names.now) left.old }
-    ensures room { length page.new ≤ PAGE_ROOM }
-    ensures filled { length page.new < PIECE → text_left (seed_name names.now) left.new ≡ [] }
-{
-    while page.len() < PIECE {
-        if !left.step(names, page) {
-            break;
-        }
-    }
 }

@@ -136,7 +136,7 @@ fn lives_by_piece<R: Threads + Sync>(
             program.entry.now.blocks.now program.entry.now.edges.now
             (slice_index_or pieces.entry.now i d).now v.items) }
     { lives_of(alloc, program, pieces[i]) };
-    Ok(map_drawn(rt, alloc, workers, pieces.len(), &make)?)
+    map_drawn(rt, alloc, workers, pieces.len(), &make)
 }
 
 /// What the blocks of each piece read and write, found by this many workers.
@@ -153,5 +153,5 @@ fn notes_shared<R: Threads + Sync>(
         ensures { AreEffectsFrom image.entry.now blocks.entry.now (piece * PIECE_BLOCKS)
             result.items }
     { effects_of_piece(alloc, image, blocks, piece) };
-    Ok(map_drawn(rt, alloc, workers, piece_count(blocks), &make)?)
+    map_drawn(rt, alloc, workers, piece_count(blocks), &make)
 }

@@ -16,5 +16,3 @@ pub mod BlocksListed
 pub mod Whole
 pub mod Parts
 pub mod Joining
-pub mod Chunked
-pub mod Appended

@@ -6,4 +6,3 @@ pub mod Found
 pub mod Bodies
 pub mod Marking
 pub mod Plans
-pub mod Parts

@@ -13,7 +13,6 @@ mod entries;
 mod exits;
 mod found;
 pub mod listing;
-mod plan_sharing;
 pub mod sharing;
 pub mod tail_sharing;
 pub mod tails;

@@ -13,8 +13,7 @@ ghost use Rattle.outline_funcs.specs.Inner.Plans.{AreAll, Serves};
 
 use crate::Memory;
 use crate::exits::Exits;
-use crate::listing::{Plan, functions_among, functions_at};
-use crate::plan_sharing::plan_by;
+use crate::listing::{Plan, functions_among, functions_at, plan_of};
 use cfg_model::{Block, Chains, Function, Functions, Outline};
 use parallel::{MOST_WORKERS, joined_if_made, map_indices};
 use std::alloc::Global;
@@ -25,11 +24,10 @@ use std::thread::Threads;
 /// functions or more, which alone take more than 160 GiB, or where there are 2^32 edges or more,
 /// which alone take 96 GiB.
 ///
-/// The edges are cut into one part for each worker, which lists the targets of calls in it, while
-/// one more thread finds the first edge from each block. One thread merges the entries, and marks
-/// the blocks where they stand. The entries are cut into one part for each worker too, with about
-/// as many blocks between the first and the last one of each. A worker needs four bytes for each
-/// block of the program, besides its functions and five bytes for each block that all share.
+/// The caller's thread finds the entries, and the first edge from each block. The entries are cut
+/// into one part for each worker, with about as many blocks between the first and the last one of
+/// each. A worker needs four bytes for each block of the program, besides its functions and five
+/// bytes for each block that all share.
 pub fn functions_among_by<R: Threads + Sync, C: Chains, F: Fn(u64) -> bool + Sync>(
     rt: &R,
     alloc: Global,
@@ -72,7 +70,7 @@ fn functions_shared<R: Threads + Sync, C: Chains, F: Fn(u64) -> bool + Sync>(
     ensures { IfOk result (λ v. AreAll (C.map code.now) seeds.now v.items) }
 {
     let blocks = outline.blocks.as_slice();
-    let Plan { entries, exits } = plan_by(rt, alloc, code, seeds, outline, workers)?;
+    let Plan { entries, exits } = plan_of(alloc, code, seeds, outline)?;
     let parts = parts_of(alloc, &entries, blocks, workers)?;
     let lists = made_by_part(rt, alloc, &exits, &parts, returns)?;
     let functions = joined_if_made(alloc, lists)?;

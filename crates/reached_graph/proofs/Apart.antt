@@ -92,6 +92,16 @@ module _ (map : InstructionMap) (lawful : IsLawful map) (IsCut : ℕ → Type 0)
           (λ x above cut. absurd (omega (arith, past, (next_cut i 0 x within above cut).0)))
     ]
 
+    -- a block that is cut at fewer addresses stays as it is if the next start lies after it
+    pub stays_at : (Before : ℕ → Type 0) → ((a : ℕ) → Before a → IsCut a) → (i k : ℕ) → i < length starts → IsLastOf map Before (get_or starts i 0) k → (i + 1 < length starts → k < get_or starts (i + 1) 0) → IsLastOf map IsCut (get_or starts i 0) k
+    stays_at Before there i k within last after = record {
+      runs = runs_along (chain_of last.runs) (λ x above low cut. let next = next_cut i 0 x within above cut in omega (arith, low, next.1, after next.0));
+      stops = elim last.stops [
+        | inl ends ↦ inl ends
+        | inr into ↦ inr (into.0, into.1, there into.0 into.2)
+      ];
+    }
+
     -- b lies on the block of one of them
     pub record LiesOn (b : ℕ) : Type 0 where
       pub place : ℕ

@@ -10,7 +10,7 @@ use Rattle.cfg_model.specs.Graph.Block.{IsLastOf}
 use Rattle.cfg_model.specs.Graph.Leader.{IsLeader}
 use Rattle.cfg_model.proofs.Program.Known.{reached_along}
 use Rattle.cfg_model.proofs.Graphs.Runs.{goes_up}
-use Rattle.reached_terms.specs.Numbering.{IsMarked}
+use Rattle.numbered.specs.Numbering.{IsMarked}
 use Rattle.reached_terms.specs.Reached.{Reach, AreReachedTerms}
 use Rattle.reached_graph.specs.declared.leaders.Leaders.{Leaders}
 use Rattle.reached_graph.specs.declared.walks.Walks.{Walks}

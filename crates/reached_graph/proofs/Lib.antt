@@ -11,3 +11,4 @@ mod Leading
 mod Making
 mod Together
 mod Calling
+mod InOrder

@@ -3,7 +3,7 @@ use Rattle.std.proofs.Common.{◌≡◌, ℕ, Bool, true, false, List, length, g
 use Rattle.std.proofs.lemmas.Bool.{cases_eq, cases_lt, false≢true}
 use Rattle.std.proofs.lemmas.List.{get_or-set_same, get_or-set_other, get_or-replicate, get_or_past, length-replicate}
 use Rattle.cfg_model.specs.Program.Instructions.{InstructionMap}
-use Rattle.reached_terms.specs.Numbering.{IsMarked, IsNumbering}
+use Rattle.numbered.specs.Numbering.{IsMarked, IsNumbering}
 use Rattle.reached_graph.specs.Inner.Marks.{IsAdded}
 
 module _ (map : InstructionMap) (number : ℕ → ℕ) where

@@ -15,9 +15,6 @@ use Rattle.cfg_model.specs.Graph.Block.{IsLastOf}
 use Rattle.cfg_model.specs.Graph.Edge.{Leaves}
 use Rattle.cfg_model.specs.Graph.Graph.{EdgeBefore}
 use Rattle.cfg_model.proofs.Program.Listed.{none_in}
-use Rattle.outline_funcs.specs.Inner.Parts.{AnswerChunks}
-use Rattle.outline_funcs.proofs.Chunked.{chunks_joined}
-use Rattle.parallel.specs.Lists as lists
 use Rattle.reached_graph.specs.Inner.Blocks.{AreCutAt}
 use Rattle.reached_graph.specs.Inner.Parts.{Answered, AnswerParts, ArePart, IsMade, LeavesOne, blocks_in, edges_in}
 
@@ -47,15 +44,6 @@ both_each P xs zs ys ws same d e one other i within = elim (cases_lt i (length x
 -- ---- last addresses
 
 module _ (map : InstructionMap) (IsCut : ℕ → Type 0) where
-  none_cut : AreCutAt map IsCut [] []
-  none_cut = record { as_many = refl; each = λ i d within. absurd (omega (arith, within)) }
-
-  both_cut : (xs zs ks ls : List ℕ) → AreCutAt map IsCut xs ks → AreCutAt map IsCut zs ls → AreCutAt map IsCut (xs ++ zs) (ks ++ ls)
-  both_cut xs zs ks ls one other = record {
-    as_many = omega (arith, one.as_many, other.as_many, length-append xs zs, length-append ks ls);
-    each = λ i d within. both_each (λ s k. IsLastOf map IsCut s k) xs zs ks ls one.as_many d d (λ j lt. one.each j d lt) (λ j lt. other.each j d lt) i within;
-  }
-
   -- the last addresses of so many starts from one on
   pub cut_in : (starts : List ℕ) (from count : ℕ) (lasts : List ℕ) (size : ℕ) → from ≤ length starts → size ≡ min count (length starts - from) → length lasts ≡ size
       → ((j d : ℕ) → j < length lasts → IsLastOf map IsCut (get_or starts (from + j) d) (get_or lasts j d)) → AreCutAt map IsCut (take count (drop from starts)) lasts
@@ -66,11 +54,6 @@ module _ (map : InstructionMap) (IsCut : ℕ → Type 0) where
         rw (get_or-take count (drop from starts) j d less, get_or-drop from starts j d)
         (each j d (omega (arith, below, as_many, is, length-take count (drop from starts), length-drop from starts)));
   }
-
-  pub lasts_joined : (size : ℕ) (starts : List ℕ) (answers : List (lists.Answered ℕ)) (lasts : List ℕ) → AnswerChunks (AreCutAt map IsCut) size starts answers → All lists.AreMade answers
-      → lasts ≡ flat_map lists.made_in answers → AreCutAt map IsCut starts lasts
-  lasts_joined size starts answers lasts chunks made is =
-      subst (AreCutAt map IsCut starts) (sym is) (chunks_joined (AreCutAt map IsCut) none_cut both_cut size starts answers chunks made)
 
 -- ---- blocks and edges
 

@@ -14,7 +14,7 @@ use Rattle.cfg_model.proofs.Program.ChainFacts.{one_next}
 use Rattle.cfg_model.proofs.Program.ChainEnds.{goes_not_ends}
 use Rattle.cfg_model.proofs.Graphs.LeaderFacts.{joined}
 use Rattle.reached_graph.specs.declared.walks.Walks.{Walks}
-use Rattle.reached_terms.specs.Numbering.{IsMarked}
+use Rattle.numbered.specs.Numbering.{IsMarked}
 use Rattle.reached_graph.specs.Inner.Marks.{IsAdded}
 use Rattle.reached_graph.specs.Inner.Walks.{AreFit, AreWalked, HaveWalked, At, IsBegun, IsFresh, IsStopped, IsWalkFrom, IsWalkOn, Nowhere}
 

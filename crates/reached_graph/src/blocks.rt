@@ -4,17 +4,18 @@ ghost use Rattle.std.specs.Prelude.{◌≡◌, ◌↔◌, IfSome, IsSome, IsTrue
 ghost use Rattle.cfg_model.specs.Graph.Block.{IsBlockOf, IsLastOf};
 ghost use Rattle.cfg_model.specs.Program.Chain.{GoesOnTo, OnChain};
 ghost use Rattle.cfg_model.specs.Program.Instructions.{IsLawful, flow_at};
-ghost use Rattle.reached_terms.specs.Numbering.{IsMarked, IsNumbering};
+ghost use Rattle.numbered.specs.Numbering.{IsMarked, IsNumbering};
 ghost use Rattle.reached_graph.specs.Inner.Blocks.{StopsAt};
 
 use crate::walks::next_of;
 use cfg_model::{Block, Chains, EndKind, Flow, block_by};
-use reached_terms::Numbered;
+use numbered::Numbered;
 
 /// The last address of the block from `s`, if the next one above starts at `next`. `None` if
 /// control goes straight on over that.
 /// Time: linear in the instructions of the block if that goes on into the next, and else that of
 /// [`term`](Chains::term).
+#[inline(always)]
 pub(crate) fn last_before<C: Chains>(code: &C, s: u64, next: Option<u64>) -> Option<u64>
     requires { IsSome (C.map code.now s) }
     ensures { IfSome result (StopsAt (C.map code.now) s next) }

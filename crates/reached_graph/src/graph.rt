@@ -11,8 +11,9 @@ ghost use Rattle.reached_graph.specs.Inner.Ways.{TellsReached};
 use crate::leaders::Leaders;
 use crate::outline::outline_of;
 use cfg_model::{Chains, Graph, Memory, Outline};
+use numbered::Numbered;
 use outline_funcs::{functions_among, mark_tails};
-use reached_terms::{Numbered, ReachedTerms};
+use reached_terms::ReachedTerms;
 use std::alloc::Global;
 
 /// The graph of the program `code`, whose seeds are these; `entry` is the address where it starts.

@@ -2,21 +2,23 @@
 
 ghost use Rattle.std.specs.Prelude.{◌≡◌, ◌↔◌, ◌<◌, ◌≤◌, ◌+◌, ℕ, List, length, get_or, slice_get};
 ghost use Rattle.std.specs.Prelude.{Contains, IfOk, IfSome, IsSome, IsTrue, MatchOption, OnOk};
-ghost use Rattle.std.specs.Prelude.{drop, take};
+ghost use Rattle.std.specs.Prelude.{◌^◌, drop, take};
 ghost use Rattle.std.specs.List.Sorted.{IsStrictlyIncreasing};
 ghost use Rattle.cfg_model.specs.Graph.Block.{IsLastOf};
 ghost use Rattle.cfg_model.specs.Graph.Leader.{IsLeader};
 ghost use Rattle.cfg_model.specs.Program.Instructions.{IsLawful};
-ghost use Rattle.reached_terms.specs.Numbering.{IsMarked, IsNumbering};
+ghost use Rattle.numbered.specs.Numbering.{IsMarked, IsNumbering};
 ghost use Rattle.reached_terms.specs.Reached.{AreReachedTerms};
 ghost use Rattle.reached_graph.specs.Inner.Blocks.{AreCutAt, HoldMixed, IsMixed};
 ghost use Rattle.reached_graph.specs.Inner.Leaders.{AreLeaders, AreMarkedBlocks, AreStarts};
+ghost use Rattle.reached_graph.specs.Inner.Leaders.{AreCutAtSome, IsLastAtSome};
 ghost use Rattle.reached_graph.specs.Inner.Leaders.{MarkLeaders};
 
 use crate::blocks::{last_before, last_of};
 use crate::walks::Walks;
 use cfg_model::Memory;
-use reached_terms::{Numbered, ReachedTerms, marked_addresses};
+use numbered::{Numbered, marked_addresses};
+use reached_terms::ReachedTerms;
 use std::alloc::Global;
 
 /// The leaders of a program, and where their blocks end.
@@ -69,7 +71,7 @@ impl Leaders {
         know_laws(code);
         let leaders = Leaders::cut(alloc, code, reached.starts())?;
         match marks_with_joins(alloc, code, reached.starts(), &leaders)? {
-            Some(marks) => Leaders::cut(alloc, code, &marks),
+            Some(marks) => leaders.cut_again(alloc, code, &marks),
             None => Ok(leaders),
         }
     }
@@ -85,6 +87,105 @@ impl Leaders {
         let starts = marked_addresses(alloc, code, marks)?;
         let lasts = lasts_in(alloc, code, marks, &starts, 0, starts.len())?;
         Ok(Leaders { starts, lasts })
+    }
+
+    /// The blocks that start exactly where the marks are set, and are cut there. These blocks here
+    /// are cut at some of them: where no further one stands in a block, it stays as it is.
+    pub(crate) fn cut_again<C: Numbered>(
+        &self,
+        alloc: Global,
+        code: &C,
+        marks: &[bool],
+    ) -> Result<Leaders, Memory>
+        requires lawful { IsLawful (C.map code.now) }
+        requires numbering { IsNumbering (C.map code.now) (C.number code.now) (length marks.now) }
+        requires cut { AreCutAtSome (C.map code.now) (C.number code.now) marks.now self.now }
+        ensures { IfOk result
+            (AreMarkedBlocks (C.map code.now) (IsMarked (C.map code.now) (C.number code.now)
+            marks.now)) }
+    {
+        let starts = marked_addresses(alloc, code, marks)?;
+        let lasts = self.lasts_again(alloc, code, marks, &starts)?;
+        Ok(Leaders { starts, lasts })
+    }
+
+    /// The last addresses of the blocks from these starts, which are all those whose marks are set.
+    fn lasts_again<C: Numbered>(
+        &self,
+        alloc: Global,
+        code: &C,
+        marks: &[bool],
+        starts: &[u64],
+    ) -> Result<Vec<u64>, Memory>
+        requires lawful { IsLawful (C.map code.now) }
+        requires numbering { IsNumbering (C.map code.now) (C.number code.now) (length marks.now) }
+        requires rise { IsStrictlyIncreasing starts.now }
+        requires exact { (a : ℕ) → Contains starts.now a
+            ↔ IsMarked (C.map code.now) (C.number code.now) marks.now a }
+        requires cut { AreCutAtSome (C.map code.now) (C.number code.now) marks.now self.now }
+        ensures { IfOk result (λ v. AreCutAt (C.map code.now)
+            (IsMarked (C.map code.now) (C.number code.now) marks.now) starts.now v.items) }
+    {
+        let mut lasts = Vec::with_capacity(alloc, starts.len())?;
+        let mut place = 0;
+        for i in 0..starts.len() {
+            let before = self.last_of_start(place, starts[i]);
+            lasts.push(last_again(code, marks, starts, i, before))?;
+            place = next_place(place, before);
+        }
+        Ok(lasts)
+    }
+
+    /// The last address of the block at this place, if there is one and it starts at `s`.
+    fn last_of_start(&self, place: usize, s: u64) -> Option<u64>
+        requires sizes { length self.now.lasts.items ≡ length self.now.starts.items }
+        ensures { IfSome result (λ last. (place < length self.now.starts.items)
+            × (get_or self.now.starts.items place 0 ≡ s)
+            × (get_or self.now.lasts.items place 0 ≡ last)) }
+    {
+        if place < self.starts.len() && self.starts[place] == s {
+            Some(self.lasts[place])
+        } else {
+            None
+        }
+    }
+}
+
+/// The place after this one if something is known there, and else the same.
+fn next_place(place: usize, known: Option<u64>) -> usize
+    requires { place + 1 < 2 ^ 64 }
+    ensures { result ≤ place + 1 }
+{
+    match known {
+        Some(_) => place + 1,
+        None => place,
+    }
+}
+
+/// The last address of the block from the start at place `i`. `before` is that of the block from
+/// there that is cut at some of the starts, if it is known.
+fn last_again<C: Numbered>(
+    code: &C,
+    marks: &[bool],
+    starts: &[u64],
+    i: usize,
+    before: Option<u64>,
+) -> u64
+    requires lawful { IsLawful (C.map code.now) }
+    requires numbering { IsNumbering (C.map code.now) (C.number code.now) (length marks.now) }
+    requires rise { IsStrictlyIncreasing starts.now }
+    requires exact { (a : ℕ) → Contains starts.now a
+        ↔ IsMarked (C.map code.now) (C.number code.now) marks.now a }
+    requires stands { IsSome (C.map code.now (get_or starts.now i 0)) }
+    requires within { i < length starts.now }
+    requires before { IfSome before
+        (IsLastAtSome (C.map code.now) (C.number code.now) marks.now (get_or starts.now i 0)) }
+    ensures { IsLastOf (C.map code.now) (IsMarked (C.map code.now) (C.number code.now) marks.now)
+        (get_or starts.now i 0) result }
+{
+    match before {
+        Some(last) if !is_over(starts, i, last) => last,
+        _ => last_at(code, marks, starts, i),
     }
 }
 
@@ -163,6 +264,7 @@ pub(crate) fn lasts_in<C: Numbered>(
 
 /// The last address of the block from the start at place `i`. It is decoded only if it goes
 /// straight on to the next start or over that.
+#[inline(always)]
 fn last_at<C: Numbered>(code: &C, marks: &[bool], starts: &[u64], i: usize) -> u64
     requires lawful { IsLawful (C.map code.now) }
     requires numbering { IsNumbering (C.map code.now) (C.number code.now) (length marks.now) }

@@ -14,7 +14,8 @@ use crate::blocks::block_to;
 use crate::edges::{add_ways, by_source};
 use crate::leaders::Leaders;
 use cfg_model::{Block, Blocks, Chains, Edge, Edges, Memory, Outline};
-use reached_terms::{Numbered, ReachedTerms};
+use numbered::Numbered;
+use reached_terms::ReachedTerms;
 use std::alloc::Global;
 
 /// The blocks and edges of the program `code`, from what it reaches. [`Memory`] if memory ran out.

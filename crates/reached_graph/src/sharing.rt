@@ -1,30 +1,26 @@
 //! The blocks and edges of a program, made by several threads.
 
-ghost use Rattle.std.specs.Prelude.{◌≡◌, ◌↔◌, ◌*◌, ◌<◌, ◌≤◌, ℕ, List, All, Contains, IfOk, IsTrue};
+ghost use Rattle.std.specs.Prelude.{◌≡◌, ◌↔◌, ◌*◌, ◌<◌, ◌≤◌, ℕ, List, All, IfOk, IsTrue};
 ghost use Rattle.std.specs.Prelude.{IsSome, length};
 ghost use Rattle.std.specs.Fork.{slice_chunk};
 ghost use Rattle.std.specs.List.{flat_map};
-ghost use Rattle.std.specs.List.Sorted.{IsStrictlyIncreasing};
 ghost use Rattle.std.specs.Thread.{IsSync};
 ghost use Rattle.cfg_model.specs.Graph.Graph.{IsOutline};
-ghost use Rattle.cfg_model.specs.Program.Instructions.{IsLawful};
 ghost use Rattle.cfg_model.specs.Program.Reach.{Reached};
 ghost use Rattle.cfg_model.specs.Program.Status.{Returns};
-ghost use Rattle.outline_funcs.specs.Inner.Parts.{AnswerChunks};
 ghost use Rattle.parallel.specs.Lists.{all_in};
-ghost use Rattle.reached_terms.specs.Numbering.{IsMarked, IsNumbering};
 ghost use Rattle.reached_terms.specs.Reached.{AreReachedTerms};
-ghost use Rattle.reached_graph.specs.Inner.Blocks.{AreCutAt};
-ghost use Rattle.reached_graph.specs.Inner.Leaders.{AreLeaders, AreMarkedBlocks};
+ghost use Rattle.reached_graph.specs.Inner.Leaders.{AreLeaders};
 ghost use Rattle.reached_graph.specs.Inner.Parts.{AnswerParts, ArePart, IsMade};
 ghost use Rattle.reached_graph.specs.Inner.Parts.{blocks_in, edges_in};
 ghost use Rattle.reached_graph.specs.Inner.Ways.{TellsReached};
 
-use crate::leaders::{Leaders, know_laws, lasts_in, marks_with_joins};
+use crate::leaders::Leaders;
 use crate::outline::{Part, outline_from, part_of};
 use cfg_model::{Block, Chains, Edge, Memory, Outline};
-use parallel::{joined, joined_if_made, map_drawn};
-use reached_terms::{Numbered, ReachedTerms, marked_addresses};
+use numbered::Numbered;
+use parallel::{joined, map_drawn};
+use reached_terms::ReachedTerms;
 use std::alloc::Global;
 use std::thread::Threads;
 
@@ -35,11 +31,12 @@ const PARTS_PER_WORKER: usize = 4;
 /// The answer of [`outline_from`], made by `workers` workers. With one worker no thread is started.
 /// [`Memory`] if memory ran out.
 ///
-/// The leaders are cut into four parts for each worker. The workers draw one part after another:
-/// first to find where the block of each leader ends, and then to make the blocks and edges. What
-/// is marked, and where two streams join, the caller's thread finds.
-/// Time: that of [`graph_from`](crate::graph_from) but for the functions, shared among the workers.
-/// Memory: that of [`graph_from`](crate::graph_from), and the blocks and edges once more.
+/// The caller's thread finds the leaders, and where the block of each ends: that takes a fifth of
+/// what the blocks and edges take. The leaders are cut into four parts for each worker, who draw
+/// one part after another to make the blocks and edges.
+/// Time: that of [`graph_from`](crate::graph_from) but for the functions; what takes the most is
+/// shared among the workers. Memory: that of [`graph_from`](crate::graph_from), and the blocks and
+/// edges once more.
 pub fn outline_by<R: Threads + Sync, C: Numbered>(
     rt: &R,
     alloc: Global,
@@ -57,7 +54,7 @@ pub fn outline_by<R: Threads + Sync, C: Numbered>(
     if workers == 1 {
         return outline_from(alloc, code, reached);
     }
-    let leaders = leaders_by(rt, alloc, code, reached, workers as usize)?;
+    let leaders = Leaders::of(alloc, code, reached)?;
     let returns = |a: u64| -> bool
         requires { (from : List ℕ) × AreReachedTerms (C.map code.now) (C.number code.now) from
             reached.now × Reached (C.map code.now) from a }
@@ -66,90 +63,12 @@ pub fn outline_by<R: Threads + Sync, C: Numbered>(
     outline_shared(rt, alloc, code, &leaders, &returns, workers as usize)
 }
 
-/// The answer of [`Leaders::of`], made by several workers.
-fn leaders_by<R: Threads + Sync, C: Numbered>(
-    rt: &R,
-    alloc: Global,
-    code: &C,
-    reached: &ReachedTerms,
-    workers: usize,
-) -> Result<Leaders, Memory>
-    requires reached { (seeds : List ℕ)
-        × AreReachedTerms (C.map code.now) (C.number code.now) seeds reached.now }
-    requires some { 1 ≤ workers }
-    ensures { IfOk result (λ leaders. (seeds : List ℕ)
-        → AreReachedTerms (C.map code.now) (C.number code.now) seeds reached.now
-        → AreLeaders (C.map code.now) seeds leaders) }
-{
-    know_laws(code);
-    let leaders = cut_by(rt, alloc, code, reached.starts(), workers)?;
-    match marks_with_joins(alloc, code, reached.starts(), &leaders)? {
-        Some(marks) => cut_by(rt, alloc, code, &marks, workers),
-        None => Ok(leaders),
-    }
-}
-
-/// The blocks that start exactly where the marks are set, and are cut there, found by several
-/// workers.
-fn cut_by<R: Threads + Sync, C: Numbered>(
-    rt: &R,
-    alloc: Global,
-    code: &C,
-    marks: &[bool],
-    workers: usize,
-) -> Result<Leaders, Memory>
-    requires lawful { IsLawful (C.map code.now) }
-    requires numbering { IsNumbering (C.map code.now) (C.number code.now) (length marks.now) }
-    requires some { 1 ≤ workers }
-    ensures { IfOk result
-        (AreMarkedBlocks (C.map code.now) (IsMarked (C.map code.now) (C.number code.now)
-        marks.now)) }
-{
-    let starts = marked_addresses(alloc, code, marks)?;
-    let size = part_size(&starts, workers);
-    let lists = lasts_by_part(rt, alloc, code, marks, &starts, size, workers)?;
-    let lasts = joined_if_made(alloc, lists)?;
-    Ok(Leaders { starts, lasts })
-}
-
 /// How many of these leaders are in a part, so that there are four parts for each worker.
 fn part_size(starts: &[u64], workers: usize) -> usize
     requires { 1 ≤ workers }
     ensures { 0 < result }
 {
     starts.len().div_ceil(workers) / PARTS_PER_WORKER + 1
-}
-
-/// The last addresses of the blocks from the starts of each part of this many.
-fn lasts_by_part<R: Threads + Sync, C: Numbered>(
-    rt: &R,
-    alloc: Global,
-    code: &C,
-    marks: &[bool],
-    starts: &[u64],
-    size: usize,
-    workers: usize,
-) -> Result<Vec<Result<Vec<u64>, Memory>>, Memory>
-    requires lawful { IsLawful (C.map code.now) }
-    requires numbering { IsNumbering (C.map code.now) (C.number code.now) (length marks.now) }
-    requires rise { IsStrictlyIncreasing starts.now }
-    requires exact { (a : ℕ) → Contains starts.now a
-        ↔ IsMarked (C.map code.now) (C.number code.now) marks.now a }
-    requires some { 0 < size }
-    ensures { IfOk result (λ v. AnswerChunks (AreCutAt (C.map code.now)
-        (IsMarked (C.map code.now) (C.number code.now) marks.now)) size starts.now v.items) }
-{
-    let find = |n: usize| -> Result<Vec<u64>, Memory>
-        requires { IsSync C.row × n * size < length starts.now × IsLawful (C.map code.now)
-            × IsNumbering (C.map code.now) (C.number code.now) (length marks.now)
-            × IsStrictlyIncreasing starts.now
-            × ((a : ℕ) → Contains starts.now a
-            ↔ IsMarked (C.map code.now) (C.number code.now) marks.now a) }
-        ensures { IfOk result (λ v. AreCutAt (C.map code.entry.now)
-            (IsMarked (C.map code.entry.now) (C.number code.entry.now) marks.entry.now)
-            (slice_chunk starts.entry.now size n) v.items) }
-    { lasts_in(alloc, code, marks, starts, n * size, size) };
-    Ok(map_drawn(rt, alloc, workers, starts.len().div_ceil(size), &find)?)
 }
 
 /// The answer of [`outline_of`](crate::outline::outline_of), made by several workers.

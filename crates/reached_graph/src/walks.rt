@@ -4,12 +4,12 @@ ghost use Rattle.std.specs.Prelude.{◌≡◌, ℕ, false, length, replicate, Co
 ghost use Rattle.std.specs.Prelude.{MatchBool, MatchOption};
 ghost use Rattle.cfg_model.specs.Program.Chain.{GoesOnTo, IsTerminator};
 ghost use Rattle.cfg_model.specs.Program.Instructions.{IsLawful};
-ghost use Rattle.reached_terms.specs.Numbering.{IsMarked, IsNumbering};
+ghost use Rattle.numbered.specs.Numbering.{IsMarked, IsNumbering};
 ghost use Rattle.reached_graph.specs.Inner.Walks.{AreDone, AreFit, IsBegun, IsFresh, IsStopped};
 ghost use Rattle.reached_graph.specs.Inner.Walks.{IsWalkFrom, IsWalkOn};
 
 use cfg_model::{Flow, Memory};
-use reached_terms::Numbered;
+use numbered::Numbered;
 use std::alloc::Global;
 
 /// How far the walks have come.

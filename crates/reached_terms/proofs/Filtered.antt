@@ -10,7 +10,7 @@ use Rattle.cfg_model.specs.Program.Instructions.{InstructionMap}
 use Rattle.cfg_model.specs.Program.Chain.{IsTerminator}
 use Rattle.cfg_model.specs.Program.Reach.{Reached}
 use Rattle.cfg_model.specs.Program.Status.{Returns}
-use Rattle.reached_terms.specs.Numbering.{IsMarked}
+use Rattle.numbered.specs.Numbering.{IsMarked}
 use Rattle.reached_terms.specs.Reached.{Reach, AreReachedTerms}
 
 -- an item that passes the test is kept

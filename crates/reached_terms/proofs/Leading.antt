@@ -9,7 +9,7 @@ use Rattle.cfg_model.specs.Program.Reach.{Reached}
 use Rattle.cfg_model.specs.Program.Status.{Returns}
 use Rattle.cfg_model.proofs.Program.Along.{returns_along}
 use Rattle.reached_terms.specs.declared.marks.Marks.{Marks}
-use Rattle.reached_terms.specs.Numbering.{IsNumbering}
+use Rattle.numbered.specs.Numbering.{IsNumbering}
 use Rattle.reached_terms.specs.Sent.{IsSent}
 use Rattle.reached_terms.specs.Inner.Marks.{IsOn, IsNumberOf, AreKept, LeadsBy, LeadsOn, ReturnsBy, IsLed, IsCalled, HasWay}
 use Rattle.reached_terms.specs.Inner.Steps.{Grow, Step, IsArrived}

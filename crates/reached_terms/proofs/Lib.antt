@@ -11,5 +11,3 @@ pub mod Returning
 pub mod Telling
 pub mod Closing
 pub mod Filtered
-pub mod Listing
-pub mod CodeNumbers

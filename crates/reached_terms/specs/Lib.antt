@@ -1,4 +1,3 @@
-pub mod Numbering
 pub mod Reached
 pub mod Sent
 pub mod Inner

@@ -6,7 +6,7 @@ use Rattle.cfg_model.specs.Program.Chain.{IsTerminator}
 use Rattle.cfg_model.specs.Program.Reach.{Reached}
 use Rattle.cfg_model.specs.Program.Status.{Returns}
 use Rattle.cfg_model.specs.Graph.Leader.{IsLeader}
-use Rattle.reached_terms.specs.Numbering.{IsMarked}
+use Rattle.numbered.specs.Numbering.{IsMarked}
 use Rattle.reached_terms.specs.Sent.{IsSent}
 
 -- Marks by the numbers of addresses: of each terminator whether it is reached, and whether it

@@ -7,19 +7,11 @@
 //! linked to it. Each address at which a chain is entered on the way is marked. Of all this the
 //! marks are kept: of what is reached, of what returns, and of where control is sent.
 //!
-//! - `numbered`: a program whose addresses are numbered.
-//! - `marked`: the addresses that are marked, in their order.
 //! - `marks`: what is known of the terminators, and the changes of it.
 //! - `reached`: the closure from the seeds.
-//! - `file_code`: the numbers of the code of a file.
 #![tactic(auto)]
 
-mod file_code;
-mod marked;
 mod marks;
-mod numbered;
 mod reached;
 
-pub use marked::marked_addresses;
-pub use numbered::Numbered;
 pub use reached::ReachedTerms;

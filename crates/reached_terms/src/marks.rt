@@ -3,10 +3,10 @@
 ghost use Rattle.std.specs.Prelude.{◌≡◌, ◌↔◌, ◌+◌, ◌≤◌, ◌<◌, ℕ, List, length, get_or, IsTrue};
 ghost use Rattle.std.specs.Prelude.{IfOk, OnOk, IsSome, IfSome, All, option_to_list, ⊤, None, Some};
 ghost use Rattle.cfg_model.specs.Program.Instructions.{InstructionMap, IsLawful, targets_at};
-ghost use Rattle.cfg_model.specs.Program.Chain.{IsTerminator};
+ghost use Rattle.cfg_model.specs.Program.Chain.{IsTerminator, IsTerminatorOf};
 ghost use Rattle.cfg_model.specs.Program.Reach.{Reached};
 ghost use Rattle.cfg_model.specs.Program.Status.{Returns};
-ghost use Rattle.reached_terms.specs.Numbering.{IsNumbering};
+ghost use Rattle.numbered.specs.Numbering.{IsNumbering};
 ghost use Rattle.reached_terms.specs.Sent.{IsSent};
 ghost use Rattle.reached_terms.specs.Inner.Marks.{AreKept, AreRight, AreTold, IsCalled, IsDone};
 ghost use Rattle.reached_terms.specs.Inner.Marks.{IsLed, IsNumberOf, IsOn, IsVisited, IsWay, HasWay};
@@ -14,8 +14,8 @@ ghost use Rattle.reached_terms.specs.Inner.Marks.{IsCutOff, LeadsBy, LeadsOn, Re
 ghost use Rattle.reached_terms.specs.Inner.Steps.{Grow, IsArrived, IsLinked, IsMarked, Step};
 ghost use Rattle.reached_terms.specs.Inner.Steps.{left_to_tell};
 
-use crate::numbered::Numbered;
 use cfg_model::{Flow, Memory};
+use numbered::Numbered;
 use std::alloc::Global;
 
 /// That one terminator may return if another does. Those that wait for the same one are a list.
@@ -75,7 +75,7 @@ impl Marks {
     }
 
     /// Control is sent to `a`: notes that, marks the terminator of `a` as reached, and answers its
-    /// number.
+    /// number. All is looked up before anything is written.
     #[inline(always)]
     pub(crate) fn arrive<C: Numbered>(&mut self, code: &C, a: u64) -> Result<u32, Memory>
         requires kept { AreKept (C.map code.now) (C.number code.now) self.old }
@@ -87,40 +87,46 @@ impl Marks {
         ensures sent { IfOk result (λ _. IsOn self.new.sent.items (C.number code.now a)) }
         ensures untold { IfOk result (λ _. self.new.untold ≡ self.old.untold) }
     {
-        self.note(code, a);
-        self.reach(code, a)
+        let at = code.number(a);
+        let k = code.term(a);
+        let n = code.number(k);
+        self.note(code, a, at);
+        self.reach(code, a, k, n)?;
+        Ok(n)
     }
 
-    /// Notes that control is sent to `a`.
-    fn note<C: Numbered>(&mut self, code: &C, a: u64)
+    /// Notes that control is sent to `a`, whose number is `at`.
+    fn note<C: Numbered>(&mut self, code: &C, a: u64, at: u32)
         requires kept { AreKept (C.map code.now) (C.number code.now) self.old }
         requires has { IsSome (C.map code.now a) }
+        requires number { at ≡ C.number code.now a }
         ensures step { Step (C.map code.now) (C.number code.now)
             (λ seeds. IsSent (C.map code.now) seeds a) self.old self.new }
         ensures sent { IsOn self.new.sent.items (C.number code.now a) }
         ensures untold { self.new.untold ≡ self.old.untold }
     {
-        self.sent[code.number(a) as usize] = true;
+        self.sent[at as usize] = true;
     }
 
-    /// Marks the terminator of the reached address `a` as reached, and answers its number.
-    fn reach<C: Numbered>(&mut self, code: &C, a: u64) -> Result<u32, Memory>
+    /// Marks the terminator of the reached address `a` as reached: the one at `k`, with the number
+    /// `n`.
+    #[inline(always)]
+    fn reach<C: Numbered>(&mut self, code: &C, a: u64, k: u64, n: u32) -> Result<(), Memory>
         requires kept { AreKept (C.map code.now) (C.number code.now) self.old }
-        requires has { IsSome (C.map code.now a) }
-        ensures step { IfOk result (λ _. Step (C.map code.now) (C.number code.now)
+        requires ends { IsTerminatorOf (C.map code.now) a k }
+        requires number { n ≡ C.number code.now k }
+        ensures step { OnOk result (Step (C.map code.now) (C.number code.now)
             (λ seeds. Reached (C.map code.now) seeds a) self.old self.new) }
-        ensures there { IfOk result
-            (IsArrived (C.map code.now) (C.number code.now) self.new a) }
-        ensures sent { IfOk result (λ _. self.new.sent ≡ self.old.sent) }
-        ensures untold { IfOk result (λ _. self.new.untold ≡ self.old.untold) }
+        ensures there { OnOk result
+            (IsArrived (C.map code.now) (C.number code.now) self.new a n) }
+        ensures sent { OnOk result (self.new.sent ≡ self.old.sent) }
+        ensures untold { OnOk result (self.new.untold ≡ self.old.untold) }
     {
-        let k = code.term(a);
-        let n = code.number(k);
         if !self.reached[n as usize] {
             self.order.push(k)?;
             self.reached[n as usize] = true;
         }
-        Ok(n)
+        Ok(())
     }
 
     /// Marks that the terminator with the number `n` returns.
@@ -215,8 +221,8 @@ impl Marks {
         Ok(())
     }
 
-    /// Tells all that wait for the terminator with the number `n` that it returns.
-    pub(crate) fn tell<C: Numbered>(&mut self, code: &C, n: u32) -> Result<(), Memory>
+    /// Notifies all that wait for the terminator with the number `n` that it returns.
+    pub(crate) fn notify<C: Numbered>(&mut self, code: &C, n: u32) -> Result<(), Memory>
         requires kept { AreKept (C.map code.now) (C.number code.now) self.old }
         requires number { IsNumberOf (C.map code.now) (C.number code.now) n }
         ensures kept { OnOk result (AreKept (C.map code.now) (C.number code.now) self.new) }

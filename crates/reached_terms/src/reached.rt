@@ -10,10 +10,9 @@ ghost use Rattle.reached_terms.specs.Reached.{AreReachedTerms};
 ghost use Rattle.reached_terms.specs.Inner.Marks.{AreKept, AreRight, AreTold};
 ghost use Rattle.reached_terms.specs.Inner.Steps.{Grow};
 
-use crate::marked::{marked_addresses, marked_among};
 use crate::marks::Marks;
-use crate::numbered::Numbered;
 use cfg_model::Memory;
+use numbered::{Numbered, marked_addresses, marked_among};
 use std::alloc::Global;
 use std::marker::Model;
 
@@ -75,7 +74,7 @@ impl ReachedTerms {
         while i < marks.order.len() {
             let k = marks.order[i];
             marks.visit(code, k)?;
-            tell_all(&mut marks, code)?;
+            notify_all(&mut marks, code)?;
             i += 1;
         }
         Ok(ReachedTerms {
@@ -132,8 +131,8 @@ impl ReachedTerms {
     }
 }
 
-/// Tells all that wait for a terminator that returns, until there is none left to be told.
-fn tell_all<C: Numbered>(marks: &mut Marks, code: &C) -> Result<(), Memory>
+/// Notifies all that wait for a terminator that returns, until there is none left to be told.
+fn notify_all<C: Numbered>(marks: &mut Marks, code: &C) -> Result<(), Memory>
     requires kept { AreKept (C.map code.now) (C.number code.now) marks.old }
     ensures kept { OnOk result (AreKept (C.map code.now) (C.number code.now) marks.new) }
     ensures grow { OnOk result (Grow marks.old marks.new) }
@@ -146,7 +145,7 @@ fn tell_all<C: Numbered>(marks: &mut Marks, code: &C) -> Result<(), Memory>
     ensures none { OnOk result (length marks.new.untold.items ≡ 0) }
 {
     while let Some(n) = marks.untold.pop() {
-        marks.tell(code, n)?;
+        marks.notify(code, n)?;
     }
     Ok(())
 }

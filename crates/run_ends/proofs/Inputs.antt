@@ -1,13 +1,14 @@
 -- What was done to the input of a run, by how it ends.
-use Rattle.std.proofs.Common.{◌≡◌, ℕ, List, [], Option, Some, None, inl, refl, arith}
-use Rattle.std.specs.Prelude.{Bool, IfSome}
+use Rattle.std.proofs.Common.{◌≡◌, ◌∙◌, ℕ, ◌<◌, List, [], ◌++◌, length, Option, Some, None, inl, refl, ap, append-nil, arith, length-append}
+use Rattle.std.specs.Prelude.{Bool, IfSome, nat_lt}
+use Rattle.std.proofs.lemmas.Bool.{cond-true, lt-ltb}
+use Rattle.std.proofs.lemmas.Option.{IfSome_then, same_Some}
+use Rattle.elf_image.specs.declared.fault.Fault.TheVariants.{TooLarge}
+use Rattle.elf_image.specs.FaultTests.{is_too_large}
+use Rattle.elf_image.specs.Faults.{first_fault, first_among, has_fault}
 use Rattle.cfg_io.specs.Opened.{Opened, Nothing}
-use Rattle.cfg_io.specs.Told.{TakesAtMost}
+use Rattle.cfg_io.specs.Told.{Takes, TakesCount, TakesAtMost}
 use Rattle.run_ends.specs.Inputs.{OpenedFor, FileReadFor}
-
-if-some : {A : Type 0} {P Q : A → Type 0} (o : Option A) → ((x : A) → P x → Q x) → IfSome o P → IfSome o Q
-if-some None f p = tt
-if-some (Some x) f p = f x p
 
 all-some : {A : Type 0} {P : A → Type 0} (o : Option A) → ((x : A) → P x) → IfSome o P
 all-some None f = tt
@@ -39,7 +40,32 @@ pub read-alike : (path : Option (List ℕ)) (IsRead OtherRead IsMalformed OtherM
 read-alike path IsRead OtherRead IsMalformed OtherMalformed tells now old new before after reads sound file = record {
   opened = file.opened;
   untouched = file.untouched;
-  read_to_end = if-some old (λ bytes ends small read. ends small (reads read)) file.read_to_end;
-  too_large = if-some old (λ bytes takes more read. takes more (reads read)) file.too_large;
+  read_to_end = IfSome_then old file.read_to_end (λ bytes ends small read. ends small (reads read));
+  too_large = IfSome_then old file.too_large (λ bytes takes more read. takes more (reads read));
   within_limit = λ other. file.within_limit (sound other);
 }
+
+-- What was read to the end is all that was there.
+pub read-whole : (old new : Option (List ℕ)) (bytes : List ℕ) → Takes old bytes new → IfSome new (λ left. left ≡ []) → IfSome old (λ b. b ≡ bytes)
+read-whole None new bytes takes ends = tt
+read-whole (Some b) None bytes takes ends = absurd (cc)
+read-whole (Some b) (Some left) bytes takes ends =
+    let same : b ≡ bytes ++ left = same_Some b (bytes ++ left) takes in
+    same ∙ ap (λ xs. bytes ++ xs) ends ∙ append-nil bytes
+
+-- More bytes than the limit were taken.
+taken-more : (bytes : List ℕ) (new : Option (List ℕ)) → TakesCount (Some bytes) 67108865 new → 67108864 < length bytes
+taken-more bytes None (taken, takes, count) = absurd (cc)
+taken-more bytes (Some left) (taken, takes, count) =
+    let same : bytes ≡ taken ++ left = cc in
+    omega (arith, ap length same, length-append taken left, count)
+
+-- A file of more bytes than that is too large.
+too-large : (bytes : List ℕ) → 67108864 < length bytes → first_fault bytes ≡ Some TooLarge
+unfolding first_fault first_among has_fault is_too_large
+too-large bytes more = cond-true (nat_lt 67108864 (length bytes)) _ _ (lt-ltb 67108864 (length bytes) more)
+
+-- So a file of which more bytes than the limit were taken has that fault.
+pub taken-too-large : (told new : Option (List ℕ)) → TakesCount told 67108865 new → IfSome told (λ bytes. first_fault bytes ≡ Some TooLarge)
+taken-too-large None new takes = tt
+taken-too-large (Some bytes) new takes = too-large bytes (taken-more bytes new takes)

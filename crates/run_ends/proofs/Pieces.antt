@@ -1,5 +1,5 @@
 -- One piece written after another.
-use Rattle.std.proofs.Common.{◌≡◌, ℕ, [], append-nil, suc, ◌+◌, ◌<◌, List, ◌∷◌, ◌++◌, length, take, drop, drop-cons, get_or, Option, Some, None, sym, ap, ◌∙◌, arith, length-append, append_assoc}
+use Rattle.std.proofs.Common.{◌≡◌, ℕ, [], append-nil, suc, ◌+◌, ◌<◌, List, ◌∷◌, ◌++◌, length, take, drop, drop-cons, get_or, Option, Some, None, refl, sym, ap, ◌∙◌, arith, length-append, append_assoc}
 use Rattle.std.specs.Prelude.{Result, Ok, Err, OnErr, OnOk, Vec}
 use Rattle.std.specs.List.{flat_map}
 use Rattle.std.specs.declared.alloc.Global.{Global}
@@ -7,6 +7,11 @@ use Rattle.std.specs.Option.{option_map}
 use Rattle.std.proofs.lemmas.List.{take-append-le}
 use Rattle.std.proofs.Math.Seq.{take-append-add}
 use Rattle.cfg_io.specs.Told.{Appends, AppendsPrefix}
+
+-- Nothing was appended.
+pub appends-nothing : (old : Option (List ℕ)) → Appends old [] old
+appends-nothing None = refl
+appends-nothing (Some had) = ap (λ xs. Some xs) (sym (append-nil had))
 
 pub on_err : {A B : Type 0} {P : Type 0} (r : Result A B) → P → OnErr r P
 on_err (Ok x) p = tt

@@ -1,4 +1,4 @@
--- The line that tells why a run failed.
+-- The line that reports why a run failed.
 use Rattle.std.specs.Prelude.{ℕ, List, ◌++◌, codes}
 
 -- The program's name, what happened, and the detail of it, such as a fault's name.

@@ -1,6 +1,7 @@
-//! The ends of a run that reads one file and writes one text: reading the file, writing the text,
-//! and the line that tells why a run failed.
+//! The ends of a run that reads one file and writes one text: its words, reading the file, writing
+//! the text, and the line that reports why a run failed.
 //!
+//! - `words`: the words of the command line.
 //! - `reading`: all bytes of the file at a path, up to a limit.
 //! - `writing`: a text, whole, in parts or piece by piece.
 //! - `joined`: pieces that are joined before they are written.
@@ -10,9 +11,11 @@
 mod joined;
 mod line;
 mod reading;
+mod words;
 mod writing;
 
 pub use joined::JOINED;
-pub use line::tell;
+pub use line::write_failure;
 pub use reading::{FILE_LIMIT, Unread, read_file, read_within};
+pub use words::command_words;
 pub use writing::{Unwritten, write_pieces, write_texts};

@@ -1,4 +1,4 @@
-//! The line that tells why a run failed.
+//! The line that reports why a run failed.
 
 ghost use Rattle.std.specs.Prelude.{◌≤◌, ◌++◌, OnOk, OnErr};
 ghost use Rattle.cfg_io.specs.Fault.{Rose};
@@ -10,7 +10,7 @@ use cfg_io::{Failed, Sink, write_whole};
 
 /// Writes the line `PROGRAM: TEXT` with the detail right after the text, such as a fault's name. It
 /// takes no memory. If a write fails, a part of the line went out.
-pub fn tell<E: Sink>(program: &str, text: &str, detail: &str, err: &mut E)
+pub fn write_failure<E: Sink>(program: &str, text: &str, detail: &str, err: &mut E)
     ensures { Tells (E.written err.old) (E.written err.new)
         (Rose (E.faults err.old) (E.faults err.new))
         (failure_line program.now text.now detail.now) }

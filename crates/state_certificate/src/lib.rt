@@ -9,7 +9,7 @@ ghost use Rattle.cert_make.specs.Canonical.{IsCanonical};
 use cert_text::Part;
 use certify::part_reached;
 use core_state::State;
-use reached_terms::Numbered;
+use numbered::Numbered;
 use state_marks::marks_of;
 pub use std::alloc::AllocError as Memory;
 use std::alloc::Global;

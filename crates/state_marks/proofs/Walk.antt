@@ -5,7 +5,7 @@ use Rattle.std.proofs.lemmas.Bool.{cases_lt}
 use Rattle.std.proofs.lemmas.List.Elements.{Contains-append_left, Contains-push, Contains-push_cases}
 use Rattle.core_state.specs.Least.{IsAbove, IsLeast}
 use Rattle.parallel.specs.declared.ranges.AddressRange.{AddressRange}
-use Rattle.parallel.specs.Ranges.{IsUpTo, IsIn}
+use Rattle.parallel.specs.Ranges.{IsUpTo}
 use Rattle.state_marks.specs.Inner.Seen.{AreNumbersIn}
 
 -- a was passed where the walk stands at this address

@@ -16,4 +16,4 @@ mod shown;
 
 pub use cfg_model::Memory;
 pub use marks::marks_of;
-pub use sharing::marks_of_by;
+pub use sharing::{marks_if_closed_by, marks_of_by};

@@ -1,18 +1,18 @@
 //! The numbers of the addresses of which a state shows something.
 
-ghost use Rattle.std.specs.Prelude.{ℕ, ◌<◌, List, All, IfOk, length, true};
-ghost use Rattle.cfg_model.specs.Builder.Kept.{IsClosed};
-ghost use Rattle.state_marks.specs.Inner.Seen.{AreMarksAt, AreNumbersIn, IsSeen};
-ghost use Rattle.state_marks.specs.Inner.Shown.{IsShown};
+ghost use Rattle.std.specs.Prelude.{◌↔◌, ◌<◌, All, IfOk, IsTrue, length};
+ghost use Rattle.cfg_model.specs.Builder.State.{IsStart, IsEntered, IsReturned};
+ghost use Rattle.state_marks.specs.Inner.Seen.{AreMarksAt, AreNumbersIn, IsSeen, StandOn};
 
 use crate::shown::Shown;
 use cfg_model::Memory;
 use core_state::State;
+use numbered::Numbered;
 use parallel::AddressRange;
-use reached_terms::{Numbered, ReachedTerms};
+use reached_terms::ReachedTerms;
 use std::alloc::Global;
 
-/// The numbers of the addresses of which a closed state shows something.
+/// The numbers of the addresses of which a state shows something.
 #[derive(Drop)]
 pub(crate) struct Seen {
     /// Those of its terminators.
@@ -55,25 +55,76 @@ fn marked(alloc: Global, count: u32, numbers: &[u32]) -> Result<Vec<bool>, Memor
     Ok(marks)
 }
 
-/// The numbers of the addresses in a range of which a closed state shows this, rising.
-pub(crate) fn numbers_in<C: Numbered>(
+/// The numbers of the addresses in a range of which a state shows something.
+pub(crate) fn seen_in<C: Numbered>(
     alloc: Global,
     code: &C,
     state: &State,
-    shown: Shown,
+    range: AddressRange,
+) -> Result<Seen, Memory>
+    requires { StandOn (C.map code.now) state.now.maps }
+    ensures { IfOk result (IsSeen (C.number code.now) range state.now.maps) }
+{
+    let starts = starts_in(alloc, code, state, range)?;
+    let (reached, returns) = terms_in(alloc, code, state, range)?;
+    Ok(Seen {
+        reached,
+        returns,
+        starts,
+    })
+}
+
+/// The numbers of the starts of a state in a range, rising.
+fn starts_in<C: Numbered>(
+    alloc: Global,
+    code: &C,
+    state: &State,
     range: AddressRange,
 ) -> Result<Vec<u32>, Memory>
-    requires { (seeds : List ℕ) × IsClosed (C.map code.now) seeds state.now.maps }
+    requires { StandOn (C.map code.now) state.now.maps }
     ensures { IfOk result (λ v. AreNumbersIn (C.number code.now) range
-        (IsShown shown state.now.maps) v.items) }
+        (IsStart state.now.maps.starts) v.items) }
 {
-    let mut numbers = Vec::new(alloc);
+    let mut starts = Vec::new(alloc);
     let mut at = range.after;
-    while let Some(a) = shown.asked_up_to(state, at, range.last) {
-        if shown.holds(state, a) {
-            numbers.push(code.number(a))?;
-        }
+    while let Some(a) = Shown::Start.next_up_to(state, at, range.last) {
+        starts.push(code.number(a))?;
         at = Some(a);
     }
-    Ok(numbers)
+    Ok(starts)
+}
+
+/// The numbers of the terminators of a state in a range, and of those that are known to
+/// return, both rising.
+fn terms_in<C: Numbered>(
+    alloc: Global,
+    code: &C,
+    state: &State,
+    range: AddressRange,
+) -> Result<(Vec<u32>, Vec<u32>), Memory>
+    requires { StandOn (C.map code.now) state.now.maps }
+    ensures reached { IfOk result (λ found. AreNumbersIn (C.number code.now) range
+        (IsEntered state.now.maps.terminators) found.0.items) }
+    ensures returns { IfOk result (λ found. AreNumbersIn (C.number code.now) range
+        (IsReturned state.now.maps.terminators) found.1.items) }
+{
+    let mut reached = Vec::new(alloc);
+    let mut returns = Vec::new(alloc);
+    let mut at = range.after;
+    while let Some(k) = Shown::Terminator.next_up_to(state, at, range.last) {
+        reached.push(code.number(k))?;
+        if is_returning(state, k) {
+            returns.push(code.number(k))?;
+        }
+        at = Some(k);
+    }
+    Ok((reached, returns))
+}
+
+/// Whether this terminator of a state is known to return.
+fn is_returning(state: &State, k: u64) -> bool
+    requires { IsEntered state.now.maps.terminators k }
+    ensures { IsTrue result ↔ IsReturned state.now.maps.terminators k }
+{
+    state.has_returned(k) == Some(true)
 }

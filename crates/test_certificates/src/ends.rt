@@ -3,12 +3,12 @@
 ghost use Rattle.std.specs.Prelude.{All, IsSome, IsTrue};
 
 use crate::asserts::holds;
-use crate::numbered::{ByAddress, by_address};
-use cert_ends::{ends_of, returns_are_closed, returns_end, returns_have_reasons};
-use cert_places::{NumberedReturns, part_rises};
+use cert_ends::{
+    NumberedReturns, ends_of, part_rises, returns_are_closed, returns_end, returns_have_reasons,
+};
 use cert_text::{LeadLine, LeadLines, LeadWhy, Part, ReturnLine, ReturnLines, ReturnWhy};
 use cfg_model::{Chains, Flow, Memory};
-use reached_terms::Numbered;
+use numbered::Numbered;
 use std::alloc::Global;
 use std::process::Abort;
 use test_programs::{Sample, row_8, row_10, table_jump};
@@ -111,7 +111,7 @@ fn asked<C: Numbered>(alloc: Global, code: &C, part: &Part) -> Result<Option<Say
 /// Compares what the deciders say of the part of these leaders and returns.
 fn expect(
     rt: &(impl Abort + AllocGlobal),
-    code: &ByAddress,
+    code: &Sample,
     leads: &[u64],
     returns: &[ReturnLine],
     wanted: Says,
@@ -125,13 +125,12 @@ fn expect(
 /// Row 38, a return alone, and what is wrong without its line.
 #[test]
 fn one_return(rt: HostRuntime) -> Result<(), Memory> {
-    let sample = Sample {
+    let code = Sample {
         alloc: rt.alloc(),
         slots: &[Some((4, Flow::Return))],
         targets: &[],
         seeds: &[0],
     };
-    let code = by_address(&rt, sample);
     expect(&rt, &code, &[0], &[itself(0)], RIGHT)?;
     let missed = Says {
         returns_closed: false,
@@ -148,7 +147,7 @@ fn one_return(rt: HostRuntime) -> Result<(), Memory> {
 /// Row 39, two streams that join before a branch.
 #[test]
 fn joining_streams(rt: HostRuntime) -> Result<(), Memory> {
-    let code = by_address(&rt, row_8(rt.alloc()));
+    let code = row_8(rt.alloc());
     let returns = [to(4, 1, 8), itself(8)];
     expect(&rt, &code, &[0, 2, 4, 8], &returns, RIGHT)?;
     // The line of the join is not missed here: its block ends as the others do.
@@ -158,7 +157,7 @@ fn joining_streams(rt: HostRuntime) -> Result<(), Memory> {
 /// Row 39 with one leader less, whose chain alone ends in a return.
 #[test]
 fn leader_missed(rt: HostRuntime) -> Result<(), Memory> {
-    let code = by_address(&rt, row_8(rt.alloc()));
+    let code = row_8(rt.alloc());
     let returns = [to(4, 1, 8), itself(8)];
     let no_end = Says {
         returns_end: false,
@@ -170,7 +169,7 @@ fn leader_missed(rt: HostRuntime) -> Result<(), Memory> {
 /// Row 39 with other returns.
 #[test]
 fn returns_spoilt(rt: HostRuntime) -> Result<(), Memory> {
-    let code = by_address(&rt, row_8(rt.alloc()));
+    let code = row_8(rt.alloc());
     let leads = [0, 2, 4, 8];
     let reasonless = Says {
         reasons: false,
@@ -202,7 +201,7 @@ fn returns_spoilt(rt: HostRuntime) -> Result<(), Memory> {
 /// a listed return.
 #[test]
 fn calls(rt: HostRuntime) -> Result<(), Memory> {
-    let code = by_address(&rt, row_10(rt.alloc()));
+    let code = row_10(rt.alloc());
     let leads = [0, 4, 8, 12, 16];
     let returns = [
         to(0, 1, 8),
@@ -240,7 +239,7 @@ fn calls(rt: HostRuntime) -> Result<(), Memory> {
 /// A table jump: it returns through one of its targets.
 #[test]
 fn table_targets(rt: HostRuntime) -> Result<(), Memory> {
-    let code = by_address(&rt, table_jump(rt.alloc()));
+    let code = table_jump(rt.alloc());
     let returns = [to(0, 1, 2), itself(2)];
     expect(&rt, &code, &[0, 2, 4], &returns, RIGHT)?;
     let unlisted = Says {

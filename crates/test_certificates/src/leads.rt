@@ -1,13 +1,12 @@
 //! Parts that are valid, and the same without one leader.
 
 use crate::asserts::holds;
-use crate::numbered::{ByAddress, by_address};
 use cert_check::part_is_valid;
 use cert_text::parse;
 use std::alloc::Global;
 use std::process::Abort;
 use std::test::Fail;
-use test_programs::{row_8, table_jump};
+use test_programs::{Sample, row_8, table_jump};
 
 /// Two streams that join before a branch.
 const JOINING: &[u8] = b"cfg-cert 1
@@ -65,7 +64,7 @@ end
 ";
 
 /// Whether the first part of the certificate of this text is valid for a program whose seed is 0.
-fn is_valid(alloc: Global, code: &ByAddress, text: &[u8]) -> Result<bool, Fail> {
+fn is_valid(alloc: Global, code: &Sample, text: &[u8]) -> Result<bool, Fail> {
     let certificate = parse(alloc, text)?;
     let valid = part_is_valid(alloc, code, &[0], &certificate.plain)?;
     Ok(valid)
@@ -74,7 +73,7 @@ fn is_valid(alloc: Global, code: &ByAddress, text: &[u8]) -> Result<bool, Fail> 
 /// The target of a branch is asked for.
 #[test]
 fn branch_target_missed(rt: HostRuntime) -> Result<(), Fail> {
-    let code = by_address(&rt, row_8(rt.alloc()));
+    let code = row_8(rt.alloc());
     holds(&rt, is_valid(rt.alloc(), &code, JOINING)?);
     for text in NO_BRANCH_TARGET {
         holds(&rt, !is_valid(rt.alloc(), &code, text)?);
@@ -85,7 +84,7 @@ fn branch_target_missed(rt: HostRuntime) -> Result<(), Fail> {
 /// Each target of a table jump is asked for.
 #[test]
 fn table_target_missed(rt: HostRuntime) -> Result<(), Fail> {
-    let code = by_address(&rt, table_jump(rt.alloc()));
+    let code = table_jump(rt.alloc());
     holds(&rt, is_valid(rt.alloc(), &code, TABLE)?);
     holds(&rt, !is_valid(rt.alloc(), &code, NO_TABLE_TARGET)?);
     Ok(())

@@ -5,7 +5,6 @@
 //! - `ends`: worked certificates, and what is said where one thing of them is spoilt.
 //! - `files`: the canonical certificates of worked files.
 //! - `leads`: parts that are valid, and the same without one leader.
-//! - `numbered`: programs given as lists, with numbers for their addresses.
 //! - `parts`: worked certificates of files, and the same spoilt in one place each.
 //! - `text`: texts that are read and printed again, and texts of no certificate.
 #![tactic(auto)]
@@ -20,8 +19,6 @@ mod ends;
 mod files;
 #[cfg(test)]
 mod leads;
-#[cfg(test)]
-mod numbered;
 #[cfg(test)]
 mod parts;
 #[cfg(test)]

@@ -3,15 +3,17 @@
 
 ghost use Rattle.std.specs.Prelude.{◌≤◌, ℕ, List, IsSome};
 ghost use Rattle.cfg_model.specs.Builder.Kept.{IsClosed};
+ghost use Rattle.cfg_model.specs.Program.Reach.{AreSeeds};
 ghost use Rattle.reached_terms.specs.Reached.{AreReachedTerms};
 
 use crate::asserts::same;
 use alone::build_alone;
 use cfg_model::Memory;
 use core_state::State;
+use numbered::{Numbered, marked_addresses};
 use reached_graph::leaders_of;
-use reached_terms::{Numbered, ReachedTerms, marked_addresses};
-use state_marks::{marks_of, marks_of_by};
+use reached_terms::ReachedTerms;
+use state_marks::{marks_if_closed_by, marks_of, marks_of_by};
 use std::alloc::Global;
 use std::marker::Sync;
 use std::process::Abort;
@@ -84,6 +86,26 @@ fn closed_shows<R: Threads + Sync + Abort + AllocGlobal, C: Numbered>(
     Ok(())
 }
 
+/// This closed state is found to be closed by `workers` workers, and its marks show this.
+fn found_closed<R: Threads + Sync + Abort + AllocGlobal, C: Numbered>(
+    rt: &R,
+    code: &C,
+    seeds: &[u64],
+    state: &State,
+    workers: u32,
+    wanted: Wanted,
+) -> Result<(), Fail>
+    requires seeds { AreSeeds (C.map code.now) seeds.now }
+    requires closed { IsClosed (C.map code.now) seeds.now state.now.maps }
+{
+    let alloc = rt.alloc();
+    match marks_if_closed_by(rt, alloc, code, seeds, state, workers)? {
+        Some(marks) => expect(rt, &lists_of(alloc, code, &marks)?, wanted),
+        None => same(rt, &"work is left", &"no work is left"),
+    }
+    Ok(())
+}
+
 /// The marks of a program that are made without a state show this, and those of its closed state, by
 /// one worker and by three. Marked as starts by a closed state are all leaders.
 fn all_show<R: Threads + Sync + Abort + AllocGlobal>(
@@ -100,7 +122,9 @@ fn all_show<R: Threads + Sync + Abort + AllocGlobal>(
     let starts = marked_addresses(alloc, code, marks.starts())?;
     same(rt, &starts.as_slice(), &wanted.0);
     closed_shows(rt, code, &state, 1, wanted)?;
-    closed_shows(rt, code, &state, 3, wanted)
+    closed_shows(rt, code, &state, 3, wanted)?;
+    found_closed(rt, code, code.seeds(), &state, 1, wanted)?;
+    found_closed(rt, code, code.seeds(), &state, 3, wanted)
 }
 
 #[test]

@@ -6,7 +6,7 @@ ghost use Rattle.cfg_model.specs.Program.Reach.{AreSeeds};
 ghost use Rattle.test_programs.specs.Listed.{slot_at, listed_at, are_lawful, are_seeds};
 
 use cfg_model::{Chains, Flow, Memory};
-use reached_terms::Numbered;
+use numbered::Numbered;
 use std::alloc::Global;
 
 /// What stands at an address: the length of an instruction, in bytes, and its flow. `None` if no

@@ -1,53 +1,31 @@
 -- How a run ends: what each refusal leaves, by its kind.
-use Rattle.std.proofs.Common.{◌≡◌, ℕ, ◌<◌, List, [], ◌++◌, length, Option, Some, None, refl, sym, ap, subst, arith, length-append, append-nil, ◌∙◌}
-use Rattle.std.specs.Prelude.{IfSome, IfErr, nat_lt, Result, Ok, Err}
-use Rattle.std.proofs.lemmas.Bool.{cond-true, lt-ltb}
-use Rattle.std.proofs.lemmas.Option.{same_Some}
-use Rattle.elf_image.specs.declared.fault.Fault.TheVariants.{TooLarge}
-use Rattle.elf_image.specs.FaultTests.{is_too_large}
-use Rattle.elf_image.specs.Faults.{first_fault, first_among, has_fault}
-use Rattle.cfg_io.specs.Told.{Appends, Takes, TakesCount}
+use Rattle.std.proofs.Common.{◌≡◌, ℕ, List, Option, Some, None, refl, sym, subst}
+use Rattle.std.specs.Prelude.{IfSome}
+use Rattle.std.proofs.lemmas.Option.{IfSome_then}
+use Rattle.cfg_io.specs.Told.{TakesCount}
 use Rattle.run_ends.specs.declared.reading.Unread.{Unread}
 use Rattle.run_ends.specs.declared.reading.Unread.TheVariants as unread
 use Rattle.run_ends.specs.Told.{Grows}
 use Rattle.run_ends.specs.Inputs.{OverInput}
+use Rattle.run_ends.proofs.Inputs.{taken-too-large}
+use Rattle.run_ends.proofs.Pieces.{appends-nothing}
 use Rattle.walk_run.specs.declared.refusal.Refusal.{Refusal}
 use Rattle.walk_run.specs.declared.refusal.Refusal.TheVariants as refusals
 use Rattle.walk_run.specs.Words.{Asked, of_walk, path_of, AsksWalk}
-use Rattle.walk_run.specs.Answer.{IsAnswer, usage_answer, malformed_answer, too_much_answer}
+use Rattle.walk_run.specs.Answer.{IsAnswer, refused_with}
 use Rattle.walk_run.specs.Refusal.{status_of, refusal_of_unread}
 use Rattle.walk_run.specs.Lines.{refusal_line}
 use Rattle.walk_run.specs.Inner.{IsRefusalOf, IsTrueOf}
 use Rattle.walk_run.specs.Run.{IsDecided, Gives, IsLineOf}
 
--- Nothing was appended.
-pub appends-nothing : (old : Option (List ℕ)) → Appends old [] old
-appends-nothing None = refl
-appends-nothing (Some had) = ap (λ xs. Some xs) (sym (append-nil had))
-
 -- ---- reading
-
--- A file of more bytes than the limit is too large.
-too-large : (bytes : List ℕ) → 67108864 < length bytes → first_fault bytes ≡ Some TooLarge
-unfolding first_fault first_among has_fault is_too_large
-too-large bytes more = cond-true (nat_lt 67108864 (length bytes)) _ _ (lt-ltb 67108864 (length bytes) more)
-
-taken-more : (bytes : List ℕ) (new : Option (List ℕ)) → TakesCount (Some bytes) 67108865 new → 67108864 < length bytes
-taken-more bytes None (taken, takes, count) = absurd (cc)
-taken-more bytes (Some left) (taken, takes, count) =
-    let same : bytes ≡ taken ++ left = cc in
-    omega (arith, ap length same, length-append taken left, count)
 
 -- What reading refuses is true of the file that is asked for.
 module _ (asked : Asked) where
-  told-too-large : (told new : Option (List ℕ)) → TakesCount told 67108865 new → IfSome told (λ bytes. IsAnswer bytes (Some asked) (malformed_answer TooLarge))
-  told-too-large None new takes = tt
-  told-too-large (Some bytes) new takes = IsAnswer.malformed (too-large bytes (taken-more bytes new takes))
-
   pub unread-true : (told new : Option (List ℕ)) (rose : Type 0) (e : Unread) → (e ≡ unread.ReadFault → rose)
       → (e ≡ unread.TooLarge → TakesCount told 67108865 new) → IsTrueOf (Some asked) told rose (refusal_of_unread e)
   unread-true told new rose unread.ReadFault failed takes = (tt, failed refl)
-  unread-true told new rose unread.TooLarge failed takes = (tt, told-too-large told new (takes refl))
+  unread-true told new rose unread.TooLarge failed takes = (tt, IfSome_then told (taken-too-large told new (takes refl)) (λ bytes is. IsAnswer.malformed is))
   unread-true told new rose unread.Memory failed takes = tt
 
   -- So is what the bytes that were read refuse.
@@ -72,14 +50,6 @@ module _ (asked : Asked) where
   fault-true None bytes rose r same is = untold rose bytes r is
   fault-true (Some b) bytes rose r same is = subst (λ (x : List ℕ). IsTrueOf (Some asked) (Some x) rose r) (sym same) (fault-of bytes rose r is)
 
--- What was read to the end is all that was there.
-pub read-whole : (old new : Option (List ℕ)) (bytes : List ℕ) → Takes old bytes new → IfSome new (λ left. left ≡ []) → IfSome old (λ b. b ≡ bytes)
-read-whole None new bytes takes ends = tt
-read-whole (Some b) None bytes takes ends = absurd (cc)
-read-whole (Some b) (Some left) bytes takes ends =
-    let same : b ≡ bytes ++ left = same_Some b (bytes ++ left) takes in
-    same ∙ ap (λ xs. bytes ++ xs) ends ∙ append-nil bytes
-
 -- ---- refusing
 
 -- What holds of the bytes that the input tells holds over the bytes that count for a walk.
@@ -90,22 +60,22 @@ over-told (Some (of_walk steps path)) told P asks holds = λ bytes are. subst (�
 pub decided-true : (asked : Option Asked) (told : Option (List ℕ)) (rose : Type 0) (r : Refusal) (old : Option (List ℕ)) (Error : List ℕ → Type 0)
     → IsTrueOf asked told rose r → Error (refusal_line r) → OverInput (path_of asked) told (λ bytes. IsDecided (status_of r) → Gives bytes asked (status_of r) (Grows old old) Error)
 decided-true asked told rose refusals.Usage old Error is line = λ bytes are _. record {
-  answer = usage_answer;
-  is_answer = subst (λ (a : Option Asked). IsAnswer bytes a usage_answer) (sym is) IsAnswer.usage;
+  answer = refused_with refusals.Usage;
+  is_answer = subst (λ (a : Option Asked). IsAnswer bytes a (refused_with refusals.Usage)) (sym is) IsAnswer.usage;
   status = refl;
   output = appends-nothing old;
   error = line;
 }
 decided-true asked told rose (refusals.Malformed fault) old Error is line = λ bytes are _. record {
-  answer = malformed_answer fault;
-  is_answer = over-told asked told (λ b. IsAnswer b asked (malformed_answer fault)) is.0 is.1 bytes are;
+  answer = refused_with (refusals.Malformed fault);
+  is_answer = over-told asked told (λ b. IsAnswer b asked (refused_with (refusals.Malformed fault))) is.0 is.1 bytes are;
   status = refl;
   output = appends-nothing old;
   error = line;
 }
 decided-true asked told rose refusals.TooMuch old Error is line = λ bytes are _. record {
-  answer = too_much_answer;
-  is_answer = over-told asked told (λ b. IsAnswer b asked too_much_answer) is.0 is.1 bytes are;
+  answer = refused_with refusals.TooMuch;
+  is_answer = over-told asked told (λ b. IsAnswer b asked (refused_with refusals.TooMuch)) is.0 is.1 bytes are;
   status = refl;
   output = appends-nothing old;
   error = line;
@@ -122,7 +92,3 @@ line-of refusals.ReadFault = refl
 line-of refusals.WriteFault = refl
 line-of refusals.Memory = refl
 line-of refusals.TooMuch = refl
-
-pub if_err_map : {T E : Type 0} {P Q : E → Type 0} (r : Result T E) → ((e : E) → P e → Q e) → IfErr r P → IfErr r Q
-if_err_map (Ok x) f p = tt
-if_err_map (Err e) f p = f e p

@@ -6,39 +6,22 @@ use Rattle.cfg_model.specs.declared.graph.Graph.{Graph}
 use Rattle.file_program.specs.FileGraph.{IsGraphOf}
 use Rattle.rv_machine.specs.FileMemory.{is_too_much}
 use Rattle.walk_trace.specs.Trace.{trace_text}
+use Rattle.run_ends.specs.Answer.{Answer}
+use Rattle.walk_run.specs.declared.refusal.Refusal.{Refusal}
 use Rattle.walk_run.specs.declared.refusal.Refusal.TheVariants as refusals
 use Rattle.walk_run.specs.declared.status.WalkStatus.{WalkStatus}
 use Rattle.walk_run.specs.declared.status.WalkStatus.TheVariants as statuses
+use Rattle.walk_run.specs.Refusal.{status_of}
 use Rattle.walk_run.specs.Lines.{refusal_line}
 use Rattle.walk_run.specs.Words.{Asked, of_walk}
 
--- An exit status, and what goes to standard output and to standard error.
-pub record Answer : Type 0 where
-  pub status : WalkStatus
-  pub output : List ℕ
-  pub error : List ℕ
-
--- The words were refused.
-abbrev pub usage_answer : Answer
-usage_answer = record { status = statuses.Usage; output = []; error = refusal_line refusals.Usage }
-
--- The file has this fault.
-abbrev pub malformed_answer : Fault → Answer
-malformed_answer fault =
-    record {
-      status = statuses.Malformed;
-      output = [];
-      error = refusal_line
-          (refusals.Malformed fault);
-    }
-
--- The file asks for too much memory.
-abbrev pub too_much_answer : Answer
-too_much_answer =
-    record { status = statuses.TooMuch; output = []; error = refusal_line refusals.TooMuch }
+-- Nothing is written but the line that says why.
+abbrev pub refused_with : Refusal → Answer WalkStatus
+refused_with refusal =
+    record { status = status_of refusal; output = []; error = refusal_line refusal }
 
 -- This is the trace.
-abbrev pub trace_answer : List ℕ → Answer
+abbrev pub trace_answer : List ℕ → Answer WalkStatus
 trace_answer text = record { status = statuses.Done; output = text; error = [] }
 
 -- The file has no fault, and its sections ask for more memory than a walk takes.
@@ -48,11 +31,12 @@ AsksTooMuch bytes = (first_fault bytes ≡ None) × IsTrue (is_too_much bytes)
 -- The answer to what is asked for, over a file of these bytes. Words that ask for nothing are
 -- refused. Of a file with a fault, the first one is named. A file that asks for too much memory is
 -- refused. Any other is walked, in its graph.
-pub data IsAnswer (bytes : List ℕ) : Option Asked → Answer → Type 0 where
-  usage : IsAnswer bytes None usage_answer
+pub data IsAnswer (bytes : List ℕ) : Option Asked → Answer WalkStatus → Type 0 where
+  usage : IsAnswer bytes None (refused_with refusals.Usage)
   malformed : {asked : Asked} {fault : Fault} → first_fault bytes ≡ Some fault
-      → IsAnswer bytes (Some asked) (malformed_answer fault)
-  too_much : {asked : Asked} → AsksTooMuch bytes → IsAnswer bytes (Some asked) too_much_answer
+      → IsAnswer bytes (Some asked) (refused_with (refusals.Malformed fault))
+  too_much : {asked : Asked} → AsksTooMuch bytes
+      → IsAnswer bytes (Some asked) (refused_with refusals.TooMuch)
   done : {steps : ℕ} {path : List ℕ} {graph : Graph}
       → first_fault bytes ≡ None → is_too_much bytes ≡ false → IsGraphOf bytes graph
       → IsAnswer bytes (Some (of_walk steps path)) (trace_answer (trace_text bytes graph steps))

@@ -1,4 +1,4 @@
--- Words that no public clause cites: what the steps of a run tell one another.
+-- Words that no public clause cites: what the steps of a run answer one another.
 use Rattle.std.specs.Prelude.{◌≡◌, ℕ, List, Option, Some, None, IfSome, Result, Ok, Err}
 use Rattle.elf_image.specs.Faults.{first_fault}
 use Rattle.walk_run.specs.declared.refusal.Refusal.{Refusal}
@@ -8,7 +8,7 @@ use Rattle.walk_run.specs.declared.status.WalkStatus.TheVariants as statuses
 use Rattle.walk_run.specs.declared.words.Request.{Request}
 use Rattle.walk_run.specs.Words.{Asked, of_walk, AsksWalk}
 use Rattle.walk_run.specs.Refusal.{status_of}
-use Rattle.walk_run.specs.Answer.{IsAnswer, AsksTooMuch, malformed_answer, too_much_answer}
+use Rattle.walk_run.specs.Answer.{IsAnswer, AsksTooMuch, refused_with}
 
 -- The walk that a value of the program's own type asks for.
 abbrev pub asked : Request → Asked
@@ -33,9 +33,9 @@ IsRefusalOf bytes refusals.TooMuch = AsksTooMuch bytes
 abbrev pub IsTrueOf : Option Asked → Option (List ℕ) → Type 0 → Refusal → Type 0
 IsTrueOf asked told rose refusals.Usage = asked ≡ None
 IsTrueOf asked told rose (refusals.Malformed fault) = AsksWalk asked
-    × IfSome told (λ bytes. IsAnswer bytes asked (malformed_answer fault))
+    × IfSome told (λ bytes. IsAnswer bytes asked (refused_with (refusals.Malformed fault)))
 IsTrueOf asked told rose refusals.ReadFault = AsksWalk asked × rose
 IsTrueOf asked told rose refusals.WriteFault = ⊥
 IsTrueOf asked told rose refusals.Memory = Unit {0}
 IsTrueOf asked told rose refusals.TooMuch = AsksWalk asked
-    × IfSome told (λ bytes. IsAnswer bytes asked too_much_answer)
+    × IfSome told (λ bytes. IsAnswer bytes asked (refused_with refusals.TooMuch))

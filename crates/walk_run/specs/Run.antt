@@ -1,13 +1,13 @@
 -- What a run may leave behind.
 use Rattle.std.specs.Prelude.{◌≡◌, ℕ, List, [], Option}
 use Rattle.elf_image.specs.declared.fault.Fault.{Fault}
-use Rattle.cfg_io.specs.Told.{AppendsPrefix}
+use Rattle.run_ends.specs.Answer.{GivesAnswer, GivesAnswerPart}
 use Rattle.walk_run.specs.declared.status.WalkStatus.{WalkStatus}
 use Rattle.walk_run.specs.declared.status.WalkStatus.TheVariants as statuses
 use Rattle.walk_run.specs.declared.refusal.Refusal.TheVariants as refusals
 use Rattle.walk_run.specs.Lines.{refusal_line}
 use Rattle.walk_run.specs.Words.{Asked}
-use Rattle.walk_run.specs.Answer.{Answer, IsAnswer}
+use Rattle.walk_run.specs.Answer.{IsAnswer}
 
 -- The words and the bytes decided the status: nothing failed, and memory sufficed.
 abbrev pub IsDecided : WalkStatus → Type 0
@@ -31,22 +31,13 @@ HasRead statuses.TooMuch = Unit {0}
 
 -- A run that ended in this way gave the answer: its status is the answer's, and standard output and
 -- standard error took the texts of it.
-pub record Gives
-    (bytes : List ℕ) (asked : Option Asked) (end : WalkStatus)
-    (Output Error : List ℕ → Type 0) : Type 0 where
-  pub answer : Answer
-  pub is_answer : IsAnswer bytes asked answer
-  pub status : end ≡ answer.status
-  pub output : Output answer.output
-  pub error : Error answer.error
+abbrev pub Gives : List ℕ → Option Asked → WalkStatus → (List ℕ → Type 0) → (List ℕ → Type 0)
+    → Type 0
+Gives bytes asked end Output Error = GivesAnswer (IsAnswer bytes asked) end Output Error
 
 -- A run whose writing failed: standard output grew by a part, from its front, of the trace.
-pub record GivesPart (bytes : List ℕ) (asked : Option Asked)
-    (old new : Option (List ℕ)) : Type 0 where
-  pub answer : Answer
-  pub is_answer : IsAnswer bytes asked answer
-  pub status : answer.status ≡ statuses.Done
-  pub output : AppendsPrefix old answer.output new
+abbrev pub GivesPart : List ℕ → Option Asked → Option (List ℕ) → Option (List ℕ) → Type 0
+GivesPart bytes asked old new = GivesAnswerPart (IsAnswer bytes asked) statuses.Done old new
 
 -- The line that a status puts on standard error. Which fault a malformed file has, the answer says.
 abbrev pub IsLineOf : WalkStatus → List ℕ → Type 0

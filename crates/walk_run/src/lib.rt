@@ -4,7 +4,7 @@
 //! - `whole_run`: a whole run over any input and any sinks, and what is proved of it.
 //! - `answer`: from the bytes of a file to a trace.
 //! - `words`: the walk that the words ask for.
-//! - `status`, `refusal`: how a run ends, and the line that tells why it failed.
+//! - `status`, `refusal`: how a run ends, and the line that reports why it failed.
 //! - `laws`: that a run has one answer.
 #![tactic(auto)]
 
@@ -18,5 +18,5 @@ mod words;
 pub use laws::one_walk_answer;
 pub use refusal::Refusal;
 pub use status::WalkStatus;
-pub use whole_run::walk;
+pub use whole_run::{refuse, walk};
 pub use words::MOST_STEPS;

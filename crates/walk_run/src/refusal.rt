@@ -1,4 +1,4 @@
-//! Why a run wrote no whole trace, and the line that tells it.
+//! Why a run wrote no whole trace, and the line that reports it.
 
 ghost use Rattle.std.specs.Prelude.{◌≡◌};
 ghost use Rattle.cfg_io.specs.Fault.{Rose};
@@ -11,7 +11,7 @@ use crate::status::WalkStatus;
 use cfg_io::Sink;
 use cfg_model::Memory;
 use elf_image::{ElfError, Fault};
-use run_ends::{Unread, tell};
+use run_ends::{Unread, write_failure};
 use rv_machine::RamError;
 
 /// Why a run wrote no whole trace.
@@ -68,7 +68,7 @@ impl From<Memory> for Refusal {
 }
 
 impl Refusal {
-    /// The status that tells it.
+    /// The status that it ends a run with.
     pub fn status(&self) -> WalkStatus
         ensures { result ≡ status_of self.now }
     {
@@ -107,10 +107,10 @@ impl Refusal {
     }
 
     /// Writes its line, without taking memory. If a write fails, a part of the line went out.
-    pub fn tell<E: Sink>(&self, err: &mut E)
+    pub fn report<E: Sink>(&self, err: &mut E)
         ensures { Tells (E.written err.old) (E.written err.new)
             (Rose (E.faults err.old) (E.faults err.new)) (refusal_line self.now) }
     {
-        tell("cfg_walk", self.text(), self.detail(), err);
+        write_failure("cfg_walk", self.text(), self.detail(), err);
     }
 }

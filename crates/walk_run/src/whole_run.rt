@@ -22,7 +22,7 @@ use run_ends::read_file;
 use std::alloc::Global;
 
 /// Runs the program: reads the file that `words` ask for from `input`, writes the trace of its walk
-/// to `out`, and tells on `err` why it did not. It starts no thread and waits for nobody.
+/// to `out`, and reports on `err` why it did not. It starts no thread and waits for nobody.
 ///
 /// The clause `answer` is what the program is for. If the words and the bytes decide the end of a
 /// run, its status, standard output and standard error are exactly those of the answer to them. By
@@ -83,13 +83,13 @@ pub fn walk<I: Input, O: Sink, E: Sink>(
     }
 }
 
-// Ends a run that writes no whole trace.
-fn refuse<E: Sink>(refusal: Refusal, err: &mut E) -> WalkStatus
+/// Ends a run that writes no whole trace.
+pub fn refuse<E: Sink>(refusal: Refusal, err: &mut E) -> WalkStatus
     ensures status { result ≡ status_of refusal }
     ensures line { Tells (E.written err.old) (E.written err.new)
         (Rose (E.faults err.old) (E.faults err.new)) (refusal_line refusal) }
 {
-    refusal.tell(err);
+    refusal.report(err);
     refusal.status()
 }
 

@@ -11,24 +11,24 @@ use Rattle.rv_machine.specs.Memory.{Bytes}
 use Rattle.rv_machine.specs.Step.{Outcome, Traps, Goes, answer_of, state_after, memory_after}
 use Rattle.edge_cover.specs.Move.{move_in}
 use Rattle.walk_trace.specs.Lines.{trap_line}
-use Rattle.walk_trace.specs.Trace.{Walk, Told, moved, next_of, stepped, steps_on}
+use Rattle.walk_trace.specs.Trace.{Walk, Printed, moved, next_of, stepped, steps_on}
 
 module _ (bytes : List ℕ) (blocks : List Block) (edges : List Edge) (walk : Walk) (left fewer : ℕ) (one : left ≡ suc fewer) (text more : List ℕ) (told : more ≡ text ++ (stepped bytes blocks edges walk).text) where
-  -- a step that is told, and the steps after it
+  -- a step that is printed, and the steps after it
   pub step_told : (next : Option Walk) → next ≡ (stepped bytes blocks edges walk).walk → more ++ steps_on bytes blocks edges next fewer ≡ text ++ steps_on bytes blocks edges (Some walk) left
   step_told next goes =
       rw (one, told, goes) (append_assoc text (stepped bytes blocks edges walk).text (steps_on bytes blocks edges (stepped bytes blocks edges walk).walk fewer))
 
-  -- a step that is told and ends the walk
+  -- a step that is printed and ends the walk
   pub last_told : None ≡ (stepped bytes blocks edges walk).walk → more ≡ text ++ steps_on bytes blocks edges (Some walk) left
   last_told ends = sym (append-nil more) ∙ step_told None ends
 
--- ---- what one step tells
+-- ---- what one step prints
 
 module _ (bytes : List ℕ) (blocks : List Block) (edges : List Edge) (walk : Walk) where
-  -- what is told of a step that ends so
-  abbrev pub told_by : Outcome → Told
-  told_by o = elim o [
+  -- what is printed of a step that ends so
+  abbrev pub printed_by : Outcome → Printed
+  printed_by o = elim o [
     | Traps trap ↦ record { text = trap_line trap; walk = None }
     | Goes state memory ↦
         moved blocks (move_in walk.block edges (next_of bytes walk.state) state.pc)
@@ -37,7 +37,7 @@ module _ (bytes : List ℕ) (blocks : List Block) (edges : List Edge) (walk : Wa
 
   -- of one that goes on
   pub goes_told : (o : Outcome) (next : ℕ) (after : State) (left : Bytes) → steps.Next ≡ answer_of o → next ≡ next_of bytes walk.state → after ≡ state_after o walk.state → left ≡ memory_after o walk.memory
-      → told_by o ≡ moved blocks (move_in walk.block edges next after.pc) (record walk { state = after; memory = left })
+      → printed_by o ≡ moved blocks (move_in walk.block edges next after.pc) (record walk { state = after; memory = left })
   goes_told (Traps trap) next after left goes at state memory = absurd cc
   goes_told (Goes other found) next after left goes at state memory =
       ap (λ n. moved blocks (move_in walk.block edges n other.pc) (record walk { state = other; memory = found })) (sym at)
@@ -45,8 +45,8 @@ module _ (bytes : List ℕ) (blocks : List Block) (edges : List Edge) (walk : Wa
       ∙ ap (λ (m : Bytes). moved blocks (move_in walk.block edges next after.pc) (record walk { state = after; memory = m })) (sym memory)
 
   -- of one that traps
-  pub trap_told : (o : Outcome) (trap : Trap) → steps.Trap trap ≡ answer_of o → told_by o ≡ record { text = trap_line trap; walk = None }
-  trap_told (Traps other) trap traps = let same : other ≡ trap = cc in ap (λ (t : Trap). told_by (Traps t)) same
+  pub trap_told : (o : Outcome) (trap : Trap) → steps.Trap trap ≡ answer_of o → printed_by o ≡ record { text = trap_line trap; walk = None }
+  trap_told (Traps other) trap traps = let same : other ≡ trap = cc in ap (λ (t : Trap). printed_by (Traps t)) same
   trap_told (Goes state memory) trap traps = absurd cc
 
 -- an instruction that is there is this one

@@ -24,7 +24,7 @@ pub record Walk : Type 0 where
   pub memory : Bytes
 
 -- What is printed, and the walk that goes on, if it does.
-pub record Told : Type 0 where
+pub record Printed : Type 0 where
   pub text : List ℕ
   pub walk : Option Walk
 
@@ -38,7 +38,7 @@ arrival_line None a = left_line
 arrival_line (Some block) a = at_line a
 
 -- The machine goes to its program counter.
-abbrev pub entered : List Block → State → Bytes → Told
+abbrev pub entered : List Block → State → Bytes → Printed
 entered blocks state memory = record {
   text = arrival_line (block_at blocks state.pc) state.pc;
   walk = option_map (λ block. record { block = block; state = state; memory = memory })
@@ -46,7 +46,7 @@ entered blocks state memory = record {
 }
 
 -- A step was this move. Every edge of a graph leads to a block of it.
-abbrev pub moved : List Block → Move → Walk → Told
+abbrev pub moved : List Block → Move → Walk → Printed
 moved blocks Inside walk = record { text = []; walk = Some walk }
 moved blocks (Along kind) walk = entered blocks walk.state walk.memory
 moved blocks (Out kind) walk =
@@ -58,7 +58,7 @@ abbrev pub next_of : List ℕ → State → ℕ
 next_of bytes state = advanced (rv64gc_placed_at bytes state.pc).length state
 
 -- One step of a walk.
-abbrev pub stepped : List ℕ → List Block → List Edge → Walk → Told
+abbrev pub stepped : List ℕ → List Block → List Edge → Walk → Printed
 stepped bytes blocks edges walk = elim (step_of bytes walk.state walk.memory) [
   | Outcome.Traps trap ↦ record { text = trap_line trap; walk = None }
   | Outcome.Goes state memory ↦
@@ -71,8 +71,8 @@ abbrev pub steps_on : List ℕ → List Block → List Edge → Option Walk → 
 steps_on bytes blocks edges None steps = []
 steps_on bytes blocks edges (Some walk) zero = steps_line
 steps_on bytes blocks edges (Some walk) (suc steps) =
-    let told = stepped bytes blocks edges walk in
-    told.text ++ steps_on bytes blocks edges told.walk steps
+    let printed = stepped bytes blocks edges walk in
+    printed.text ++ steps_on bytes blocks edges printed.walk steps
 
 -- The top of the stack at the start, in x2.
 abbrev pub stack : ℕ
@@ -82,8 +82,8 @@ stack = 0x7FFF_0000
 -- this memory at the start.
 abbrev pub trace_of : List ℕ → List Block → List Edge → Bytes → ℕ → List ℕ
 trace_of bytes blocks edges memory steps =
-    let told = entered blocks (start (entry bytes) stack) memory in
-    told.text ++ steps_on bytes blocks edges told.walk steps
+    let printed = entered blocks (start (entry bytes) stack) memory in
+    printed.text ++ steps_on bytes blocks edges printed.walk steps
 
 -- The same with the blocks and edges of a graph of the file, and the memory of the file. A trace
 -- shows no kinds of edges, so it is all one whether tail calls are marked.

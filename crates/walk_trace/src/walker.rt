@@ -36,7 +36,7 @@ impl Walker {
     ghost use Rattle.walk_trace.specs.Inner.{AreDecoded, walk_of, walk_if};
 
     /// The walk from the entry of a file with this memory, if a block starts there. Appends what is
-    /// told first.
+    /// printed first.
     pub(crate) fn start(
         alloc: Global,
         image: &Image,
@@ -65,7 +65,7 @@ impl Walker {
         }
     }
 
-    /// Makes a step, and appends what it tells. Answers whether the walk goes on.
+    /// Makes a step, and appends what it prints. Answers whether the walk goes on.
     pub(crate) fn step(
         &mut self,
         image: &Image,

@@ -4,12 +4,12 @@ use Rattle.std.specs.Option.{MatchOption}
 use Rattle.cfg_model.specs.Program.Instructions.{InstructionMap, flow_at}
 use Rattle.cfg_model.specs.Program.Chain.{GoesOnTo, IsTerminator}
 use Rattle.cfg_model.specs.Graph.Block.{RunsTo, IsLastOf}
-use Rattle.reached_terms.specs.Numbering.{IsNumbering}
+use Rattle.numbered.specs.Numbering.{IsNumbering}
 use Rattle.cert_text.specs.declared.lines.LeadLine.{LeadLine}
 use Rattle.cert_laws.specs.Lines.{IsLead}
 use Rattle.cert_check.specs.declared.blocks.Run.{Run}
 use Rattle.cert_check.specs.declared.blocks.Blocks.{Blocks}
-use Rattle.cert_places.specs.Places.{IsPlace}
+use Rattle.cert_ends.specs.Places.{IsPlace}
 
 -- x lies in the block of the leader at this place.
 pub record LiesIn (map : InstructionMap) (leads : List LeadLine) (x i : ℕ) : Type 0 where

@@ -2,7 +2,7 @@
 use Rattle.std.specs.Prelude.{ℕ}
 use Rattle.std.specs.List.Sorted.{IsStrictlyIncreasing}
 use Rattle.cfg_model.specs.Program.Instructions.{InstructionMap, IsLawful}
-use Rattle.cert_places.specs.Places.{AreLeads}
+use Rattle.cert_ends.specs.Places.{AreLeads}
 use Rattle.cert_check.specs.declared.leads.Reasons.{Reasons}
 use Rattle.cert_check.specs.Inner.Blocks.{AreBlocks}
 use Rattle.cert_check.specs.Inner.Jumps.{AreJumps}

@@ -2,7 +2,7 @@
 use Rattle.std.specs.Prelude.{◌≡◌, ℕ, ◌+◌, ◌<◌, List, length, slice_index_or, Contains, IsSome}
 use Rattle.std.specs.List.Sorted.{IsStrictlyIncreasing}
 use Rattle.cfg_model.specs.Program.Instructions.{InstructionMap}
-use Rattle.reached_terms.specs.Numbering.{IsNumbering}
+use Rattle.numbered.specs.Numbering.{IsNumbering}
 use Rattle.cert_make.specs.declared.places.Places.{Places}
 
 -- The address at a place.

@@ -6,7 +6,7 @@ use Rattle.cfg_model.specs.Program.Chain.{GoesOnTo, IsTerminator}
 use Rattle.cfg_model.specs.Graph.Block.{IsLastOf}
 use Rattle.cert_text.specs.declared.lines.LeadLine.{LeadLine}
 use Rattle.cert_laws.specs.Lines.{IsLead}
-use Rattle.cert_places.specs.Places.{IsPlace}
+use Rattle.cert_ends.specs.Places.{IsPlace}
 use Rattle.cert_make.specs.declared.runs.Run.{Run}
 
 -- Where a block goes on: at the leader at this place, or nowhere, since it ends in a terminator.

@@ -6,7 +6,7 @@ use Rattle.cert_text.specs.declared.lines.LeadWhy.{LeadWhy}
 use Rattle.cfg_model.specs.Program.Instructions.{InstructionMap}
 use Rattle.cfg_model.specs.Graph.Leader.{IsLeader}
 use Rattle.cert_laws.specs.Lines.{IsLead, IsLeadBelow}
-use Rattle.cert_places.specs.Places.{IsPlace}
+use Rattle.cert_ends.specs.Places.{IsPlace}
 use Rattle.cert_make.specs.declared.firsts.Offer.{Offer}
 use Rattle.cert_make.specs.declared.joins.Meeting.{Meeting}
 use Rattle.cert_make.specs.Reason.{LeadsFor, MeetsBy}

@@ -2,8 +2,9 @@
 use Rattle.std.specs.Prelude.{◌↔◌, ℕ, Bool, List, All, Contains, IsSome}
 use Rattle.std.specs.List.Sorted.{IsStrictlyIncreasing}
 use Rattle.cfg_model.specs.Program.Instructions.{InstructionMap}
+use Rattle.cfg_model.specs.Graph.Block.{IsLastOf}
 use Rattle.cfg_model.specs.Graph.Leader.{IsLeader}
-use Rattle.reached_terms.specs.Numbering.{IsMarked}
+use Rattle.numbered.specs.Numbering.{IsMarked}
 use Rattle.reached_terms.specs.Sent.{IsSent}
 use Rattle.reached_graph.specs.declared.leaders.Leaders.{Leaders}
 use Rattle.reached_graph.specs.Inner.Blocks.{AreCutAt}
@@ -23,6 +24,20 @@ pub record AreMarkedBlocks (map : InstructionMap) (IsCut : ℕ → Type 0) (bloc
   pub rise : IsStrictlyIncreasing blocks.starts.items
   pub exact : (a : ℕ) → Contains blocks.starts.items a ↔ IsCut a
   pub cut : AreCutAt map IsCut blocks.starts.items blocks.lasts.items
+
+-- These blocks are cut at some of the addresses whose marks are set.
+pub record AreCutAtSome (map : InstructionMap) (number : ℕ → ℕ) (marks : List Bool)
+    (blocks : Leaders) : Type 0 where
+  pub given : List Bool
+  pub made : AreMarkedBlocks map (IsMarked map number given) blocks
+  pub more : (a : ℕ) → IsMarked map number given a → IsMarked map number marks a
+
+-- k is the last address of the block of s, if blocks are cut at some of these addresses.
+pub record IsLastAtSome (map : InstructionMap) (number : ℕ → ℕ) (marks : List Bool) (s k : ℕ)
+    : Type 0 where
+  pub given : List Bool
+  pub last : IsLastOf map (IsMarked map number given) s k
+  pub more : (a : ℕ) → IsMarked map number given a → IsMarked map number marks a
 
 -- These are all leaders of the program, and the last addresses of their blocks.
 pub record AreLeaders (map : InstructionMap) (seeds : List ℕ) (leaders : Leaders) : Type 0 where

@@ -4,7 +4,7 @@ use Rattle.cfg_model.specs.Program.Instructions.{InstructionMap, IsLawful}
 use Rattle.cfg_model.specs.Program.Chain.{GoesOnTo}
 use Rattle.cfg_model.specs.Program.Reach.{Reached}
 use Rattle.cfg_model.specs.Graph.Leader.{IsLeader}
-use Rattle.reached_terms.specs.Numbering.{IsMarked, IsNumbering}
+use Rattle.numbered.specs.Numbering.{IsMarked, IsNumbering}
 use Rattle.reached_graph.specs.declared.walks.Walks.{Walks}
 use Rattle.reached_graph.specs.Inner.Leaders.{AreStarts}
 use Rattle.reached_graph.specs.Inner.Marks.{IsAdded}

@@ -9,7 +9,7 @@ use Rattle.cfg_model.specs.Program.Reach.{Reached}
 use Rattle.cfg_model.specs.Program.Status.{Returns}
 use Rattle.reached_terms.specs.declared.marks.Way.{Way}
 use Rattle.reached_terms.specs.declared.marks.Marks.{Marks}
-use Rattle.reached_terms.specs.Numbering.{IsNumbering}
+use Rattle.numbered.specs.Numbering.{IsNumbering}
 use Rattle.reached_terms.specs.Sent.{IsSent}
 
 -- The mark number n is set.

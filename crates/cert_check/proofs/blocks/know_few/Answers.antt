@@ -1,6 +1,6 @@
 use Rattle.std.proofs.Common.{arith}
 use Rattle.cert_text.specs.declared.lines.LeadLine.{LeadLine}
-use Rattle.cert_places.proofs.Few.{no_more}
+use Rattle.cert_ends.proofs.Few.{no_more}
 use Rattle.cert_check.proofs.blocks.know_few.Goals as goal
 
 pub returns : goal.returns

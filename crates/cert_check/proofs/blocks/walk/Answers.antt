@@ -1,7 +1,7 @@
 use Rattle.std.proofs.Common.{◌<◌, Some, None, get_or, refl, sym, ap, subst, ◌∙◌, inl, inr, arith}
 use Rattle.cfg_model.specs.Program.Chain.{EndsChain, GoesOnTo, IsTerminator}
 use Rattle.cfg_model.proofs.Graphs.Runs.{goes_up}
-use Rattle.cert_places.proofs.Placed.{lead_at, lead_known, no_lead, place_at}
+use Rattle.cert_ends.proofs.Placed.{lead_at, lead_known, no_lead, place_at}
 use Rattle.cert_check.specs.Inner.Blocks.{owner_by}
 use Rattle.cert_check.proofs.Each.{false_true}
 use Rattle.cert_check.proofs.Walked.{not_listed, passed_first, run_from, walk_ends, walk_meets, walk_on, walk_starts}

@@ -1,11 +1,11 @@
 use Rattle.std.proofs.Common.{subst}
-use Rattle.reached_terms.proofs.Complete.{ends_stand}
+use Rattle.cert_ends.proofs.ListedEnds.{terminator_stands}
 use Rattle.cfg_model.proofs.Program.ChainEnds.{one_end}
 use Rattle.cert_laws.specs.Lines.{IsReturn}
 use Rattle.cert_check.proofs.edges.ends_in_return.Goals as goal
 
 pub has-requires-clause-stands : goal.has-requires-clause-stands
-has-requires-clause-stands g c κs within = ends_stand (g.C.Chains.map c.args.code.now c.term.result) c.term.ensures.term.ends
+has-requires-clause-stands g c κs within = terminator_stands (g.C.Chains.map c.args.code.now) c.term.result c.term.ensures.term.ends
 
 pub returns : goal.returns
 returns g c = (

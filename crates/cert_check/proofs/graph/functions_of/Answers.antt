@@ -2,7 +2,7 @@ use Rattle.std.proofs.Common.{of_calls, rules}
 use Rattle.std.specs.Prelude.{◌↔◌, IsSome, IsTrue}
 use Rattle.cert_laws.specs.Lines.{IsReturn}
 use Rattle.cert_laws.specs.Ways.{EndsIn}
-use Rattle.cert_places.specs.Places.{AreLeads, ReturnsRise}
+use Rattle.cert_ends.specs.Places.{AreLeads, ReturnsRise}
 use Rattle.cert_check.proofs.Outlined.{entry_reached, entry_stands, leads_of_valid, listed_returns, returns_listed, returns_of_valid, seeds_stand}
 use Rattle.cert_check.proofs.graph.functions_of.Goals as goal
 

@@ -2,7 +2,7 @@ use Rattle.std.proofs.Common.{List, length, get_or, ltb, sym, ap, subst, arith}
 use Rattle.std.specs.Prelude.{◌↔◌, IsTrue}
 use Rattle.cert_text.specs.declared.lines.LeadLine.{LeadLine}
 use Rattle.cert_laws.specs.Lines.{IsLeadBelow}
-use Rattle.cert_places.proofs.Placed.{below_at, no_lead}
+use Rattle.cert_ends.proofs.Placed.{below_at, no_lead}
 use Rattle.cert_check.proofs.leads.is_lead_below.Goals as goal
 
 pub bounds-as_slice-i : goal.bounds-as_slice-i

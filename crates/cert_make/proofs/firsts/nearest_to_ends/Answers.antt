@@ -1,7 +1,7 @@
 use Rattle.std.proofs.Common.{◌≡◌, ◌∙◌, length, sym, ap, subst, arith}
 use Rattle.std.proofs.lemmas.List.{get_or_default}
 use Rattle.cert_text.specs.declared.lines.LeadLine.{LeadLine}
-use Rattle.cert_places.proofs.Placed.{no_lead}
+use Rattle.cert_ends.proofs.Placed.{no_lead}
 use Rattle.cert_make.specs.Inner.Offers.{AreFirsts, IsOwnOffer}
 use Rattle.cert_make.proofs.Offered.{own_more}
 use Rattle.cert_make.proofs.firsts.nearest_to_ends.Goals as goal

@@ -1,4 +1,4 @@
-use Rattle.cert_places.proofs.Placed.{no_lead}
+use Rattle.cert_ends.proofs.Placed.{no_lead}
 use Rattle.cert_make.specs.Reason.{MeetsBy}
 use Rattle.cert_make.specs.Inner.Fronts.{IsSource}
 use Rattle.cert_make.proofs.Falling.{front_at, front_made, front_meets, front_read, opened}

@@ -1,6 +1,6 @@
 use Rattle.std.proofs.Common.{◌^◌, ◌-◌, get_or, sym, subst}
 use Rattle.std.proofs.lemmas.List.Elements.{Contains-get_or}
-use Rattle.cert_places.proofs.Placed.{no_lead, place_at}
+use Rattle.cert_ends.proofs.Placed.{no_lead, place_at}
 use Rattle.cert_make.specs.Inner.Runs.{AreRuns}
 use Rattle.cert_make.proofs.LeadSettling.{join_low, join_read, near_low, near_read}
 use Rattle.cert_make.proofs.LeadRows.{one_added, all_done}

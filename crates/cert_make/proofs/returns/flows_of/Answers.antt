@@ -1,6 +1,6 @@
 use Rattle.std.proofs.Common.{◌≡◌, length, sym, arith}
 use Rattle.cert_make.proofs.Flowing.{one_flow, all_flows}
-use Rattle.cert_places.proofs.Placed.{no_return}
+use Rattle.cert_ends.proofs.Placed.{no_return}
 use Rattle.cert_make.proofs.returns.flows_of.Goals as goal
 
 pub loop-i-preserved : goal.loop-i-preserved

@@ -1,7 +1,7 @@
 use Rattle.std.proofs.Common.{List, get_or, rules, subst}
 use Rattle.std.specs.Prelude.{MatchOption}
 use Rattle.cert_text.specs.declared.lines.ReturnLine.{ReturnLine}
-use Rattle.cert_places.proofs.Placed.{no_return}
+use Rattle.cert_ends.proofs.Placed.{no_return}
 use Rattle.cert_make.specs.Inner.Returns.{HasNoReason, IsSettledFor}
 use Rattle.cert_make.proofs.ReturnSteps.{one_next, all_next_of}
 use Rattle.cert_make.proofs.returns.step.Goals as goal

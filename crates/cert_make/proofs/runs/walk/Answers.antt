@@ -1,6 +1,6 @@
 use Rattle.std.proofs.Common.{◌<◌, Some, None, get_or, refl, inl, inr, arith}
 use Rattle.cfg_model.proofs.Graphs.Runs.{goes_up}
-use Rattle.cert_places.proofs.Placed.{lead_at, lead_known, no_lead, place_at}
+use Rattle.cert_ends.proofs.Placed.{lead_at, lead_known, no_lead, place_at}
 use Rattle.cert_make.proofs.Along.{false_true}
 use Rattle.cert_make.proofs.Walked.{not_listed, passed_first, run_from, walk_on, walk_starts}
 use Rattle.cert_make.proofs.runs.walk.Goals as goal

@@ -1,9 +1,10 @@
 use Rattle.std.proofs.Common.{ap}
 use Rattle.std.specs.Prelude.{Err}
-use Rattle.std.proofs.lemmas.Result.{err_from_is_err_and}
+use Rattle.std.proofs.lemmas.Result.{err_from_is_err_and, IfErr-weaker}
 use Rattle.cfg_io.specs.Fault.{Rose}
 use Rattle.run_ends.specs.declared.reading.Unread.{Unread}
-use Rattle.cfg_run.proofs.Endings.{unread-true, fault-true, read-whole, if_err_map}
+use Rattle.run_ends.proofs.Inputs.{read-whole}
+use Rattle.cfg_run.proofs.Endings.{unread-true, fault-true}
 use Rattle.cfg_run.proofs.whole_run.file_report.Goals as goal
 
 pub returns-in_err-bytes-clause-refused : goal.returns-in_err-bytes-clause-refused
@@ -22,6 +23,6 @@ returns-clause-refused g c =
     let new = g.I.Input.rest c.read_file.new.input in
     let rose = Rose (g.I.Input.faults c.args.input.now) (g.I.Input.faults c.read_file.new.input) in
     let bytes = c.in_ok-bytes.bytes.items in
-    if_err_map c.report_of.result
+    IfErr-weaker c.report_of.result _ _
     (λ r is workers. fault-true c.args.path.now workers c.args.kind told bytes rose r (read-whole told new bytes c.in_ok-bytes.ensures.whole c.in_ok-bytes.ensures.at_end) is)
     c.report_of.ensures.refused

@@ -2,7 +2,7 @@ use Rattle.std.proofs.lemmas.Bool.{false≢true}
 use Rattle.cfg_model.specs.Program.Chain.{GoesOnTo}
 use Rattle.cfg_model.specs.Graph.Block.{RunsTo}
 use Rattle.cfg_model.proofs.Graphs.Runs.{goes_up, run_step}
-use Rattle.reached_terms.specs.Numbering.{IsMarked}
+use Rattle.numbered.specs.Numbering.{IsMarked}
 use Rattle.reached_graph.proofs.blocks.last_of.Goals as goal
 
 pub loop-next-init : goal.loop-next-init

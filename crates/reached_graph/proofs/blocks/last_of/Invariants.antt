@@ -1,6 +1,6 @@
 use Rattle.std.proofs.Common.{◌-◌, ◌^◌, IsSome}
 use Rattle.cfg_model.specs.Graph.Block.{RunsTo}
-use Rattle.reached_terms.specs.Numbering.{IsMarked}
+use Rattle.numbered.specs.Numbering.{IsMarked}
 use Rattle.reached_graph.proofs.blocks.last_of.Given as goal
 
 abbrev pub invariant-loop-next : goal.invariant-loop-next

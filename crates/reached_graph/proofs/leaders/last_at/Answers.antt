@@ -1,4 +1,4 @@
-use Rattle.reached_terms.specs.Numbering.{IsMarked}
+use Rattle.numbered.specs.Numbering.{IsMarked}
 use Rattle.reached_graph.proofs.Apart.{last_at}
 use Rattle.reached_graph.proofs.leaders.last_at.Goals as goal
 

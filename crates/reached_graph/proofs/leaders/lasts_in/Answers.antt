@@ -2,7 +2,7 @@ use Rattle.std.proofs.Common.{◌+◌, ◌<◌, length, get_or, sym, ap, ◌∙�
 use Rattle.std.proofs.lemmas.List.{get_or_default}
 use Rattle.std.proofs.lemmas.List.Elements.{Contains-get_or}
 use Rattle.cfg_model.specs.Graph.Block.{IsLastOf}
-use Rattle.reached_terms.specs.Numbering.{IsMarked}
+use Rattle.numbered.specs.Numbering.{IsMarked}
 use Rattle.reached_graph.proofs.Pushed.{each_more, size_more}
 use Rattle.reached_graph.proofs.Together.{cut_in}
 use Rattle.reached_graph.proofs.leaders.lasts_in.Goals as goal

@@ -1,6 +1,6 @@
 use Rattle.std.proofs.Common.{◌≡◌, ℕ, ◌+◌, ◌<◌, length, get_or}
 use Rattle.cfg_model.specs.Graph.Block.{IsLastOf}
-use Rattle.reached_terms.specs.Numbering.{IsMarked}
+use Rattle.numbered.specs.Numbering.{IsMarked}
 use Rattle.reached_graph.proofs.leaders.lasts_in.Given as goal
 
 abbrev pub invariant-loop-i : goal.invariant-loop-i

@@ -16,10 +16,10 @@ returns-clause-prefix g c =
     let old = g.E.Sink.written c.args.err.now in
     let mid = g.E.Sink.written c.write_whole.new.sink in
     let new = g.E.Sink.written c.write_whole-2.new.sink in
-    let told : Appends old c.args.first.now mid =
+    let appended : Appends old c.args.first.now mid =
     subst (λ (x : List ℕ). Appends old x mid) c.as_bytes.ensures.value c.in_ok-write_whole.ensures.whole in
     on_err_map c.write_whole-2.result
     (λ (failed : AppendsPrefix mid c.as_bytes-2.result.now new).
-    prefix_behind old mid new c.args.first.now c.args.second.now told
+    prefix_behind old mid new c.args.first.now c.args.second.now appended
     (subst (λ (x : List ℕ). AppendsPrefix mid x new) c.as_bytes-2.ensures.value failed))
     c.write_whole-2.ensures.prefix

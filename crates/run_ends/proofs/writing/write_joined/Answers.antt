@@ -1,4 +1,4 @@
-use Rattle.std.proofs.Common.{◌≡◌, ℕ, List, ◌++◌, ◌∙◌, ap, sym, subst, append_assoc, arith, length, length-take}
+use Rattle.std.proofs.Common.{ℕ, List, ◌++◌, ◌∙◌, ap, subst, append_assoc, arith, length, length-take}
 use Rattle.cfg_io.specs.Told.{Appends, AppendsPrefix}
 use Rattle.graph_report.proofs.Giving.{piece_shortens, piece_and_rest}
 use Rattle.run_ends.proofs.Pieces.{on_err, both_appended, prefix_behind, prefix_more, joined_rest, on_err_map, on_ok_map, nothing_to_come}

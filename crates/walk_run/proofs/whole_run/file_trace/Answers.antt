@@ -1,10 +1,11 @@
 use Rattle.std.proofs.Common.{ap}
 use Rattle.std.specs.Prelude.{Err}
-use Rattle.std.proofs.lemmas.Result.{err_from_is_err_and}
+use Rattle.std.proofs.lemmas.Result.{err_from_is_err_and, IfErr-weaker}
 use Rattle.cfg_io.specs.Fault.{Rose}
 use Rattle.run_ends.specs.declared.reading.Unread.{Unread}
 use Rattle.walk_run.specs.Words.{of_walk}
-use Rattle.walk_run.proofs.Endings.{unread-true, fault-true, read-whole, if_err_map}
+use Rattle.run_ends.proofs.Inputs.{read-whole}
+use Rattle.walk_run.proofs.Endings.{unread-true, fault-true}
 use Rattle.walk_run.proofs.whole_run.file_trace.Goals as goal
 
 pub returns-in_err-bytes-clause-refused : goal.returns-in_err-bytes-clause-refused
@@ -23,6 +24,6 @@ returns-clause-refused g c =
     let new = g.I.Input.rest c.read_file.new.input in
     let rose = Rose (g.I.Input.faults c.args.input.now) (g.I.Input.faults c.read_file.new.input) in
     let bytes = c.in_ok-bytes.bytes.items in
-    if_err_map c.trace_of.result
+    IfErr-weaker c.trace_of.result _ _
     (λ r is. fault-true (of_walk c.args.steps c.args.path.now) told bytes rose r (read-whole told new bytes c.in_ok-bytes.ensures.whole c.in_ok-bytes.ensures.at_end) is)
     c.trace_of.ensures.refused

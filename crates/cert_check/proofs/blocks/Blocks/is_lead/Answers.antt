@@ -1,5 +1,5 @@
 use Rattle.std.proofs.Common.{refl}
-use Rattle.cert_places.proofs.Placed.{lead_at}
+use Rattle.cert_ends.proofs.Placed.{lead_at}
 use Rattle.cert_check.proofs.blocks.Blocks.is_lead.Goals as goal
 
 pub returns-in-Some : goal.returns-in-Some

@@ -1,6 +1,6 @@
 use Rattle.std.proofs.Common.{List, length, get_or, sym, ap, ◌∙◌, arith}
 use Rattle.cert_text.specs.declared.lines.LeadLine.{LeadLine}
-use Rattle.cert_places.proofs.Placed.{no_lead}
+use Rattle.cert_ends.proofs.Placed.{no_lead}
 use Rattle.cert_check.specs.Inner.Blocks.{owner_by}
 use Rattle.cert_check.proofs.Entered.{lead_elsewhere, lead_here, no_lead_here}
 use Rattle.cert_check.proofs.blocks.Blocks.lead_place.Goals as goal

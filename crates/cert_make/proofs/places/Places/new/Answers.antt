@@ -3,8 +3,8 @@ use Rattle.std.specs.Prelude.{All, IsSome}
 use Rattle.std.specs.List.Sorted.{IsStrictlyIncreasing}
 use Rattle.std.proofs.lemmas.List.Kept.{AllPairs-from_increasing}
 use Rattle.cfg_model.specs.Program.Instructions.{InstructionMap}
-use Rattle.reached_terms.specs.Numbering.{IsNumbering, NumbersRise}
-use Rattle.cert_places.proofs.Few.{no_more}
+use Rattle.numbered.specs.Numbering.{IsNumbering, NumbersRise}
+use Rattle.cert_ends.proofs.Few.{no_more}
 use Rattle.cert_make.proofs.Placed.{AreKept, more_kept, placed}
 use Rattle.cert_make.proofs.places.Places.new.Goals as goal
 

@@ -6,4 +6,4 @@ use Rattle.check_run.proofs.report.GraphReport.write.Goals as goal
 pub returns-clause-whole : goal.returns-clause-whole
 returns-clause-whole g c =
     let same : c.in_ok-pieces.pieces ≡ c.args.self.now = c.in_ok-pieces.ensures.text ∙ ap (λ (b : List ℕ). report_of b c.self.inside.graph) c.new-names.ensures ∙ c.self.view_is in
-    rw same at c.in_ok-write_pieces.ensures.whole
+    rw same at c.write_pieces.ensures.whole

@@ -1,4 +1,5 @@
-use Rattle.std.proofs.Common.{◌≡◌, ◌-◌, List, length, take, drop, arith}
+use Rattle.std.proofs.Common.{◌≡◌, ◌-◌, List, length, take, drop, sym, ◌∙◌, arith}
+use Rattle.std.proofs.lemmas.Bool.{eqb-true}
 use Rattle.std.proofs.lemmas.Grind.{common_steps}
 use Rattle.cfg_model.specs.declared.graph.Function.{Function}
 use Rattle.elf_image.specs.Seeds.{seed_name}
@@ -7,9 +8,10 @@ use Rattle.graph_report.proofs.left.FunctionsLeft.step.Goals as goal
 
 pub returns-clause-moves : goal.returns-clause-moves
 returns-clause-moves c =
+    let none : length c.args.self.now.body.now ≡ 0 = eqb-true _ _ (sym c.is_empty.ensures ∙ c.if-not-is_empty.false) in
     let all = c.args.self.now.functions.now in
     let rest : List Function = take (length all - 1) (drop 1 all) in
     let behind : rest ≡ drop 1 all = grind (arith, common_steps) in
     function_given (seed_name c.args.names.now) c.begin_function.new.page c.args.page.now c.args.self.now c.function-item.result rest c.begin_function.result.now c.as_slice-self.result.now
-    c.in_default.is c.in_default-name.is c.in_default-body.len_below c.in-len1-up-functions.len_at_least
+    c.in_default.is c.in_default-name.is (omega (arith, none)) c.in-len1-up.len_at_least
     c.function-item.is behind c.as_slice-self.ensures (rw c.name_at-name.ensures at c.begin_function.ensures.text)

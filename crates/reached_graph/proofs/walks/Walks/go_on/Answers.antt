@@ -1,6 +1,6 @@
 use Rattle.std.proofs.Common.{Bool, List, sym, subst}
 use Rattle.cfg_model.specs.Program.Chain.{GoesOnTo, IsTerminator}
-use Rattle.reached_terms.specs.Numbering.{IsMarked}
+use Rattle.numbered.specs.Numbering.{IsMarked}
 use Rattle.reached_graph.specs.Inner.Walks.{IsFresh, IsStopped}
 use Rattle.reached_graph.proofs.Walking.{stopped_keeps, walk_ends, walks_go, walks_stop}
 use Rattle.reached_graph.proofs.walks.Walks.go_on.Goals as goal

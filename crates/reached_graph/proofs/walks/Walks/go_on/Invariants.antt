@@ -1,5 +1,5 @@
 use Rattle.std.proofs.Common.{ℕ, Bool, List, ◌-◌, ◌^◌}
-use Rattle.reached_terms.specs.Numbering.{IsMarked}
+use Rattle.numbered.specs.Numbering.{IsMarked}
 use Rattle.reached_graph.specs.Inner.Walks.{AreFit, At, HaveWalked}
 use Rattle.reached_graph.proofs.walks.Walks.go_on.Given as goal
 

@@ -2,7 +2,7 @@ use Rattle.std.proofs.Common.{get_or, refl, sym, subst, arith}
 use Rattle.std.specs.Prelude.{Contains}
 use Rattle.std.proofs.lemmas.List.{take_all}
 use Rattle.std.proofs.lemmas.List.Elements.{Contains-get_or}
-use Rattle.reached_terms.specs.Numbering.{IsMarked}
+use Rattle.numbered.specs.Numbering.{IsMarked}
 use Rattle.reached_graph.proofs.Starting.{walks_new}
 use Rattle.reached_graph.proofs.Walking.{more_begun}
 use Rattle.reached_graph.proofs.walks.Walks.of.Goals as goal

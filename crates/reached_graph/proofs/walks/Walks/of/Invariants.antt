@@ -1,7 +1,7 @@
 use Rattle.std.proofs.Common.{ℕ, List, take}
 use Rattle.std.specs.Prelude.{Contains}
 use Rattle.reached_graph.specs.Inner.Leaders.{AreStarts}
-use Rattle.reached_terms.specs.Numbering.{IsMarked}
+use Rattle.numbered.specs.Numbering.{IsMarked}
 use Rattle.reached_graph.specs.Inner.Walks.{AreFit, HaveWalked, Nowhere}
 use Rattle.reached_graph.proofs.walks.Walks.of.Given as goal
 

@@ -33,9 +33,9 @@ loop-i-preserved g c =
     let k = c.index-k.result.now in
     let inside : i < length order = omega arith in
     let is : k ≡ get_or order i 0 = c.index-k.ensures ∙ get_or_default order i k 0 inside in
-    closing-on map number c.args.seeds.now i k c.loop-i.marks c.visit.new.self c.tell_all.new.marks c.loop-i.invariant inside is
+    closing-on map number c.args.seeds.now i k c.loop-i.marks c.visit.new.self c.notify_all.new.marks c.loop-i.invariant inside is
     c.in_ok-visit.ensures.step c.in_ok-visit.ensures.visited
-    c.in_ok-tell_all.ensures.kept c.in_ok-tell_all.ensures.grow c.in_ok-tell_all.ensures.right c.in_ok-tell_all.ensures.told c.in_ok-tell_all.ensures.none
+    c.in_ok-notify_all.ensures.kept c.in_ok-notify_all.ensures.grow c.in_ok-notify_all.ensures.right c.in_ok-notify_all.ensures.told c.in_ok-notify_all.ensures.none
 
 pub returns : goal.returns
 returns g c = closed (g.C.Chains.map c.args.code.now) (g.C.Numbered.number c.args.code.now) c.args.seeds.now c.loop-i.marks c.loop-i.i (omega arith) c.loop-i.invariant c.requires

@@ -1,2 +1,0 @@
-pub mod FileShown
-pub mod OutlineShown

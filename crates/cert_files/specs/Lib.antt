@@ -1,3 +1,0 @@
-pub mod FileCertificate
-pub mod Told
-pub mod Shown

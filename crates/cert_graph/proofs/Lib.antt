@@ -1,2 +1,0 @@
-pub mod TablesFound
-pub mod Checked

@@ -1,4 +1,0 @@
-pub mod Adjacent
-pub mod Placed
-pub mod Numbers
-pub mod Few
