@@ -88,12 +88,12 @@ class Blocks(unittest.TestCase):
             built(PROGRAM, name)
         built(PROGRAM.replace("return 0;", "return 1;"), "new.elf")
         (self.folder / "script").write_text("\n")
-        root = self.folder / "root"
+        tree = self.folder / "tree"
         for place in ("a/b_c", "a_b/c"):
-            (root / place).parent.mkdir(parents=True)
-            shutil.copy(self.folder / "program.elf", root / place)
-        (root / "a" / "text").write_text("#!/bin/sh\n")
-        (root / "a" / "text").chmod(0o755)
+            (tree / place).parent.mkdir(parents=True)
+            shutil.copy(self.folder / "program.elf", tree / place)
+        (tree / "a" / "text").write_text("#!/bin/sh\n")
+        (tree / "a" / "text").chmod(0o755)
         code = self.folder / "code.o"
         text = ".rept 64\nnop\n.endr\n.org 0x100\n.rept 16\nj .\n.endr\n"
         subprocess.run([binutils.GCC, "-march=rv64ima", "-mabi=lp64", "-c", "-x", "assembler", "-", "-o", code], input=text, text=True, check=True)
@@ -147,7 +147,7 @@ class Blocks(unittest.TestCase):
         for name in ("choose.svg", "pictures"):
             self.assertTrue((self.folder / name).exists() or any(name in text for text in left_out), name)
         reports = sorted(str(path.relative_to(self.folder)) for path in (self.folder / "reports").rglob("*.re*"))
-        self.assertEqual(reports, ["reports/root/a/b_c.report", "reports/root/a/text.refused", "reports/root/a_b/c.report"])
+        self.assertEqual(reports, ["reports/tree/a/b_c.report", "reports/tree/a/text.refused", "reports/tree/a_b/c.report"])
         image = subprocess.run([shutil.which("riscv64-unknown-elf-readelf") or "", "-x", ".text", self.folder / "image.elf"], capture_output=True, text=True)
         # The image has its bytes: nothing, and then jumps.
         self.assertIn("13000000", image.stdout)
