@@ -1,5 +1,5 @@
 """bin/cfg and bin/cfg_walk, with another program instead of the toolchain: what it says while it builds, when it
-builds anew, and how it ends."""
+builds anew, and how it ends. It is one whose gate keeps what it proved, and then one whose gate does not."""
 
 from __future__ import annotations
 
@@ -12,7 +12,7 @@ import tempfile
 import time
 import unittest
 from pathlib import Path
-from typing import Callable, List
+from typing import Callable, Dict, List
 
 import rows
 
@@ -20,13 +20,57 @@ TOP = rows.TOOLS.parent
 CRATES = "# a remark: no crate\nhigh: low\nlow:\ncfg may_abort=1: high low clap\ncfg_walk: low\nother: low\n"
 LIBRARIES = ("low", "high", "other")
 TOOL_PATH = "/usr/bin:/bin"
-# Proves the libraries below a crate as `rt all check` does, and makes a program of `rt run`. It keeps its words in the file `words`.
+# With a folder `keeps` beside it: proves the crates of the folder that it is run in as `rt ci` does, if that is the top of a
+# repository. Without: proves the libraries below a crate as `rt all check` does, and makes a program of `rt run`. It keeps
+# its words in the file `words`, and of `rt ci` the files that it found.
 TOOLCHAIN = """#!/bin/sh
 top=$(cd "$(dirname "$0")/.." && pwd)
-echo "$(basename "$PWD") $*" >>"$top/words"
 name=$(basename "$PWD")
+make_program() {
+    mkdir -p "$1/out"
+    printf '#!/bin/sh\\necho "ran:$1:$2"; exit 3\\n' >"$1/out/$2"
+    chmod +x "$1/out/$2"
+}
 case $1 in
-    version) echo "${KIT-kit 1}" ;;
+    version) echo "${KIT-kit 1}"; exit ;;
+    doc) echo "$top/kit/START-HERE.md"; exit ;;
+    help)
+        echo 'rt: proves crates' >&2
+        echo '  rt ci                   the merge gate' >&2
+        [ -d "$top/keeps" ] && echo '                          What a run passed is kept: --anew proves all' >&2
+        echo '  rt must-fail [NAME..]   tries the edits: --anew tries all' >&2
+        exit ;;
+    ci)
+        [ -d .git ] && [ -d "$top/keeps" ] || exit 2
+        echo "ci jobs=$RT_JOBS: $(find . -type f | LC_ALL=C sort | tr '\\n' ' ')" >>"$top/words"
+        echo "$PWD" >"$top/copy"
+        echo 'rt: low: another run on this machine is proving the same; waiting for it' ;;
+    *) echo "$name $*" >>"$top/words" ;;
+esac
+case $1 in
+    ci)
+        for each in $(sed -n 's/^\\([a-z_]*\\)[ :].*/\\1/p' crates.txt | sort -r); do
+            if [ -e "$top/refuse" ]; then
+                printf '== %s\\nfn low::x: not proved in %s\\nrt: %s NOT PROVED\\n0 passed, 1 failed\\n' "$each" "$PWD" "$each"
+                exit 1
+            fi
+            [ -d "crates/$each/data" ] && continue
+            printf '== %s\\nfn x: proved\\nlogic=proved functions=1\\nrt: %s proved\\nrt: %s: its tests proved\\n' "$each" "$each" "$each"
+            if [ -e "$top/slow" ]; then touch "$top/slow-began"; exec sleep 60; fi
+        done
+        for each in crates/*/data; do
+            crate=$(dirname "$each")
+            name=$(basename "$crate")
+            make_program "$crate" "$name"
+            if [ -e "$top/keeps/$name" ] && [ ! -e "$crate/src/again" ]; then
+                echo "rt: $name is kept: an earlier run proved the same"
+            else
+                echo "object of $name" >"$crate/out/$name.o"
+                echo "rt: $name proved"
+            fi
+        done
+        echo 'rt: note: the disk fell below 5,000 MB, so what came after is not kept'
+        echo '3 passed, 0 failed' ;;
     all)
         echo 'rt: waiting for another rt to finish in crates/low'
         for each in low high; do
@@ -39,9 +83,7 @@ case $1 in
         if [ -e "$top/slow" ]; then touch "$top/slow-began"; exec sleep 60; fi ;;
     run)
         if [ -e "$top/refuse" ]; then echo 'fn low::x: not proved' >&2; exit 1; fi
-        mkdir -p out
-        printf '#!/bin/sh\\necho "ran:$1:$2"; exit 3\\n' >"out/$name"
-        chmod +x "out/$name" ;;
+        make_program . "$name" ;;
     try)
         shift
         printf '%s\\n' "tried:" "$@"
@@ -52,13 +94,16 @@ esac
 
 
 class BinCfg(unittest.TestCase):
+    KEEPS = True
+
     def setUp(self) -> None:
         folder = tempfile.TemporaryDirectory()
         self.addCleanup(folder.cleanup)
         self.top = Path(folder.name, "a folder")
         shutil.copytree(TOP / "bin", self.top / "bin")
         shutil.copytree(rows.TOOLS / "cfgtools", self.top / "tools" / "cfgtools", ignore=shutil.ignore_patterns("__pycache__"))
-        (self.top / "path").mkdir()
+        for name in ("path", "kit", "tmp", *["keeps"] * self.KEEPS):
+            (self.top / name).mkdir()
         for name in (*LIBRARIES, "cfg", "cfg_walk"):
             (self.top / "crates" / name / "src").mkdir(parents=True)
             (self.top / "crates" / name / "src" / "lib.rt").write_text(f"of {name}\n")
@@ -67,6 +112,7 @@ class BinCfg(unittest.TestCase):
             (self.top / "crates" / name / "data" / "one.elf").write_text("an ELF file\n")
             (self.top / "crates" / name / "args").write_text("10\none.elf\n" if name == "cfg_walk" else "one.elf\n")
         (self.top / "crates.txt").write_text(CRATES)
+        (self.top / "HANDLES").write_text("Handles allowed: none.\n")
         rt = self.top / "path" / "rt"
         rt.write_text(TOOLCHAIN)
         rt.chmod(0o755)
@@ -77,8 +123,14 @@ class BinCfg(unittest.TestCase):
         self.path = f"{self.top / 'path'}:{self.no_rt}"
 
     def run_cfg(self, *words: str, name: str = "cfg", kit: str = "kit 1", cwd: str = "/") -> "subprocess.CompletedProcess[str]":
-        return subprocess.run(["sh", str(self.top / "bin" / name), *words], env=dict(os.environ, PATH=self.path, KIT=kit),
-                              cwd=cwd, capture_output=True, text=True)
+        return subprocess.run(["sh", str(self.top / "bin" / name), *words], env=self.environment(kit), cwd=cwd, capture_output=True, text=True)
+
+    def environment(self, kit: str = "kit 1") -> Dict[str, str]:
+        of_jobs = {name: value for name, value in os.environ.items() if name != "RT_JOBS"}
+        return dict(of_jobs, PATH=self.path, KIT=kit, CI="true", TMPDIR=str(self.top / "tmp"))
+
+    def build(self, *words: str) -> "subprocess.CompletedProcess[str]":
+        return subprocess.run([sys.executable, "-B", str(self.top / "bin" / "build"), *words], env=self.environment(), capture_output=True, text=True)
 
     def asked(self) -> str:
         """What the toolchain was asked for since the last call."""
@@ -111,15 +163,27 @@ class BinCfg(unittest.TestCase):
         self.assertEqual(said[0], "bin/cfg: the program is not built yet, so it is proved and built now")
         self.assertRegex(said[1], r"^bin/cfg: crates to prove: 3(, \d+ at a time)?, about a minute\. What is proved is kept$")
         self.assertIn("bin/cfg --unproved WORDS", said[2])
-        self.assertEqual(said[3:], [
-            "bin/cfg: waiting for another rt to finish in crates/low",
+        self.assert_told(said[3:])
+        self.assert_asked(self.asked())
+        self.assert_runs_at_once()
+
+    def assert_told(self, said: List[str]) -> None:
+        self.assertEqual(said, [
+            "bin/cfg: low: another run on this machine is proving the same; waiting for it",
             "bin/cfg: low is proved; 2 left, about a minute",
             "bin/cfg: high is proved; 1 left, about a minute",
+            "bin/cfg: note: the disk fell below 5,000 MB, so what came after is not kept",
             "bin/cfg: built",
         ])
-        # The libraries are proved side by side, from the highest; then the program runs on its stored words.
-        self.assertRegex(self.asked(), r"^high all check --jobs \d+\ncfg run -- data/one\.elf\n")
-        self.assert_runs_at_once()
+
+    def assert_asked(self, asked: str) -> None:
+        """The copy has what a proof of these crates reads, and is gone."""
+        of_crates = ("cfg/args", "cfg/data/one.elf", "cfg/src/lib.rt", "high/src/lib.rt", "low/src/lib.rt")
+        self.assertEqual(asked, f"ci jobs=: ./HANDLES ./crates.txt {' '.join(f'./crates/{it}' for it in of_crates)} \n")
+        self.assertEqual([*(self.top / "tmp").iterdir()], [])
+        program = self.top / "crates" / "cfg" / "out" / "cfg"
+        self.assertEqual(program.stat().st_mode & 0o111, 0o111)
+        self.assertEqual(sorted(it.name for it in program.parent.iterdir()), ["cfg", "cfg.made", "cfg.o"])
 
     def test_for_one_worker(self) -> None:
         shutil.copytree(self.top / "crates" / "cfg", self.top / "crates" / "cfg_one")
@@ -142,24 +206,14 @@ class BinCfg(unittest.TestCase):
         done = self.run_cfg("10", "b c", name="cfg_walk")
         self.assertEqual((done.returncode, done.stdout), (3, "ran:10:b c\n"))
         self.assertIn("bin/cfg_walk: low is proved; 1 left, ", done.stderr)
-        self.assertIn("cfg_walk run -- 10 data/one.elf\n", self.asked())
+        self.assertIn("ci jobs=: ./HANDLES" if self.KEEPS else "cfg_walk run -- 10 data/one.elf\n", self.asked())
         self.assertFalse((self.top / "crates" / "cfg" / "out").exists())
 
     def test_a_program_without_a_script_of_its_own(self) -> None:
         (self.top / "bin" / "cfg_walk").unlink()
-        done = subprocess.run([sys.executable, "-B", str(self.top / "bin" / "build"), "cfg_walk"], env=dict(os.environ, PATH=self.path, KIT="kit 1"),
-                              capture_output=True, text=True)
+        done = self.build("cfg_walk")
         self.assertEqual(done.returncode, 0)
         self.assertIn("bin/unproved cfg_walk WORDS", done.stderr)
-
-    def test_libraries_that_are_built_are_not_asked_for(self) -> None:
-        self.run_cfg("a", name="cfg_walk")
-        self.asked()
-        self.assertIn("crates to prove: 2,", self.run_cfg("a").stderr)
-        self.assertIn("high all check", self.asked())
-        shutil.rmtree(self.top / "crates" / "cfg" / "out")
-        self.run_cfg("a")
-        self.assertNotIn("all check", self.asked())
 
     def test_a_source_that_has_changed(self) -> None:
         self.run_cfg("a")
@@ -181,13 +235,14 @@ class BinCfg(unittest.TestCase):
 
     def test_times_alone_mean_nothing(self) -> None:
         self.run_cfg("a")
+        self.asked()
         source = self.top / "crates" / "low" / "src" / "lib.rt"
         later = time.time() + 0.05
         os.utime(source, (later, later))
         time.sleep(0.1)
         done = self.run_cfg("a")
         self.assertEqual((done.returncode, done.stderr), (3, ""))
-        self.assertNotIn("run", self.asked().splitlines()[-1])
+        self.assertEqual(self.asked(), "")
         self.assert_runs_at_once()
 
     def test_a_source_that_is_gone_or_new(self) -> None:
@@ -223,16 +278,21 @@ class BinCfg(unittest.TestCase):
         link = self.top / "linked"
         link.symlink_to(self.top / "bin" / "cfg")
         for command in (["sh", str(link)], [str(link)]):
-            done = subprocess.run([*command, "a"], env=dict(os.environ, PATH=self.path), capture_output=True, text=True)
+            done = subprocess.run([*command, "a"], env=self.environment(), capture_output=True, text=True)
             self.assertEqual((done.returncode, done.stdout), (3, "ran:a:\n"))
 
     def test_a_build_that_fails(self) -> None:
         (self.top / "refuse").touch()
         done = self.run_cfg("a")
         self.assertEqual((done.returncode, done.stdout), (70, ""))
-        self.assertIn("fn low::x: not proved\n", done.stderr)
-        self.assertNotIn("rt: waiting", done.stderr)
+        self.assert_says_why(done.stderr)
+        self.assertEqual([*(self.top / "tmp").iterdir()], [])
         self.assertEqual(done.stderr.splitlines()[-1], "bin/cfg: the program could not be built")
+
+    def assert_says_why(self, error: str) -> None:
+        # (the copy that it was said of is gone)
+        self.assertIn(f"fn low::x: not proved in {self.top}\n", error)
+        self.assertIn("rt: low NOT PROVED\n0 passed, 1 failed\n", error)
 
     def test_a_failed_build_leaves_the_old_program_as_it_was(self) -> None:
         self.run_cfg("a")
@@ -260,13 +320,18 @@ class BinCfg(unittest.TestCase):
     def test_an_interrupt(self) -> None:
         (self.top / "slow").touch()
         command = ["sh", str(self.top / "bin" / "cfg"), "a"]
-        with subprocess.Popen(command, env=dict(os.environ, PATH=self.path), stdout=subprocess.PIPE, stderr=subprocess.PIPE, text=True) as ran:
-            while not (self.top / "slow-began").exists():
-                time.sleep(0.01)
-            ran.send_signal(signal.SIGTERM)
-            out, error = ran.communicate(timeout=20)
-        self.assertEqual((ran.returncode, out), (70, ""))
-        self.assertIn("stopped; what is proved is kept", error.splitlines()[-1])
+        for number in (signal.SIGTERM, signal.SIGHUP, signal.SIGINT):
+            with subprocess.Popen(command, env=self.environment(), stdout=subprocess.PIPE, stderr=subprocess.PIPE, text=True) as ran:
+                while not (self.top / "slow-began").exists() and ran.poll() is None:
+                    time.sleep(0.01)
+                ran.send_signal(number)
+                out, error = ran.communicate(timeout=20)
+            self.assertEqual((ran.returncode, out), (70, ""))
+            self.assertIn("stopped; what is proved is kept", error.splitlines()[-1])
+            self.assertEqual([*(self.top / "tmp").iterdir()], [])
+            (self.top / "slow-began").unlink()
+            for made in self.top.glob("crates/*/out"):
+                shutil.rmtree(made)
 
     def test_unproved(self) -> None:
         for folder in ("one", "two"):
@@ -287,8 +352,7 @@ class BinCfg(unittest.TestCase):
         self.assertEqual((done.returncode, done.stdout, done.stderr.count("\n")), (70, "", 1))
 
     def note(self, *programs: str) -> None:
-        command = [sys.executable, "-B", str(self.top / "bin" / "build"), "--note-newer-than", str(self.top / "gate"), *programs]
-        done = subprocess.run(command, env=dict(os.environ, PATH=self.path), capture_output=True, text=True)
+        done = self.build("--note-newer-than", str(self.top / "gate"), *programs)
         self.assertEqual((done.returncode, done.stdout, done.stderr), (0, "", ""))
 
     def test_programs_that_the_gate_has_made(self) -> None:
@@ -312,6 +376,77 @@ class BinCfg(unittest.TestCase):
             self.assertFalse((self.top / "crates" / "cfg" / "out" / "cfg.made").exists())
             (self.top / "crates" / "cfg" / "out" / "cfg").touch()
         self.assertIn("nothing says what the program was made from", self.run_cfg("a").stderr)
+
+    def test_a_number_of_jobs(self) -> None:
+        done = self.build("--jobs", "3", "cfg")
+        self.assertIn("crates to prove: 3, 3 at a time, ", done.stderr)
+        self.assertIn("ci jobs=3: " if self.KEEPS else "high all check --jobs 3\n", self.asked())
+
+    def test_object_file(self) -> None:
+        """The one beside the program is of that program, and is made if the program is not only to run."""
+        if not self.KEEPS:
+            self.skipTest("the toolchain makes it in place")
+        made = self.top / "crates" / "cfg" / "out" / "cfg.o"
+        self.run_cfg("a")
+        self.assertEqual(made.read_text(), "object of cfg\n")
+        (self.top / "keeps" / "cfg").touch()
+        self.change("low")
+        self.asked()
+        self.run_cfg("a")
+        self.assertFalse(made.exists())
+        self.assertEqual(self.asked().count("ci jobs="), 1)
+        shutil.rmtree(made.parent)
+        done = self.build("cfg")
+        self.assertIn("bin/cfg: the program was kept without its object file, so it is proved again", done.stderr)
+        self.assertEqual((self.asked().count("ci jobs="), made.read_text()), (2, "object of cfg\n"))
+        self.assert_runs_at_once()
+
+    def test_what_lies_beside_the_sources_is_not_copied(self) -> None:
+        if not self.KEEPS:
+            self.skipTest("nothing is copied")
+        for folder in ("out", "must-fail", "more-edits", "src/out"):
+            (self.top / "crates" / "low" / folder).mkdir()
+            (self.top / "crates" / "low" / folder / "a.edit").touch()
+        self.run_cfg("a")
+        self.assertEqual([it for it in self.asked().split() if it.endswith("a.edit")], ["./crates/low/src/out/a.edit"])
+
+    def test_a_store_of_somebody_else(self) -> None:
+        if not self.KEEPS:
+            self.skipTest("there is none")
+        (self.top / "rattle-kept").write_text("no folder\n")
+        self.assertEqual(self.run_cfg("a").stdout, "ran:a:\n")
+        self.assertIn("high all check", self.asked())
+
+
+class KeepsNothing(BinCfg):
+    """The same with a toolchain whose gate proves everything at each run, so that the crates are proved where they are."""
+
+    KEEPS = False
+
+    def assert_told(self, said: List[str]) -> None:
+        self.assertEqual(said, [
+            "bin/cfg: waiting for another rt to finish in crates/low",
+            "bin/cfg: low is proved; 2 left, about a minute",
+            "bin/cfg: high is proved; 1 left, about a minute",
+            "bin/cfg: built",
+        ])
+
+    def assert_asked(self, asked: str) -> None:
+        # The libraries are proved side by side, from the highest; then the program runs on its stored words.
+        self.assertRegex(asked, r"^high all check --jobs \d+\ncfg run -- data/one\.elf\n")
+
+    def assert_says_why(self, error: str) -> None:
+        self.assertIn("fn low::x: not proved\n", error)
+        self.assertNotIn("rt: waiting", error)
+
+    def test_libraries_that_are_built_are_not_asked_for(self) -> None:
+        self.run_cfg("a", name="cfg_walk")
+        self.asked()
+        self.assertIn("crates to prove: 2,", self.run_cfg("a").stderr)
+        self.assertIn("high all check", self.asked())
+        shutil.rmtree(self.top / "crates" / "cfg" / "out")
+        self.run_cfg("a")
+        self.assertNotIn("all check", self.asked())
 
 
 if __name__ == "__main__":

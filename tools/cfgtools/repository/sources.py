@@ -1,11 +1,13 @@
-"""The crates of a repository: which stands on which, and sums of their files."""
+"""The crates of a repository: which stands on which, and sums of their files; and what the toolchain says of itself."""
 
 from __future__ import annotations
 
 import hashlib
 import os
+import re
+import shutil
 import subprocess
-from typing import Dict, Iterator, List, Optional, Sequence
+from typing import Container, Dict, Iterator, List, Optional, Sequence, Tuple
 
 # What a check of a crate does not read, and what a program is not made from: if only a proof has changed, its code stays proved.
 NOT_CHECKED = ("out", "must-fail", "more-edits")
@@ -34,6 +36,16 @@ def below(name: str, uses: Uses) -> List[str]:
 
     visit(name)
     return found
+
+
+def put_rows(room: str, top: str, crates: Container[str]) -> None:
+    """Puts into a folder the rows that crates.txt has of these crates, and HANDLES."""
+    with open(os.path.join(top, "crates.txt"), encoding="utf-8") as it:
+        rows = [line for line in it if (line.partition(":")[0].split() or [""])[0] in crates]
+    with open(os.path.join(room, "crates.txt"), "w", encoding="utf-8") as it:
+        it.write("".join(rows))
+    if os.path.isfile(os.path.join(top, "HANDLES")):
+        shutil.copy(os.path.join(top, "HANDLES"), room)
 
 
 def files_of(crate: str, left_out: Sequence[str] = NOT_CHECKED) -> Iterator[str]:
@@ -68,4 +80,23 @@ def kit_of(rt: Optional[str]) -> str:
     """The line that the toolchain whose command this is says of itself; nothing without a command."""
     if not rt:
         return ""
-    return subprocess.run([rt, "version"], stdin=subprocess.DEVNULL, capture_output=True, text=True).stdout.strip()
+    return said_by(rt, "version")[0].strip()
+
+
+def keeps_proofs(rt: str) -> bool:
+    """Whether the gate of the toolchain whose command this is keeps here what it proved: by its help it can prove all anew, and
+    the folder beside the kit can be written to."""
+    of_gate = re.search(r"(?ms)^ *rt ci\b.*?(?=^ *rt (?!ci\b)|\Z)", "".join(said_by(rt, "help")))
+    if not of_gate or "--anew" not in of_gate[0]:
+        return False
+    beside = os.path.dirname(os.path.dirname(said_by(rt, "doc")[0].strip()))
+    store = os.path.join(beside, "rattle-kept")
+    if os.path.lexists(store):
+        return os.path.isdir(store) and os.lstat(store).st_uid == os.geteuid()
+    return os.access(beside, os.W_OK)
+
+
+def said_by(rt: str, word: str) -> Tuple[str, str]:
+    """What the toolchain says to a word: on standard output, and on standard error."""
+    said = subprocess.run([rt, word], stdin=subprocess.DEVNULL, capture_output=True, text=True, errors="replace")
+    return said.stdout, said.stderr
