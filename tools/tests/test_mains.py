@@ -1,4 +1,4 @@
-"""How the three programs begin and end, as built: the status, standard output and standard error of runs that are refused.
+"""How the programs begin and end, as built: the status, standard output and standard error of runs that are refused.
 
 What a run does is proved; that a `main` hands on the words, the streams and the status is shown here, byte for byte. The lines
 are those of docs/REPORT.md, docs/WALKING.md and docs/CERTIFICATES.md."""
@@ -169,8 +169,9 @@ class Mains(unittest.TestCase):
             self.skipTest(f"{name} is not built")
         return str(path)
 
-    def check(self, name: str) -> None:
-        program, runner = self.built(name), Runner(self.folder)
+    def check(self, name: str, build: str = "") -> None:
+        """Holds a program, or another build of it, to the runs of that name."""
+        program, runner = self.built(build or name), Runner(self.folder)
         for case in cases():
             if case.program == name and (case.how != "refused" or runner.library):
                 with self.subTest(case.name):
@@ -178,6 +179,9 @@ class Mains(unittest.TestCase):
 
     def test_cfg(self) -> None:
         self.check("cfg")
+
+    def test_cfg_for_one_worker(self) -> None:
+        self.check("cfg", "cfg_one")
 
     def test_cfg_walk(self) -> None:
         self.check("cfg_walk")

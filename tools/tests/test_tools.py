@@ -165,7 +165,7 @@ class Errors(InFolder):
             self.assertEqual(cfg_report.program_of("cfg"), str(self.folder / "bin" / "cfg"))
             (self.folder / "bin").mkdir()
             (self.folder / "bin" / "proved").touch()
-            with self.assertRaisesRegex(ReportError, "^cfg is not built: .*/bin/cfg, run once, proves and builds it, in about an hour.*--build"):
+            with self.assertRaisesRegex(ReportError, "^cfg is not built: .*/bin/cfg, run once, proves and builds it, in up to an hour.*--build"):
                 cfg_report.program_of("cfg")
             with mock.patch.object(cfg_report, "may_build", True):
                 self.assertEqual(cfg_report.program_of("cfg"), str(self.folder / "bin" / "cfg"))

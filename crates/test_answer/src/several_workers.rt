@@ -73,8 +73,8 @@ fn workers_agree(rt: HostRuntime) -> Result<(), Fail> {
 
 /// The same where only the first of two tables is reached, and the other begins inside it: then what
 /// was built under the cuts of both is not the answer. Each row is given with the address of its
-/// symbol and the low byte of another one. From the entry alone the caller's thread makes the graph,
-/// and from a second seed, which is reached anyhow, workers do.
+/// symbol and the low byte of another one. From the entry alone the caller's thread finds what is
+/// reached, and from a second seed, which is reached anyhow, workers do.
 #[test]
 fn unreached_tables_agree(rt: HostRuntime) -> Result<(), Fail> {
     for (row, symbol, seed) in [(15, 0x10028, 0), (34, 0x10020, 0), (15, 0x10028, 0x24)] {

@@ -722,7 +722,7 @@ def program_of(name: str) -> str:
     built = any(os.access(os.path.join(TOP, "crates", it, "out", it), os.X_OK) for it in ([name, "cfg_one"] if name == "cfg" else [name]))
     if variable or may_build or in_package or built:
         return variable or starter
-    how = f"{starter}, run once, proves and builds it, in about an hour of processor time, as `--build` as the first word does here"
+    how = f"{starter}, run once, proves and builds it, in up to an hour of processor time, as `--build` as the first word does here"
     raise ReportError(f"{name} is not built: {how}; the variable {name.upper()} may name another one")
 
 

@@ -22,7 +22,7 @@ def built(name: str = "cfg") -> str:
         path = os.path.join(TOP, "crates", name, "out", name)
         build = [os.path.join(TOP, "bin", "build"), *([] if cfg_report.may_build else ["--ask"]), name]
         if subprocess.run(build, stdin=subprocess.DEVNULL, stdout=sys.stderr).returncode:
-            raise ReportError(f"{name} is not built from the sources as they are; bin/{name} builds it")
+            raise ReportError(f"{name} is not built from the sources as they are; `bin/build {name}` builds it")
     status = subprocess.run([path], stdin=subprocess.DEVNULL, capture_output=True).returncode
     if status != 1:
         raise ReportError(f"{path} ended with status {status} without words, and should with 1")
