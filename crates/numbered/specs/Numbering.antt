@@ -1,5 +1,5 @@
 -- Numbers for the addresses of a program.
-use Rattle.std.specs.Prelude.{◌≡◌, ◌≢◌, ℕ, ◌<◌, Bool, true, false, List, get_or, Option, IsSome}
+use Rattle.std.specs.Prelude.{◌≡◌, ◌≢◌, ℕ, ◌<◌, ◌≤◌, Bool, true, false, List, get_or, Option, IsSome}
 use Rattle.std.specs.Option.{MatchOption}
 use Rattle.cfg_model.specs.Program.Instructions.{InstructionMap}
 
@@ -21,3 +21,15 @@ abbrev pub IsMarkedAt : InstructionMap → (ℕ → ℕ) → List Bool → ℕ �
 IsMarkedAt map number marks n found =
     MatchOption found ((a : ℕ) → IsMarked map number marks a → number a ≢ n)
     (λ a. IsMarked map number marks a × (number a ≡ n))
+
+-- The same of an address whose number is from or more, but below until.
+abbrev pub IsMarkedBetween : InstructionMap → (ℕ → ℕ) → List Bool → ℕ → ℕ → ℕ → Type 0
+IsMarkedBetween map number marks from until a =
+    IsMarked map number marks a × (from ≤ number a) × (number a < until)
+
+-- The first marked address whose number is from or more; none if there is no such address.
+abbrev pub IsFirstMarked : InstructionMap → (ℕ → ℕ) → List Bool → ℕ → Option ℕ → Type 0
+IsFirstMarked map number marks from found =
+    MatchOption found ((a : ℕ) → IsMarked map number marks a → number a < from)
+    (λ a. IsMarked map number marks a × (from ≤ number a)
+    × ((b : ℕ) → IsMarked map number marks b → from ≤ number b → number a ≤ number b))

@@ -15,5 +15,5 @@ mod file_code;
 mod marked;
 mod numbered;
 
-pub use marked::{marked_addresses, marked_among};
+pub use marked::{first_marked, marked_addresses, marked_among, marked_between};
 pub use numbered::Numbered;

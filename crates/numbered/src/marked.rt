@@ -4,7 +4,7 @@ ghost use Rattle.std.specs.Prelude.{◌≡◌, ◌↔◌, ℕ, All, Contains, If
 ghost use Rattle.std.specs.Prelude.{◌<◌, ◌^◌, get_or, length};
 ghost use Rattle.std.specs.List.{filter};
 ghost use Rattle.std.specs.List.Sorted.{IsStrictlyIncreasing};
-ghost use Rattle.numbered.specs.Numbering.{IsMarked, IsMarkedAt};
+ghost use Rattle.numbered.specs.Numbering.{IsFirstMarked, IsMarked, IsMarkedAt, IsMarkedBetween};
 
 use crate::numbered::Numbered;
 use cfg_model::Memory;
@@ -21,14 +21,45 @@ pub fn marked_addresses<C: Numbered>(
     ensures exact { IfOk result (λ v. (a : ℕ) → Contains v.items a
         ↔ IsMarked (C.map code.now) (C.number code.now) marks.now a) }
 {
-    let numbers = code.numbers();
+    marked_between(alloc, code, marks, 0, marks.len())
+}
+
+/// Those of these addresses whose numbers are `from` and more, but below `until`; rising.
+/// [`Memory`] if memory ran out. Time: linear in these numbers. Memory: eight bytes for each of
+/// these addresses.
+pub fn marked_between<C: Numbered>(
+    alloc: Global,
+    code: &C,
+    marks: &[bool],
+    from: usize,
+    until: usize,
+) -> Result<Vec<u64>, Memory>
+    ensures rising { IfOk result (λ v. IsStrictlyIncreasing v.items) }
+    ensures exact { IfOk result (λ v. (a : ℕ) → Contains v.items a
+        ↔ IsMarkedBetween (C.map code.now) (C.number code.now) marks.now from until a) }
+{
+    let end = until.min(marks.len()).min(code.numbers() as usize);
     let mut addresses = Vec::new(alloc);
-    for n in 0..marks.len().min(numbers as usize) {
+    for n in from..end {
         if let Some(a) = marked_at(code, marks, n) {
             addresses.push(a)?;
         }
     }
     Ok(addresses)
+}
+
+/// The first of these addresses whose number is `from` or more, if there is one.
+/// Time: linear in the numbers from there to its own.
+pub fn first_marked<C: Numbered>(code: &C, marks: &[bool], from: usize) -> Option<u64>
+    ensures { IsFirstMarked (C.map code.now) (C.number code.now) marks.now from result }
+{
+    let end = marks.len().min(code.numbers() as usize);
+    for n in from..end {
+        if let Some(a) = marked_at(code, marks, n) {
+            return Some(a);
+        }
+    }
+    None
 }
 
 /// The address with the number `n`, if there is one and its mark is set.

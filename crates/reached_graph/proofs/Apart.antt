@@ -1,11 +1,10 @@
 -- Blocks that are cut where control is sent: two streams join only where two of them overlap.
-use Rattle.std.proofs.Common.{◌≡◌, ◌≢◌, ℕ, ◌+◌, ◌<◌, ◌≤◌, ◌⊎◌, List, length, get_or, Some, refl, sym, ap, ◌∙◌, subst, inl, inr, arith}
-use Rattle.std.specs.Prelude.{◌↔◌, Contains, slice_get}
+use Rattle.std.proofs.Common.{◌≡◌, ◌≢◌, ℕ, ◌+◌, ◌<◌, ◌≤◌, ◌⊎◌, List, length, get_or, Option, Some, None, refl, sym, ap, ◌∙◌, subst, inl, inr, arith}
+use Rattle.std.specs.Prelude.{◌↔◌, Contains}
 use Rattle.std.specs.List.Sorted.{IsStrictlyIncreasing}
-use Rattle.std.proofs.lemmas.Bool.{cases_lt, cases_order}
+use Rattle.std.proofs.lemmas.Bool.{cases_lt}
 use Rattle.std.proofs.lemmas.List.{get_or_default}
 use Rattle.std.proofs.lemmas.List.Kept.{AllPairs-from_increasing}
-use Rattle.std.proofs.lemmas.Option.{slice_get-get_or, slice_get_past}
 use Rattle.cfg_model.specs.Program.Instructions.{InstructionMap, IsLawful}
 use Rattle.cfg_model.specs.Program.Chain.{GoesOnTo, IsTerminator, IsTerminatorOf, OnChain}
 use Rattle.cfg_model.specs.Graph.Block.{IsLastOf, RunsTo}
@@ -15,6 +14,7 @@ use Rattle.cfg_model.proofs.Program.ChainEnds.{goes_not_ends}
 use Rattle.cfg_model.proofs.Graphs.LeaderFacts.{chain_linear}
 use Rattle.cfg_model.proofs.Graphs.Runs.{run_step}
 use Rattle.reached_graph.specs.Inner.Blocks.{AreCutAt, IsMixed, StopsAt}
+use Rattle.reached_graph.specs.Inner.Cuts.{IsNext}
 
 pub chain_of : {map : InstructionMap} {IsCut : ℕ → Type 0} {s k : ℕ} → RunsTo map IsCut s k → OnChain map s k
 chain_of RunsTo.here = OnChain.here
@@ -54,53 +54,29 @@ module _ (map : InstructionMap) (lawful : IsLawful map) (IsCut : ℕ → Type 0)
     | inr more ↦ run_below rest k (record { runs = subst (λ z. RunsTo map IsCut z k) (one_next map s more.0 next more.1 goes) more.2; stops = last.stops })
   ]
 
+  -- where the chain of s stops its block ends, if blocks are cut next at that address
+  pub last_at : (s k : ℕ) (next : Option ℕ) → IsNext IsCut s next → StopsAt map s next k → IsLastOf map IsCut s k
+  last_at s k None none stops = last_none s k stops none
+  last_at s k (Some t) is stops = last_some s k t stops is.0 (λ x above below cut. absurd (omega (arith, below, is.1 x above cut)))
+
+  -- a block that is cut at fewer addresses stays as it is if the next cut lies after it
+  pub stays_at : (Before : ℕ → Type 0) → ((a : ℕ) → Before a → IsCut a) → (s k : ℕ) (next : Option ℕ) → IsNext IsCut s next → IsLastOf map Before s k → ((t : ℕ) → next ≡ Some t → k < t) → IsLastOf map IsCut s k
+  stays_at Before there s k next is last after = record {
+    runs = runs_along (chain_of last.runs) (none_in next is after);
+    stops = elim last.stops [
+      | inl ends ↦ inl ends
+      | inr into ↦ inr (into.0, into.1, there into.0 into.2)
+    ];
+  }
+    where
+      none_in : (next : Option ℕ) → IsNext IsCut s next → ((t : ℕ) → next ≡ Some t → k < t) → (x : ℕ) → s < x → x ≤ k → ¬ IsCut x
+      none_in None is after x above low cut = is x above cut
+      none_in (Some t) is after x above low cut = omega (arith, low, is.1 x above cut, after t refl)
+
   -- where blocks are cut exactly at these starts
   module _ (starts : List ℕ) (rise : IsStrictlyIncreasing starts) (exact : (a : ℕ) → Contains starts a ↔ IsCut a) where
     rises : (i j d : ℕ) → i < j → j < length starts → get_or starts i d < get_or starts j d
     rises i j d less within = AllPairs-from_increasing starts rise i j d less within
-
-    cut_at : (i d : ℕ) → i < length starts → IsCut (get_or starts i d)
-    cut_at i d within = (exact (get_or starts i d)).0 (i, within, get_or_default starts i (get_or starts i d) d within)
-
-    -- what is cut above one start is the next one or lies above
-    next_cut : (i d x : ℕ) → i < length starts → get_or starts i d < x → IsCut x → (i + 1 < length starts) × (get_or starts (i + 1) d ≤ x)
-    next_cut i d x within above cut =
-        let at = (exact x).1 cut in
-        let j : ℕ = at.0 in
-        let inside : j < length starts = at.1 in
-        let is : get_or starts j d ≡ x = get_or_default starts j d x inside ∙ at.2 in
-        elim (cases_order j i) [
-          | inl same ↦ absurd (omega (arith, above, is, ap (λ n. get_or starts n d) same))
-          | inr other ↦ elim other [
-            | inl less ↦ absurd (omega (arith, above, is, rises j i d less within))
-            | inr more ↦ elim (cases_lt (i + 1) j) [
-              | inl further ↦ (omega arith, omega (arith, is, rises (i + 1) j d further inside))
-              | inr low ↦ let same : i + 1 ≡ j = omega arith in (omega arith, omega (arith, is, ap (λ n. get_or starts n d) same))
-            ]
-          ]
-        ]
-
-    -- where the chain of one of them stops its block ends
-    pub last_at : (i k : ℕ) → i < length starts → StopsAt map (get_or starts i 0) (slice_get starts (i + 1)) k → IsLastOf map IsCut (get_or starts i 0) k
-    last_at i k within stops = elim (cases_lt (i + 1) (length starts)) [
-      | inl more ↦
-          last_some (get_or starts i 0) k (get_or starts (i + 1) 0) (subst (λ o. StopsAt map (get_or starts i 0) o k) (slice_get-get_or starts (i + 1) 0 more) stops) (cut_at (i + 1) 0 more)
-          (λ x above below cut. absurd (omega (arith, below, (next_cut i 0 x within above cut).1)))
-      | inr past ↦
-          last_none (get_or starts i 0) k
-          (subst (λ o. StopsAt map (get_or starts i 0) o k) (slice_get_past starts (i + 1) past) stops)
-          (λ x above cut. absurd (omega (arith, past, (next_cut i 0 x within above cut).0)))
-    ]
-
-    -- a block that is cut at fewer addresses stays as it is if the next start lies after it
-    pub stays_at : (Before : ℕ → Type 0) → ((a : ℕ) → Before a → IsCut a) → (i k : ℕ) → i < length starts → IsLastOf map Before (get_or starts i 0) k → (i + 1 < length starts → k < get_or starts (i + 1) 0) → IsLastOf map IsCut (get_or starts i 0) k
-    stays_at Before there i k within last after = record {
-      runs = runs_along (chain_of last.runs) (λ x above low cut. let next = next_cut i 0 x within above cut in omega (arith, low, next.1, after next.0));
-      stops = elim last.stops [
-        | inl ends ↦ inl ends
-        | inr into ↦ inr (into.0, into.1, there into.0 into.2)
-      ];
-    }
 
     -- b lies on the block of one of them
     pub record LiesOn (b : ℕ) : Type 0 where

@@ -12,10 +12,9 @@ use Rattle.cfg_model.proofs.Program.Known.{reached_along}
 use Rattle.cfg_model.proofs.Graphs.Runs.{goes_up}
 use Rattle.numbered.specs.Numbering.{IsMarked}
 use Rattle.reached_terms.specs.Reached.{Reach, AreReachedTerms}
-use Rattle.reached_graph.specs.declared.leaders.Leaders.{Leaders}
 use Rattle.reached_graph.specs.declared.walks.Walks.{Walks}
 use Rattle.reached_graph.specs.Inner.Blocks.{HoldMixed}
-use Rattle.reached_graph.specs.Inner.Leaders.{AreLeaders, AreMarkedBlocks, AreStarts, MarkLeaders}
+use Rattle.reached_graph.specs.Inner.Leaders.{AreLeaderLists, AreMarkedBlocks, AreStarts, MarkLeaders}
 use Rattle.reached_graph.specs.Inner.Walks.{AreDone, Nowhere}
 use Rattle.reached_graph.proofs.Cutting.{last_same}
 use Rattle.reached_graph.proofs.Found.{starts_lead}
@@ -23,17 +22,11 @@ use Rattle.reached_graph.proofs.Starting.{none_walked}
 
 -- those of a list of exactly the addresses where blocks are cut
 module _ (map : InstructionMap) (seeds : List ℕ) (known : (a : ℕ) → Reached map seeds a → IsSome (map a)) (IsCut : ℕ → Type 0) (lead : (a : ℕ) → IsCut a ↔ IsLeader map seeds a)
-    (leaders : Leaders) (are : AreMarkedBlocks map IsCut leaders) where
-  abbrev starts : List ℕ
-  starts = leaders.starts.items
-
-  abbrev lasts : List ℕ
-  lasts = leaders.lasts.items
-
+    (starts lasts : List ℕ) (are : AreMarkedBlocks map IsCut starts lasts) where
   last_leads : (i d : ℕ) → i < length starts → IsLastOf map (IsLeader map seeds) (get_or starts i d) (get_or lasts i d)
   last_leads i d within = last_same map IsCut (IsLeader map seeds) (λ a is. (lead a).0 is) (λ a is. (lead a).1 is) (get_or starts i d) (get_or lasts i d) (are.cut.each i d within)
 
-  pub leaders_are : AreLeaders map seeds leaders
+  pub leaders_are : AreLeaderLists map seeds starts lasts
   leaders_are = record {
     rise = are.rise;
     listed = λ a. (λ there. (lead a).0 ((are.exact a).0 there), λ is. (are.exact a).1 ((lead a).1 is));
@@ -49,8 +42,8 @@ pub known_starts : (map : InstructionMap) (number : ℕ → ℕ) (seeds : List �
 known_starts map number seeds terms are marks same = rw same (record { sent = are.sent; leads = are.leads })
 
 -- those that walks from blocks that overlap find
-module _ (map : InstructionMap) (number : ℕ → ℕ) (lawful : IsLawful map) (marks : List Bool) (blocks : Leaders) (cut : AreMarkedBlocks map (IsMarked map number marks) blocks)
-    (mixed : List ℕ) (hold : HoldMixed blocks.starts.items blocks.lasts.items (length blocks.starts.items) mixed) (seeds : List ℕ) (given : AreStarts map seeds (IsMarked map number marks)) where
+module _ (map : InstructionMap) (number : ℕ → ℕ) (lawful : IsLawful map) (marks : List Bool) (starts lasts : List ℕ) (cut : AreMarkedBlocks map (IsMarked map number marks) starts lasts)
+    (mixed : List ℕ) (hold : HoldMixed starts lasts mixed) (seeds : List ℕ) (given : AreStarts map seeds (IsMarked map number marks)) where
   abbrev IsCut : ℕ → Type 0
   IsCut = IsMarked map number marks
 
@@ -62,9 +55,9 @@ module _ (map : InstructionMap) (number : ℕ → ℕ) (lawful : IsLawful map) (
 
   pub walks_lead : (w : Walks) → AreDone map number marks mixed w → MarkLeaders map number seeds w.starts.items
   walks_lead w done =
-      starts_lead map seeds IsCut (IsMarked map number w.walked.items) (IsMarked map number w.starts.items) (done.walked seeds given) lawful blocks cut mixed hold done.begun given is_known
+      starts_lead map seeds IsCut (IsMarked map number w.walked.items) (IsMarked map number w.starts.items) (done.walked seeds given) lawful starts lasts cut mixed hold done.begun given is_known
 
   -- if none overlap, no two streams join
   pub none_join : length mixed ≡ 0 → MarkLeaders map number seeds marks
   none_join none =
-      starts_lead map seeds IsCut Nowhere IsCut (none_walked map seeds IsCut Nowhere given (λ a nowhere. nowhere)) lawful blocks cut mixed hold (λ a there. absurd (omega (arith, there.1, none))) given is_known
+      starts_lead map seeds IsCut Nowhere IsCut (none_walked map seeds IsCut Nowhere given (λ a nowhere. nowhere)) lawful starts lasts cut mixed hold (λ a there. absurd (omega (arith, there.1, none))) given is_known

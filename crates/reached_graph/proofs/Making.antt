@@ -17,9 +17,8 @@ use Rattle.cfg_model.specs.Graph.Listing.{Lists}
 use Rattle.cfg_model.proofs.Program.Listed.{none_in}
 use Rattle.cfg_model.proofs.Program.Known.{reached_along}
 use Rattle.cfg_model.proofs.Graphs.OneBlock.{block_unique, one_last}
-use Rattle.reached_graph.specs.declared.leaders.Leaders.{Leaders}
 use Rattle.reached_graph.specs.Inner.Blocks.{IsMadeOf}
-use Rattle.reached_graph.specs.Inner.Leaders.{AreLeaders}
+use Rattle.reached_graph.specs.Inner.Leaders.{AreLeaderLists}
 use Rattle.reached_graph.specs.Inner.Parts.{ArePart}
 
 module _ (map : InstructionMap) (xs ks : List ℕ) where
@@ -80,13 +79,7 @@ part_made map xs ks i whole blocks edges sorted made lists = record {
 
 -- that of all leaders has the blocks and edges of the program
 
-module _ (map : InstructionMap) (seeds : List ℕ) (leaders : Leaders) (are : AreLeaders map seeds leaders) where
-  abbrev xs : List ℕ
-  xs = leaders.starts.items
-
-  abbrev ks : List ℕ
-  ks = leaders.lasts.items
-
+module _ (map : InstructionMap) (seeds : List ℕ) (xs ks : List ℕ) (are : AreLeaderLists map seeds xs ks) where
   leader_at : (i d : ℕ) → i < length xs → IsLeader map seeds (get_or xs i d)
   leader_at i d within = (are.listed (get_or xs i d)).0 (i, within, get_or_default xs i (get_or xs i d) d within)
 

@@ -1,22 +1,18 @@
 -- What is made part by part, put together, is made of all.
-use Rattle.std.proofs.Common.{◌≡◌, ℕ, suc, ◌+◌, ◌-◌, ◌*◌, ◌<◌, ◌≤◌, List, [], ◌∷◌, ◌++◌, length, take, drop, get_or, Ok, Err, refl, sym, ap, ◌∙◌, subst, inl, inr, arith}
-use Rattle.std.specs.Prelude.{IfOk, min}
-use Rattle.std.specs.Fork.{slice_chunk}
-use Rattle.std.specs.List.{All, Contains, flat_map}
+use Rattle.std.proofs.Common.{◌≡◌, ℕ, ◌+◌, ◌-◌, ◌<◌, List, [], ◌++◌, length, get_or, Ok, Err, refl, sym, ap, ◌∙◌, subst, inl, inr, arith}
+use Rattle.std.specs.Prelude.{IfOk}
+use Rattle.std.specs.List.{Contains}
 use Rattle.std.proofs.lemmas.Bool.{cases_lt}
-use Rattle.std.proofs.lemmas.List.{get_or-append-add, get_or-drop, get_or-take, get_or_append_left, length-append, length-drop, length-take, take_all, take-append-drop, take-take, drop-take, drop-drop}
+use Rattle.std.proofs.lemmas.List.{get_or-append-add, get_or_append_left, length-append}
 use Rattle.std.proofs.lemmas.List.Elements.{Contains-append_cases, Contains-append_left, Contains-append_right, Contains-get_or}
-use native.Mathlib.Nat.{suc-mul, zero-mul}
 use Rattle.cfg_model.specs.declared.graph.Block.{Block}
 use Rattle.cfg_model.specs.declared.graph.Edge.{Edge}
 use Rattle.cfg_model.specs.Program.Instructions.{InstructionMap}
 use Rattle.cfg_model.specs.Program.Status.{Returns}
-use Rattle.cfg_model.specs.Graph.Block.{IsLastOf}
 use Rattle.cfg_model.specs.Graph.Edge.{Leaves}
 use Rattle.cfg_model.specs.Graph.Graph.{EdgeBefore}
 use Rattle.cfg_model.proofs.Program.Listed.{none_in}
-use Rattle.reached_graph.specs.Inner.Blocks.{AreCutAt}
-use Rattle.reached_graph.specs.Inner.Parts.{Answered, AnswerParts, ArePart, IsMade, LeavesOne, blocks_in, edges_in}
+use Rattle.reached_graph.specs.Inner.Parts.{Answered, ArePart, IsMade, LeavesOne, blocks_in, edges_in}
 
 -- ---- an item of one of two lists
 
@@ -29,7 +25,7 @@ module _ {X : Type 0} (xs zs : List X) where
   at_right i k d is = ap (λ n. get_or (xs ++ zs) n d) is ∙ get_or-append-add xs zs k d
 
 -- what holds of the items of two lists at each place, also holds of two more, and of both together
-both_each : {X Y : Type 0} (P : X → Y → Type 0) (xs zs : List X) (ys ws : List Y) → length ys ≡ length xs → (d : X) (e : Y)
+pub both_each : {X Y : Type 0} (P : X → Y → Type 0) (xs zs : List X) (ys ws : List Y) → length ys ≡ length xs → (d : X) (e : Y)
     → ((i : ℕ) → i < length xs → P (get_or xs i d) (get_or ys i e)) → ((i : ℕ) → i < length zs → P (get_or zs i d) (get_or ws i e))
     → (i : ℕ) → i < length (xs ++ zs) → P (get_or (xs ++ zs) i d) (get_or (ys ++ ws) i e)
 both_each P xs zs ys ws same d e one other i within = elim (cases_lt i (length xs)) [
@@ -41,20 +37,6 @@ both_each P xs zs ys ws same d e one other i within = elim (cases_lt i (length x
       rw (at_right xs zs i k d is, at_right ys ws i k e (omega (arith, is, same))) (other k inside)
 ]
 
--- ---- last addresses
-
-module _ (map : InstructionMap) (IsCut : ℕ → Type 0) where
-  -- the last addresses of so many starts from one on
-  pub cut_in : (starts : List ℕ) (from count : ℕ) (lasts : List ℕ) (size : ℕ) → from ≤ length starts → size ≡ min count (length starts - from) → length lasts ≡ size
-      → ((j d : ℕ) → j < length lasts → IsLastOf map IsCut (get_or starts (from + j) d) (get_or lasts j d)) → AreCutAt map IsCut (take count (drop from starts)) lasts
-  cut_in starts from count lasts size within is as_many each = record {
-    as_many = as_many ∙ is ∙ sym (length-take count (drop from starts) ∙ ap (min count) (length-drop from starts));
-    each = λ j d below.
-        let less : j < count = omega (arith, below, length-take count (drop from starts)) in
-        rw (get_or-take count (drop from starts) j d less, get_or-drop from starts j d)
-        (each j d (omega (arith, below, as_many, is, length-take count (drop from starts), length-drop from starts)));
-  }
-
 -- ---- blocks and edges
 
 -- Each address comes before those after it.
@@ -62,7 +44,7 @@ abbrev Rises : List ℕ → Type 0
 Rises xs = (i j : ℕ) → i < j → j < length xs → get_or xs i 0 < get_or xs j 0
 
 module _ (map : InstructionMap) where
-  none_part : (xs ks : List ℕ) → length xs ≡ 0 → ArePart map xs ks [] []
+  pub none_part : (xs ks : List ℕ) → length xs ≡ 0 → ArePart map xs ks [] []
   none_part xs ks none = record {
     as_many = sym none;
     each = λ j b within. absurd (omega (arith, within, none));
@@ -120,7 +102,7 @@ module _ (map : InstructionMap) where
         let at : ℕ = length xs + leaves.0 in
         (at, omega (arith, leaves.1, length-append xs zs), leaves_same edge _ _ _ _ (sym (at_right xs zs at leaves.0 0 refl)) (sym (right_last at leaves.0 refl)) leaves.2)
 
-    both_part : ArePart map (xs ++ zs) (ks ++ ls) (blocks ++ more) (edges ++ ways)
+    pub both_part : ArePart map (xs ++ zs) (ks ++ ls) (blocks ++ more) (edges ++ ways)
     both_part = record {
       as_many = omega (arith, one.as_many, other.as_many, length-append xs zs, length-append blocks more);
       each = λ j b within. elim (cases_lt j (length xs)) [
@@ -150,65 +132,6 @@ module _ (map : InstructionMap) where
       };
     }
 
-  made_part : (xs ks : List ℕ) (answer : Answered) → IfOk answer (λ part. ArePart map xs ks part.blocks.items part.edges.items) → IsMade answer → ArePart map xs ks (blocks_in answer) (edges_in answer)
+  pub made_part : (xs ks : List ℕ) (answer : Answered) → IfOk answer (λ part. ArePart map xs ks part.blocks.items part.edges.items) → IsMade answer → ArePart map xs ks (blocks_in answer) (edges_in answer)
   made_part xs ks (Ok part) is made = is
   made_part xs ks (Err e) is made = absurd (cc)
-
-  module _ (size : ℕ) where
-    abbrev AnswersOf : List ℕ → List ℕ → Answered → Type 0
-    AnswersOf xs ks answer = IfOk answer (λ part. ArePart map xs ks part.blocks.items part.edges.items)
-
-    -- the first chunk, and the others as those of what is left
-    first_chunk : (xs : List ℕ) → slice_chunk xs size 0 ≡ take size xs
-    first_chunk xs = ap (λ k. take size (drop k xs)) (zero-mul size)
-
-    later_chunk : (xs : List ℕ) (n : ℕ) → slice_chunk xs size (suc n) ≡ slice_chunk (drop size xs) size n
-    later_chunk xs n =
-        let more : suc n * size ≡ size + n * size = omega (arith, suc-mul n size) in
-        ap (λ k. take size (drop k xs)) more ∙ ap (take size) (sym (drop-drop (n * size) size xs))
-
-    more_chunks : (xs : List ℕ) (n : ℕ) → take (suc n * size) xs ≡ take size xs ++ take (n * size) (drop size xs)
-    more_chunks xs n =
-        let more : suc n * size ≡ size + n * size = omega (arith, suc-mul n size) in
-        let front : take size (take (size + n * size) xs) ≡ take size xs = take-take size (size + n * size) xs (omega arith) in
-        let back : drop size (take (size + n * size) xs) ≡ take (n * size) (drop size xs) = drop-take size (n * size) xs in
-        ap (λ k. take k xs) more ∙ sym (take-append-drop size (take (size + n * size) xs)) ∙ (λ i. front i ++ back i)
-
-    -- what comes first is below what is left
-    chunk_below : (xs : List ℕ) (m : ℕ) → Rises xs → (i j : ℕ) → i < length (take size xs) → j < length (take m (drop size xs)) → get_or (take size xs) i 0 < get_or (take m (drop size xs)) j 0
-    chunk_below xs m rise i j first second =
-        let i_less : i < size = omega (arith, first, length-take size xs) in
-        let j_less : j < m = omega (arith, second, length-take m (drop size xs)) in
-        let inside : size + j < length xs = omega (arith, second, length-take m (drop size xs), length-drop size xs) in
-        rw (get_or-take size xs i 0 i_less, get_or-take m (drop size xs) j 0 j_less, get_or-drop size xs j 0) (rise i (size + j) (omega (arith, i_less)) inside)
-
-    rest_rises : (xs : List ℕ) → Rises xs → Rises (drop size xs)
-    rest_rises xs rise i j less within =
-        rw (get_or-drop size xs i 0, get_or-drop size xs j 0) (rise (size + i) (size + j) (omega (arith, less)) (omega (arith, within, length-drop size xs)))
-
-    parts_made : (xs ks : List ℕ) → length ks ≡ length xs → Rises xs → (answers : List Answered)
-        → ((n : ℕ) (d : Answered) → n < length answers → AnswersOf (slice_chunk xs size n) (slice_chunk ks size n) (get_or answers n d)) → All IsMade answers
-        → ArePart map (take (length answers * size) xs) (take (length answers * size) ks) (flat_map blocks_in answers) (flat_map edges_in answers)
-    parts_made xs ks same rise [] each made = none_part (take (0 * size) xs) (take (0 * size) ks) (ap (λ n. length (take n xs)) (zero-mul size))
-    parts_made xs ks same rise (answer ∷ answers) each made =
-        let m : ℕ = length answers * size in
-        let first : AnswersOf (take size xs) (take size ks) answer =
-        subst (λ (s : List ℕ). AnswersOf s (take size ks) answer) (first_chunk xs)
-        (subst (λ (k : List ℕ). AnswersOf (slice_chunk xs size 0) k answer) (first_chunk ks) (each 0 answer (omega arith))) in
-        let later : ArePart map (take m (drop size xs)) (take m (drop size ks)) (flat_map blocks_in answers) (flat_map edges_in answers) =
-        parts_made (drop size xs) (drop size ks) (omega (arith, same, length-drop size xs, length-drop size ks)) (rest_rises xs rise) answers
-        (λ n d within.
-        subst (λ (s : List ℕ). AnswersOf s (slice_chunk (drop size ks) size n) (get_or answers n d)) (later_chunk xs n)
-        (subst (λ (k : List ℕ). AnswersOf (slice_chunk xs size (suc n)) k (get_or answers n d)) (later_chunk ks n) (each (suc n) d (omega (arith, within)))))
-        (λ k d within. made (suc k) d (omega (arith, within))) in
-        let sizes : length (take size ks) ≡ length (take size xs) = length-take size ks ∙ ap (min size) same ∙ sym (length-take size xs) in
-        rw (more_chunks xs (length answers), more_chunks ks (length answers))
-        (both_part (take size xs) (take m (drop size xs)) (take size ks) (take m (drop size ks)) (blocks_in answer) (flat_map blocks_in answers) (edges_in answer) (flat_map edges_in answers) sizes
-        (chunk_below xs m rise) (made_part (take size xs) (take size ks) answer first (made 0 answer (omega arith))) later)
-
-    pub parts_joined : (xs ks : List ℕ) → length ks ≡ length xs → ((i j d : ℕ) → i < j → j < length xs → get_or xs i d < get_or xs j d) → (answers : List Answered) → AnswerParts map size xs ks answers → All IsMade answers
-        → ArePart map xs ks (flat_map blocks_in answers) (flat_map edges_in answers)
-    parts_joined xs ks same rise answers parts made =
-        subst (λ (s : List ℕ). ArePart map s ks (flat_map blocks_in answers) (flat_map edges_in answers)) (take_all (length answers * size) xs parts.all)
-        (subst (λ (k : List ℕ). ArePart map (take (length answers * size) xs) k (flat_map blocks_in answers) (flat_map edges_in answers)) (take_all (length answers * size) ks (omega (arith, parts.all, same)))
-        (parts_made xs ks same (λ i j less within. rise i j 0 less within) answers parts.each made))

@@ -16,7 +16,8 @@ use Rattle.cfg_model.proofs.Graphs.LeaderFacts.{joined}
 use Rattle.reached_graph.specs.declared.walks.Walks.{Walks}
 use Rattle.numbered.specs.Numbering.{IsMarked}
 use Rattle.reached_graph.specs.Inner.Marks.{IsAdded}
-use Rattle.reached_graph.specs.Inner.Walks.{AreFit, AreWalked, HaveWalked, At, IsBegun, IsFresh, IsStopped, IsWalkFrom, IsWalkOn, Nowhere}
+use Rattle.reached_graph.proofs.Joining.{begun_joined}
+use Rattle.reached_graph.specs.Inner.Walks.{AreFit, AreJoined, AreWalked, HaveWalked, At, IsBegun, IsFresh, IsStopped, IsWalkFrom, IsWalkOn, Nowhere}
 
 module _ (map : InstructionMap) (seeds : List ℕ) (IsGiven IsWalked IsStart : ℕ → Type 0) where
   abbrev Was : (ℕ → Type 0) → Type 0
@@ -250,6 +251,7 @@ module _ (map : InstructionMap) (number : ℕ → ℕ) (s : ℕ) (old new : Walk
     fit = fit;
     begun = subst (λ (w : Walks). IsMarked map number w.walked.items s) (sym same) walked;
     kept = λ a on. subst (λ (w : Walks). IsMarked map number w.walked.items a) (sym same) on;
+    joined = λ marks are. subst (λ (w : Walks). AreJoined map number marks w) (sym same) are;
     walked = λ seeds marks there have. subst (λ (w : Walks). HaveWalked map number seeds marks w Nowhere) (sym same) have;
   }
 
@@ -259,6 +261,7 @@ module _ (map : InstructionMap) (number : ℕ → ℕ) (s : ℕ) (old new : Walk
     fit = on.fit;
     begun = on.kept s begun.walked.here;
     kept = λ a was. on.kept a (begun.walked.kept a was);
+    joined = λ marks are. on.joined marks (begun_joined map number marks old mid are s begun);
     walked = λ seeds marks there have. on.walked seeds marks (walks_begin map number seeds marks old mid s begun there have);
   }
 

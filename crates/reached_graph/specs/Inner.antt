@@ -5,3 +5,5 @@ pub mod Leaders
 pub mod Blocks
 pub mod Parts
 pub mod Ways
+pub mod Cuts
+pub mod Overlaps

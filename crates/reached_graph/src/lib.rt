@@ -8,6 +8,8 @@
 //!
 //! - [`graph`]: the graph.
 //! - [`leaders`]: the addresses where blocks start.
+//! - `cuts`: the blocks that start where marks are set, by ranges of numbers, and once more at joins.
+//! - `overlaps`: which blocks overlap others.
 //! - `walks`: the walks over blocks that overlap, which find joins.
 //! - [`outline`]: the blocks and edges, from what is reached and from these leaders.
 //! - `blocks`: one block, up to its last instruction.
@@ -16,10 +18,12 @@
 #![tactic(auto)]
 
 mod blocks;
+mod cuts;
 mod edges;
 pub mod graph;
 pub mod leaders;
 pub mod outline;
+mod overlaps;
 pub mod sharing;
 mod walks;
 

@@ -81,6 +81,9 @@ impl Part {
     }
 }
 
+/// For how many edges there is room at first for each block: most have one or two.
+const EDGES_PER_BLOCK: usize = 2;
+
 /// The blocks from these starts to these last addresses, and the edges that leave them.
 #[inline(never)]
 pub(crate) fn part_of<C: Chains, F: Fn(u64) -> bool>(
@@ -98,7 +101,7 @@ pub(crate) fn part_of<C: Chains, F: Fn(u64) -> bool>(
         part.edges.items) }
 {
     let mut blocks = Vec::with_capacity(alloc, starts.len())?;
-    let mut edges = Vec::new(alloc);
+    let mut edges = Vec::with_capacity(alloc, starts.len().saturating_mul(EDGES_PER_BLOCK))?;
     for i in 0..starts.len() {
         add_block(code, returns, starts[i], lasts[i], &mut blocks, &mut edges)?;
     }

@@ -31,10 +31,11 @@ IsMixed starts lasts j =
     ((j + 1 < length starts) × (get_or starts (j + 1) 0 ≤ get_or lasts j 0))
     ⊎ ((i : ℕ) × (i < j) × (get_or starts j 0 ≤ get_or lasts i 0))
 
--- These are starts, among them those of the first n blocks that overlap others.
-pub record HoldMixed (starts lasts : List ℕ) (n : ℕ) (mixed : List ℕ) : Type 0 where
+-- These are starts, among them those of all blocks that overlap others.
+pub record HoldMixed (starts lasts : List ℕ) (mixed : List ℕ) : Type 0 where
   pub start : (a : ℕ) → Contains mixed a → Contains starts a
-  pub all : (j : ℕ) → j < n → IsMixed starts lasts j → Contains mixed (get_or starts j 0)
+  pub all : (j : ℕ) → j < length starts → IsMixed starts lasts j
+      → Contains mixed (get_or starts j 0)
 
 -- The block from s to k and its edges come to the old ones.
 pub record IsMadeOf (map : InstructionMap) (s k : ℕ) (old new : List Block)

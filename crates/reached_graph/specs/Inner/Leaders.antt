@@ -2,8 +2,8 @@
 use Rattle.std.specs.Prelude.{◌↔◌, ℕ, Bool, List, All, Contains, IsSome}
 use Rattle.std.specs.List.Sorted.{IsStrictlyIncreasing}
 use Rattle.cfg_model.specs.Program.Instructions.{InstructionMap}
-use Rattle.cfg_model.specs.Graph.Block.{IsLastOf}
 use Rattle.cfg_model.specs.Graph.Leader.{IsLeader}
+use Rattle.cfg_model.specs.Program.Reach.{Reached}
 use Rattle.numbered.specs.Numbering.{IsMarked}
 use Rattle.reached_terms.specs.Sent.{IsSent}
 use Rattle.reached_graph.specs.declared.leaders.Leaders.{Leaders}
@@ -18,30 +18,25 @@ pub record AreStarts (map : InstructionMap) (seeds : List ℕ) (IsGiven : ℕ �
 abbrev pub MarkLeaders : InstructionMap → (ℕ → ℕ) → List ℕ → List Bool → Type 0
 MarkLeaders map number seeds marks = (a : ℕ) → IsMarked map number marks a ↔ IsLeader map seeds a
 
--- Blocks start exactly where they are cut, at these addresses.
-pub record AreMarkedBlocks (map : InstructionMap) (IsCut : ℕ → Type 0) (blocks : Leaders)
-    : Type 0 where
-  pub rise : IsStrictlyIncreasing blocks.starts.items
-  pub exact : (a : ℕ) → Contains blocks.starts.items a ↔ IsCut a
-  pub cut : AreCutAt map IsCut blocks.starts.items blocks.lasts.items
+-- The same of a program in which instructions stand wherever it comes to.
+pub record AreLeaderMarks (map : InstructionMap) (number : ℕ → ℕ) (seeds : List ℕ)
+    (marks : List Bool) : Type 0 where
+  pub known : (a : ℕ) → Reached map seeds a → IsSome (map a)
+  pub lead : MarkLeaders map number seeds marks
 
--- These blocks are cut at some of the addresses whose marks are set.
-pub record AreCutAtSome (map : InstructionMap) (number : ℕ → ℕ) (marks : List Bool)
-    (blocks : Leaders) : Type 0 where
-  pub given : List Bool
-  pub made : AreMarkedBlocks map (IsMarked map number given) blocks
-  pub more : (a : ℕ) → IsMarked map number given a → IsMarked map number marks a
-
--- k is the last address of the block of s, if blocks are cut at some of these addresses.
-pub record IsLastAtSome (map : InstructionMap) (number : ℕ → ℕ) (marks : List Bool) (s k : ℕ)
+-- Blocks start exactly where they are cut: at these starts, with these last addresses.
+pub record AreMarkedBlocks (map : InstructionMap) (IsCut : ℕ → Type 0) (starts lasts : List ℕ)
     : Type 0 where
-  pub given : List Bool
-  pub last : IsLastOf map (IsMarked map number given) s k
-  pub more : (a : ℕ) → IsMarked map number given a → IsMarked map number marks a
+  pub rise : IsStrictlyIncreasing starts
+  pub exact : (a : ℕ) → Contains starts a ↔ IsCut a
+  pub cut : AreCutAt map IsCut starts lasts
 
 -- These are all leaders of the program, and the last addresses of their blocks.
-pub record AreLeaders (map : InstructionMap) (seeds : List ℕ) (leaders : Leaders) : Type 0 where
-  pub rise : IsStrictlyIncreasing leaders.starts.items
-  pub listed : (a : ℕ) → Contains leaders.starts.items a ↔ IsLeader map seeds a
-  pub cut : AreCutAt map (IsLeader map seeds) leaders.starts.items leaders.lasts.items
-  pub stand : All (λ k. IsSome (map k)) leaders.lasts.items
+pub record AreLeaderLists (map : InstructionMap) (seeds starts lasts : List ℕ) : Type 0 where
+  pub rise : IsStrictlyIncreasing starts
+  pub listed : (a : ℕ) → Contains starts a ↔ IsLeader map seeds a
+  pub cut : AreCutAt map (IsLeader map seeds) starts lasts
+  pub stand : All (λ k. IsSome (map k)) lasts
+
+abbrev pub AreLeaders : InstructionMap → List ℕ → Leaders → Type 0
+AreLeaders map seeds leaders = AreLeaderLists map seeds leaders.starts.items leaders.lasts.items

@@ -1,7 +1,6 @@
 -- Blocks and edges that are made part by part.
-use Rattle.std.specs.Prelude.{◌≡◌, ℕ, ◌*◌, ◌<◌, ◌≤◌, List, [], length, get_or, slice_index_or}
+use Rattle.std.specs.Prelude.{◌≡◌, ℕ, ◌+◌, ◌*◌, ◌<◌, ◌≤◌, List, [], length, get_or, slice_index_or}
 use Rattle.std.specs.Prelude.{IfOk, IsOk, Result, Ok, Err}
-use Rattle.std.specs.Fork.{slice_chunk}
 use Rattle.std.specs.declared.alloc.AllocError.{AllocError as Memory}
 use Rattle.cfg_model.specs.declared.graph.Block.{Block}
 use Rattle.cfg_model.specs.declared.graph.Edge.{Edge}
@@ -11,7 +10,9 @@ use Rattle.cfg_model.specs.Graph.Block.{IsBlockOf}
 use Rattle.cfg_model.specs.Graph.Edge.{Leaves}
 use Rattle.cfg_model.specs.Graph.Graph.{EdgeBefore}
 use Rattle.cfg_model.specs.Graph.Listing.{Lists}
+use Rattle.reached_graph.specs.declared.leaders.Leaders.{Leaders}
 use Rattle.reached_graph.specs.declared.outline.Part.{Part}
+use Rattle.reached_graph.specs.Inner.Cuts.{AreCutIn}
 
 -- The edge leaves one of the blocks from these starts to these last addresses.
 abbrev pub LeavesOne : InstructionMap → List ℕ → List ℕ → Edge → Type 0
@@ -45,10 +46,38 @@ abbrev pub edges_in : Answered → List Edge
 edges_in (Ok part) = part.edges.items
 edges_in (Err e) = []
 
--- Each part of this many starts has an answer: its blocks and edges.
-pub record AnswerParts (map : InstructionMap) (size : ℕ) (starts lasts : List ℕ)
-    (answers : List Answered) : Type 0 where
-  pub all : length starts ≤ length answers * size
+-- They are those of the blocks that start at the cuts whose numbers are from and more, but below
+-- until.
+pub record IsMadeIn (map : InstructionMap) (number : ℕ → ℕ) (IsCut : ℕ → Type 0) (from until : ℕ)
+    (blocks : List Block) (edges : List Edge) : Type 0 where
+  pub starts : List ℕ
+  pub lasts : List ℕ
+  pub cut : AreCutIn map number IsCut from until starts lasts
+  pub part : ArePart map starts lasts blocks edges
+
+-- The cuts of each range of this many numbers, of all these numbers.
+pub record AreCutByRange (map : InstructionMap) (number : ℕ → ℕ) (IsCut : ℕ → Type 0)
+    (size numbers : ℕ) (ranges : List Leaders) : Type 0 where
+  pub all : numbers ≤ length ranges * size
+  pub each : (n : ℕ) (d : Leaders) → n < length ranges → AreCutIn map number IsCut (n * size)
+      (n * size + size) (get_or ranges n d).starts.items (get_or ranges n d).lasts.items
+
+-- What a worker answers of the cuts of a range.
+abbrev pub AnsweredCuts : Type 0
+AnsweredCuts = Result Leaders Memory
+
+-- Each range of this many numbers has an answer: its cuts.
+pub record AnswerCuts (map : InstructionMap) (number : ℕ → ℕ) (IsCut : ℕ → Type 0)
+    (size numbers : ℕ) (answers : List AnsweredCuts) : Type 0 where
+  pub all : numbers ≤ length answers * size
+  pub each : (n : ℕ) (d : AnsweredCuts) → n < length answers
+      → IfOk (slice_index_or answers n d) (λ blocks. AreCutIn map number IsCut (n * size)
+      (n * size + size) blocks.starts.items blocks.lasts.items)
+
+-- Each range of this many numbers has an answer: its blocks and edges.
+pub record AnswerParts (map : InstructionMap) (number : ℕ → ℕ) (IsCut : ℕ → Type 0)
+    (size numbers : ℕ) (answers : List Answered) : Type 0 where
+  pub all : numbers ≤ length answers * size
   pub each : (n : ℕ) (d : Answered) → n < length answers
-      → IfOk (slice_index_or answers n d) (λ part. ArePart map (slice_chunk starts size n)
-      (slice_chunk lasts size n) part.blocks.items part.edges.items)
+      → IfOk (slice_index_or answers n d) (λ part. IsMadeIn map number IsCut (n * size)
+      (n * size + size) part.blocks.items part.edges.items)

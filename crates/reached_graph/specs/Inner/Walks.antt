@@ -1,5 +1,5 @@
 -- How far the walks have come, and how they go on.
-use Rattle.std.specs.Prelude.{◌≡◌, ◌≢◌, ℕ, ◌⊎◌, Bool, List, length, Contains}
+use Rattle.std.specs.Prelude.{◌≡◌, ◌≢◌, ℕ, ◌⊎◌, Bool, List, [], ◌∷◌, ◌++◌, length, Contains}
 use Rattle.cfg_model.specs.Program.Instructions.{InstructionMap, IsLawful}
 use Rattle.cfg_model.specs.Program.Chain.{GoesOnTo}
 use Rattle.cfg_model.specs.Program.Reach.{Reached}
@@ -14,6 +14,15 @@ pub record AreFit (map : InstructionMap) (number : ℕ → ℕ) (w : Walks) : Ty
   pub lawful : IsLawful map
   pub numbering : IsNumbering map number (length w.walked.items)
   pub starts : length w.starts.items ≡ length w.walked.items
+
+-- Where blocks start the given marks are set, or two streams were found to join, and no mark was set.
+pub record AreJoined (map : InstructionMap) (number : ℕ → ℕ) (marks : List Bool) (w : Walks)
+    : Type 0 where
+  pub new : (a : ℕ) → Contains w.joins.items a
+      → IsMarked map number w.starts.items a × (¬ IsMarked map number marks a)
+  pub kept : (a : ℕ) → IsMarked map number marks a → IsMarked map number w.starts.items a
+  pub only : (a : ℕ) → IsMarked map number w.starts.items a
+      → IsMarked map number marks a ⊎ Contains w.joins.items a
 
 -- What holds of the addresses that were walked over and those where blocks start, but for what
 -- comes after an open address, which a walk is at.
@@ -56,6 +65,7 @@ pub record IsBegun (map : InstructionMap) (number : ℕ → ℕ) (a : ℕ) (old 
   pub walked : IsAdded (IsMarked map number old.walked.items)
       (IsMarked map number new.walked.items) a
   pub starts : new.starts ≡ old.starts
+  pub joins : new.joins ≡ old.joins
 
 -- The same where no block starts.
 pub record IsFresh (map : InstructionMap) (number : ℕ → ℕ) (a : ℕ) (old new : Walks)
@@ -71,6 +81,7 @@ pub record IsJoined (map : InstructionMap) (number : ℕ → ℕ) (a : ℕ) (old
   pub walked : new.walked ≡ old.walked
   pub starts : IsAdded (IsMarked map number old.starts.items)
       (IsMarked map number new.starts.items) a
+  pub joins : new.joins.items ≡ old.joins.items ++ a ∷ []
 
 -- A walk ends that comes to the address a: a block starts there, or does from now on.
 abbrev pub IsStopped : InstructionMap → (ℕ → ℕ) → ℕ → Walks → Walks → Type 0
@@ -83,6 +94,8 @@ pub record IsWalkOn (map : InstructionMap) (number : ℕ → ℕ) (s : ℕ) (old
   pub fit : AreFit map number new
   pub kept : (a : ℕ) → IsMarked map number old.walked.items a
       → IsMarked map number new.walked.items a
+  pub joined : (marks : List Bool) → AreJoined map number marks old
+      → AreJoined map number marks new
   pub walked : (seeds : List ℕ) (marks : List Bool) → HaveWalked map number seeds marks old (At s)
       → HaveWalked map number seeds marks new Nowhere
 
@@ -93,6 +106,8 @@ pub record IsWalkFrom (map : InstructionMap) (number : ℕ → ℕ) (s : ℕ) (o
   pub begun : IsMarked map number new.walked.items s
   pub kept : (a : ℕ) → IsMarked map number old.walked.items a
       → IsMarked map number new.walked.items a
+  pub joined : (marks : List Bool) → AreJoined map number marks old
+      → AreJoined map number marks new
   pub walked : (seeds : List ℕ) (marks : List Bool) → IsMarked map number marks s
       → HaveWalked map number seeds marks old Nowhere
       → HaveWalked map number seeds marks new Nowhere
@@ -102,5 +117,6 @@ pub record AreDone (map : InstructionMap) (number : ℕ → ℕ) (marks : List B
     (w : Walks) : Type 0 where
   pub fit : AreFit map number w
   pub begun : (a : ℕ) → Contains firsts a → IsMarked map number w.walked.items a
+  pub joined : AreJoined map number marks w
   pub walked : (seeds : List ℕ) → AreStarts map seeds (IsMarked map number marks)
       → HaveWalked map number seeds marks w Nowhere

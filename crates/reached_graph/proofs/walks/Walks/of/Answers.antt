@@ -3,6 +3,7 @@ use Rattle.std.specs.Prelude.{Contains}
 use Rattle.std.proofs.lemmas.List.{take_all}
 use Rattle.std.proofs.lemmas.List.Elements.{Contains-get_or}
 use Rattle.numbered.specs.Numbering.{IsMarked}
+use Rattle.reached_graph.proofs.Joining.{none_joined}
 use Rattle.reached_graph.proofs.Starting.{walks_new}
 use Rattle.reached_graph.proofs.Walking.{more_begun}
 use Rattle.reached_graph.proofs.walks.Walks.of.Goals as goal
@@ -16,6 +17,7 @@ loop-s-init g c =
     record {
       fit = new.0;
       begun = λ a there. absurd {A = IsMarked map number w.walked.items a} (omega (arith, there.1));
+      joined = none_joined map number c.args.marks.now w c.in_ok-walks.ensures.starts c.in_ok-walks.ensures.joins;
       walked = new.1;
     }
 
@@ -25,10 +27,11 @@ loop-s-preserved g c =
     let number = g.C.Numbered.number c.args.code.now in
     let firsts = c.args.firsts.now in
     let i = c.loop-s.s-index in
-    let from = c.walk.ensures in
+    let from = c.in_ok-walk.ensures in
     record {
       fit = from.fit;
       begun = more_begun map number _ c.loop-s.walks c.walk.new.self firsts i c.loop-s-test.true refl from c.loop-s.invariant.begun;
+      joined = from.joined c.args.marks.now c.loop-s.invariant.joined;
       walked = λ seeds are. from.walked seeds c.args.marks.now (c.requires.marked (get_or firsts i 0) (Contains-get_or firsts i 0 c.loop-s-test.true)) (c.loop-s.invariant.walked seeds are);
     }
 
@@ -38,5 +41,6 @@ returns g c =
     record {
       fit = c.loop-s.invariant.fit;
       begun = λ a there. c.loop-s.invariant.begun a (subst (λ xs. Contains xs a) (sym (take_all c.loop-s.s-index firsts (omega arith))) there);
+      joined = c.loop-s.invariant.joined;
       walked = c.loop-s.invariant.walked;
     }

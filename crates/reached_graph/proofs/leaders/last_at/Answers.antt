@@ -1,9 +1,0 @@
-use Rattle.numbered.specs.Numbering.{IsMarked}
-use Rattle.reached_graph.proofs.Apart.{last_at}
-use Rattle.reached_graph.proofs.leaders.last_at.Goals as goal
-
-pub returns-in-Some : goal.returns-in-Some
-returns-in-Some g c =
-    let map = g.C.Chains.map c.args.code.now in
-    let number = g.C.Numbered.number c.args.code.now in
-    last_at map c.requires.lawful (IsMarked map number c.args.marks.now) c.args.starts.now c.requires.rise c.requires.exact c.args.i c.in-Some.last c.requires.within (rw c.next_after.ensures at c.in-Some.ensures)
