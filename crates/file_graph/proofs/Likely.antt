@@ -1,5 +1,5 @@
 -- What the jumps that are reached under the likely cuts tell of the file.
-use Rattle.std.proofs.Common.{◌≡◌, ℕ, List, sym, subst}
+use Rattle.std.proofs.Common.{◌≡◌, ℕ, List, get_or, sym, subst}
 use Rattle.std.specs.Prelude.{All, Contains}
 use Rattle.std.proofs.lemmas.List.Elements.{All-map, All-contains}
 use Rattle.elf_image.specs.Seeds.{seeds}
@@ -8,11 +8,13 @@ use Rattle.cfg_model.specs.Program.Cuts.{AreCuts}
 use Rattle.cfg_model.specs.Program.Reach.{Reached}
 use Rattle.code_view.specs.Cuts.{Counts, cut_of}
 use Rattle.code_view.specs.FileCode.{FileCode, program_of}
-use Rattle.code_view.specs.Tables.{AreAllTables, AreTablesOf, addresses_of}
+use Rattle.code_view.specs.Tables.{AreAllTables, AreTablesOf, HasTable, addresses_of}
 use Rattle.code_view.specs.declared.table_jump.TableJump.{TableJump}
 use Rattle.table_cuts.specs.Extents.{extent_at}
 use Rattle.table_cuts.proofs.Counted.{cuts-other, has-table}
+use Rattle.reached_terms.specs.Reached.{Reach}
 use Rattle.reached_cuts.specs.Counted.{AreReachedAmong}
+use Rattle.reached_cuts.specs.Reach.{IsReachOf, under}
 use Rattle.file_program.specs.FileGraph.{cut_program, AreCutsOf}
 use Rattle.file_program.specs.Likely.{AreLikelyCuts, IsReachedUnder, AreCutsUnder, AgreeWhereReached}
 use Rattle.file_program.proofs.LikelyCuts.{agreeing-show, likely-show}
@@ -59,3 +61,31 @@ module _ (bytes : List ℕ) (likely : Counts) (jumps : List TableJump) (reached 
   -- So do the file's own cuts.
   pub own-shows : (own : Counts) → AreCutsOf bytes own → All (λ (f : TableJump). cut_of likely f.jump ≡ cut_of own f.jump) jumps → ShowTheGraph bytes likely
   own-shows own are same graph is = agreeing-show bytes likely own graph are (agree own same) is
+
+-- The jumps that are reached under the cuts, among all with a table.
+pub among-under : (code : FileCode) (from : List ℕ) (cuts : Counts) (tables jumps : List TableJump) → from ≡ seeds code.bytes → AreAllTables code.bytes tables → AreReachedUnder code.bytes cuts jumps
+    → AreReachedAmong (under code cuts) from tables jumps
+among-under code from cuts tables jumps all-seeds all reached = record {
+  tables_of = reached.tables;
+  only = λ j there. (all.all_jumps j (has j there), subst (λ (s : List ℕ). Reached (cut_program code.bytes cuts) s j) (sym all-seeds) (reached.only j there));
+  all = λ j there is_reached. reached.all j (has-listed j there) (subst (λ (s : List ℕ). Reached (cut_program code.bytes cuts) s j) all-seeds is_reached);
+}
+  where
+    has-among : (some : List TableJump) → AreTablesOf code.bytes some → (j : ℕ) → Contains (addresses_of some) j → HasTable code.bytes j
+    has-among some are j there =
+        All-contains (HasTable code.bytes) (addresses_of some) j
+        (All-map (HasTable code.bytes) (λ (f : TableJump). f.jump) some (λ i d below. record { table = (get_or some i d).table; at_jump = are i d below })) there
+
+    has : (j : ℕ) → Contains (addresses_of jumps) j → HasTable code.bytes j
+    has = has-among jumps reached.tables
+
+    has-listed : (j : ℕ) → Contains (addresses_of tables) j → HasTable code.bytes j
+    has-listed = has-among tables all.tables
+
+-- What the code under these cuts reaches, if it has the bytes of other code.
+pub reach-under : (uncut code : FileCode) (cuts : Counts) (from seeds : List ℕ) (terms : Reach) → code.bytes ≡ uncut.bytes → code.cuts ≡ cuts → from ≡ seeds → IsReachOf code from terms
+    → IsReachOf (under uncut cuts) seeds terms
+reach-under uncut code cuts from seeds terms same is-under all-seeds is =
+    subst (λ (b : List ℕ). IsReachOf (record { bytes = b; cuts = cuts }) seeds terms) same
+    (subst (λ (k : Counts). IsReachOf (record { bytes = code.bytes; cuts = k }) seeds terms) is-under
+    (subst (λ (s : List ℕ). IsReachOf code s terms) all-seeds is))

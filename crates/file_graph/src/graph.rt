@@ -45,7 +45,8 @@ pub fn graph_of<B: Builder>(
     let code = uncut.under(&likely);
     let reached = by.follow(&code, seeds.addresses())?;
     let counted = reached_jumps(alloc, &code, &reached, tables.jumps())?;
-    match other_cuts(alloc, &uncut, seeds, &tables, &likely, &counted)? {
+    let others = other_cuts(alloc, &uncut, seeds, &tables, &likely, &reached, &counted)?;
+    match others {
         None => by.graph(&code, seeds.addresses(), image.entry(), &reached),
         Some(cuts) => {
             drop(reached);

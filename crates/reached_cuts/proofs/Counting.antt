@@ -1,6 +1,6 @@
 -- The jump tables that count, found one after another.
 use Rattle.std.proofs.Common.{◌≡◌, ℕ, ◌⊎◌, Option, List, [], ◌∷◌, ◌++◌, Some, sym, subst, ⊎_elim, arith}
-use Rattle.std.specs.Prelude.{Contains}
+use Rattle.std.specs.Prelude.{Contains, IsSome}
 use Rattle.std.proofs.lemmas.List.{map-append}
 use Rattle.std.proofs.lemmas.List.Elements.{All-push, Contains-append_left, Contains-push, Contains-push_cases}
 use Rattle.jump_table.specs.Table.{table_at}
@@ -11,7 +11,8 @@ use Rattle.code_view.specs.declared.table_jump.TableJump.{TableJump}
 use Rattle.table_cuts.specs.Extents.{extent_at}
 use Rattle.code_view.specs.Tables.{AreAllTables, addresses_of}
 use Rattle.table_cuts.proofs.Counted.{cuts-other, has-table}
-use Rattle.reached_cuts.specs.Counted.{AreReachedAmong}
+use Rattle.code_view.specs.Cuts.{Counts, cut_of}
+use Rattle.reached_cuts.specs.Counted.{AreReachedAmong, AreCutAmong}
 
 module _ (code : FileCode) (seeds : List ℕ) where
   pub counted-none : AreReachedAmong code seeds [] []
@@ -64,3 +65,46 @@ module _ (code : FileCode) (seeds : List ℕ) where
       cuts-other (extent_at code.bytes) (λ j. Contains (addresses_of counted) j) (Reached (program_of code) seeds)
       (λ j extent at. (λ there. (among.only j there).1, λ reached. among.all j (all.all_jumps j (has-table code.bytes j extent at)) reached))
       cuts
+
+-- ---- those that have a cut
+
+module _ (cuts : Counts) where
+  pub cut-none : AreCutAmong [] cuts []
+  cut-none = record {
+    only = λ j there. absurd (omega (arith, there.1));
+    all = λ j there has. there;
+  }
+
+  module _ (seen : List TableJump) (found : List ℕ) (f : TableJump) (before : AreCutAmong seen cuts found) where
+    longer_seen : addresses_of (seen ++ f ∷ []) ≡ addresses_of seen ++ f.jump ∷ []
+    longer_seen = map-append (λ (t : TableJump). t.jump) seen (f ∷ [])
+
+    kept_seen : (j : ℕ) → Contains (addresses_of seen) j → Contains (addresses_of (seen ++ f ∷ [])) j
+    kept_seen j there = subst (λ (xs : List ℕ). Contains xs j) (sym longer_seen) (Contains-append_left (addresses_of seen) (f.jump ∷ []) j there)
+
+    last_seen : (j : ℕ) → f.jump ≡ j → Contains (addresses_of (seen ++ f ∷ [])) j
+    last_seen j is = subst (λ (xs : List ℕ). Contains xs j) (sym longer_seen) (subst (λ (x : ℕ). Contains (addresses_of seen ++ f.jump ∷ []) x) is (Contains-push (addresses_of seen) f.jump))
+
+    split_seen : (j : ℕ) → Contains (addresses_of (seen ++ f ∷ [])) j → Contains (addresses_of seen) j ⊎ (f.jump ≡ j)
+    split_seen j there = Contains-push_cases (addresses_of seen) f.jump j (subst (λ (xs : List ℕ). Contains xs j) longer_seen there)
+
+    pub cut-takes : IsSome (cut_of cuts f.jump) → AreCutAmong (seen ++ f ∷ []) cuts (found ++ f.jump ∷ [])
+    cut-takes has = record {
+      only = λ j there. ⊎_elim
+          (λ earlier. let was = before.only j earlier in (kept_seen j was.0, was.1))
+          (λ same. (last_seen j same, subst (λ (x : ℕ). IsSome (cut_of cuts x)) same has))
+          (Contains-push_cases found f.jump j there);
+      all = λ j there is_cut. ⊎_elim
+          (λ earlier. Contains-append_left found (f.jump ∷ []) j (before.all j earlier is_cut))
+          (λ same. subst (λ (x : ℕ). Contains (found ++ f.jump ∷ []) x) same (Contains-push found f.jump))
+          (split_seen j there);
+    }
+
+    pub cut-past : (IsSome (cut_of cuts f.jump) → ⊥) → AreCutAmong (seen ++ f ∷ []) cuts found
+    cut-past not_cut = record {
+      only = λ j there. let was = before.only j there in (kept_seen j was.0, was.1);
+      all = λ j there is_cut. ⊎_elim
+          (λ earlier. before.all j earlier is_cut)
+          (λ same. absurd (not_cut (subst (λ (x : ℕ). IsSome (cut_of cuts x)) (sym same) is_cut)))
+          (split_seen j there);
+    }

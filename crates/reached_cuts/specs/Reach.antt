@@ -2,7 +2,12 @@
 use Rattle.std.specs.Prelude.{ℕ, List}
 use Rattle.chain_index.specs.Numbers.{codes_below}
 use Rattle.code_view.specs.FileCode.{FileCode, program_of}
+use Rattle.code_view.specs.Cuts.{Counts}
 use Rattle.reached_terms.specs.Reached.{AreReachedTerms, Reach}
+
+-- The same code under other cuts.
+abbrev pub under : FileCode → Counts → FileCode
+under code cuts = record { bytes = code.bytes; cuts = cuts }
 
 -- These marks, by the numbers of the code's addresses, tell what the program reaches from the seeds.
 abbrev pub IsReachOf : FileCode → List ℕ → Reach → Type 0

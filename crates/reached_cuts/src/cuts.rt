@@ -1,43 +1,57 @@
 //! The cuts of the tables that are reached.
 
-ghost use Rattle.std.specs.Prelude.{ℕ, List, IfOk, IsSome, All};
+ghost use Rattle.std.specs.Prelude.{◌≡◌, ℕ, List, IfOk};
+ghost use Rattle.std.specs.FinMap as map;
 ghost use Rattle.cfg_model.specs.Program.Cuts.{AreCuts};
 ghost use Rattle.cfg_model.specs.Program.Reach.{Reached};
 ghost use Rattle.code_view.specs.Cuts.{cut_of, CutsFit};
 ghost use Rattle.code_view.specs.FileCode.{program_of};
 ghost use Rattle.table_cuts.specs.Extents.{extent_at};
 ghost use Rattle.code_view.specs.Tables.{AreAllTables};
-ghost use Rattle.reached_cuts.specs.Reach.{IsReachOf};
+ghost use Rattle.reached_cuts.specs.Counted.{AreReachedAmong};
+ghost use Rattle.reached_cuts.specs.Reach.{IsReachOf, under};
 
 use crate::Memory;
-use crate::jumps::reached_jumps;
-use code_view::{AllTables, Code, Cuts};
+use crate::jumps::{cut_jumps, reached_jumps};
+use code_view::{AllTables, Code, Cuts, TableJump};
 use reached_terms::ReachedTerms;
 use std::alloc::Global;
 use table_cuts::cuts_of;
 
 /// The cuts of jump tables, of which `tables` are all in the code. Those count whose jumps the
-/// program `code` reaches from its seeds.
+/// program reaches from `seeds` if no table is cut; that is `uncut`. `terms` are what its code
+/// reaches under `cuts`, and `reached` those of the jumps that it reaches so.
 ///
-/// The only error is that memory ran out. Time and memory: those of [`ReachedTerms::of`] and of
+/// The only error is that memory ran out. Time and memory: those of [`ReachedTerms::wider`] and of
 /// [`cuts_of`].
 pub fn reached_cuts(
     alloc: Global,
-    code: &Code,
+    uncut: &Code,
     seeds: &[u64],
     tables: &AllTables,
+    cuts: &Cuts,
+    terms: &ReachedTerms,
+    reached: &[TableJump],
 ) -> Result<Cuts, Memory>
-    requires seeds { All (λ a. IsSome (program_of code.now a)) seeds.now }
-    requires tables { AreAllTables code.now.bytes tables.now }
-    ensures cuts { IfOk result (λ cuts. AreCuts (extent_at code.now.bytes)
-        (Reached (program_of code.now) seeds.now) (cut_of cuts)) }
-    ensures fits { IfOk result (λ cuts. CutsFit code.now.bytes (cut_of cuts)) }
+    requires uncut { uncut.now.cuts ≡ map.empty }
+    requires tables { AreAllTables uncut.now.bytes tables.now }
+    requires fits { CutsFit uncut.now.bytes (cut_of cuts.now) }
+    requires terms { IsReachOf (under uncut.now cuts.now) seeds.now terms.now }
+    requires reached { AreReachedAmong (under uncut.now cuts.now) seeds.now tables.now
+        reached.now }
+    ensures cuts { IfOk result (λ cuts. AreCuts (extent_at uncut.now.bytes)
+        (Reached (program_of uncut.now) seeds.now) (cut_of cuts)) }
+    ensures fits { IfOk result (λ cuts. CutsFit uncut.now.bytes (cut_of cuts)) }
 {
-    let reached = ReachedTerms::of(alloc, code, seeds)?;
-    cuts_from(alloc, code, &reached, tables)
+    // As the code of an image, it is lawful.
+    prove!(uncut.index().numbers() <= u32::MAX);
+    let jumps = cut_jumps(alloc, reached, cuts)?;
+    let wider = terms.wider(alloc, uncut, seeds, &jumps)?;
+    cuts_from(alloc, uncut, &wider, tables)
 }
 
-/// The same from what the program reaches from its seeds. The only error is that memory ran out.
+/// The cuts of jump tables, of which `tables` are all in the code. Those count whose jumps the
+/// program reaches from its seeds, by what was found of that. The only error is that memory ran out.
 pub fn cuts_from(
     alloc: Global,
     code: &Code,

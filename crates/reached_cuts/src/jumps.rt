@@ -3,7 +3,7 @@
 ghost use Rattle.std.specs.Prelude.{◌≡◌, ◌↔◌, ℕ, List, All, IfOk, IsTrue};
 ghost use Rattle.code_view.specs.Cuts.{cut_of};
 ghost use Rattle.code_view.specs.Tables.{AreTablesOf};
-ghost use Rattle.reached_cuts.specs.Counted.{AreReachedAmong};
+ghost use Rattle.reached_cuts.specs.Counted.{AreCutAmong, AreReachedAmong};
 ghost use Rattle.reached_cuts.specs.Reach.{IsReachOf};
 
 use crate::Memory;
@@ -31,6 +31,19 @@ pub fn reached_jumps(
         }
     }
     Ok(jumps)
+}
+
+/// Those of these jumps whose tables have a cut.
+pub(crate) fn cut_jumps(alloc: Global, jumps: &[TableJump], cuts: &Cuts) -> Result<Vec<u64>, Memory>
+    ensures { IfOk result (λ found. AreCutAmong jumps.now cuts.now found.items) }
+{
+    let mut found = Vec::new(alloc);
+    for jump in jumps {
+        if cuts.count(jump.jump).is_some() {
+            found.push(jump.jump)?;
+        }
+    }
+    Ok(found)
 }
 
 /// Whether the tables of all these jumps have the same cuts in both.

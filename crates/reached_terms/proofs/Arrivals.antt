@@ -2,7 +2,7 @@
 use Rattle.std.proofs.Common.{◌≡◌, ℕ, ◌<◌, ◌⊎◌, Bool, true, false, List, [], ◌∷◌, ◌++◌, length, get_or, set, IsSome, refl, sym, ap, ◌∙◌, subst, arith, inl, inr}
 use Rattle.std.specs.Prelude.{Contains}
 use Rattle.std.proofs.lemmas.List.{get_or_append_left, length_push, length-set}
-use Rattle.std.proofs.lemmas.List.Elements.{All-push, Contains-append_left, Contains-push}
+use Rattle.std.proofs.lemmas.List.Elements.{All-push, Contains-push}
 use Rattle.cfg_model.specs.Program.Instructions.{InstructionMap}
 use Rattle.cfg_model.specs.Program.Chain.{IsTerminator, IsTerminatorOf, OnChain}
 use Rattle.cfg_model.specs.Program.Reach.{Reached}
@@ -12,7 +12,7 @@ use Rattle.reached_terms.specs.declared.marks.Marks.{Marks}
 use Rattle.reached_terms.specs.Inner.Marks.{IsOn, AreKept, AreRight, AreTold, IsDone}
 use Rattle.reached_terms.specs.Inner.Steps.{Grow, Step}
 use Rattle.reached_terms.proofs.Bits.{on_set, on_kept, on_cases, one_less}
-use Rattle.reached_terms.proofs.Growth.{done-grow}
+use Rattle.reached_terms.proofs.Growth.{done-grow, listed-grow}
 
 -- what is reached along a chain
 pub reached_on : {map : InstructionMap} {seeds : List ℕ} {a k : ℕ} → OnChain map a k → Reached map seeds a → Reached map seeds k
@@ -46,29 +46,6 @@ module _ (map : InstructionMap) (number : ℕ → ℕ) (a k : ℕ) (old new : Ma
   stays : (n : ℕ) → IsOn old.reached.items n → IsOn new.reached.items n
   stays n on = rw reached (on_kept old.reached.items (number k) within n on)
 
-  arrive_kept : AreKept map number new
-  arrive_kept = record {
-    lawful = kept.lawful;
-    numbering = rw size kept.numbering;
-    returns = rw (size, same_returns) kept.returns;
-    waiting = rw (size, same_waiting) kept.waiting;
-    order = rw order (All-push (λ b. IsTerminator map b × IsOn new.reached.items (number b)) old.order.items k
-        (λ i d inside. let is = kept.order i d inside in (is.0, stays (number (get_or old.order.items i d)) is.1))
-        (ends.ends, rw reached (on_set old.reached.items (number k) within)));
-    listed = λ b b_has on. elim (on_cases old.reached.items (number k) within (number b) (rw reached at on)) [
-      | inl same ↦
-          let is : b ≡ k = kept.numbering.apart b k b_has has same in
-          rw order (subst (Contains (old.order.items ++ k ∷ [])) (sym is) (Contains-push old.order.items k))
-      | inr before ↦ rw order (Contains-append_left old.order.items (k ∷ []) b (kept.listed b b_has before))
-    ];
-    counted = rw (size, order, reached) (omega (arith, kept.counted, one_less old.reached.items (number k) within off, length_push old.order.items k));
-    ways = rw same_ways kept.ways;
-    untold = rw same_untold kept.untold;
-    last = rw (size, same_ways, same_waiting) kept.last;
-    before = rw same_ways kept.before;
-    sent = rw (size, same_sent) kept.sent;
-  }
-
   arrive_grow : Grow old new
   arrive_grow = record {
     size = size;
@@ -80,6 +57,33 @@ module _ (map : InstructionMap) (number : ℕ → ℕ) (a k : ℕ) (old new : Ma
     more = rw order (omega (arith, length_push old.order.items k));
     same = λ i d inside. rw order (get_or_append_left old.order.items (k ∷ []) d i inside);
     sent = λ x there. rw same_sent there;
+    counted = rw (order, reached) (omega (arith, one_less old.reached.items (number k) within off, length_push old.order.items k));
+  }
+
+  arrive_kept : AreKept map number new
+  arrive_kept = record {
+    lawful = kept.lawful;
+    numbering = rw size kept.numbering;
+    returns = rw (size, same_returns) kept.returns;
+    waiting = rw (size, same_waiting) kept.waiting;
+    order = rw order (All-push (λ b. IsTerminator map b × IsOn new.reached.items (number b)) old.order.items k
+        (λ i d inside. let is = kept.order i d inside in (is.0, stays (number (get_or old.order.items i d)) is.1))
+        (ends.ends, rw reached (on_set old.reached.items (number k) within)));
+    ends = λ b b_has on. elim (on_cases old.reached.items (number k) within (number b) (rw reached at on)) [
+      | inl same ↦ subst (IsTerminator map) (sym (kept.numbering.apart b k b_has has same)) ends.ends
+      | inr before ↦ kept.ends b b_has before
+    ];
+    listed = λ b b_has on. elim (on_cases old.reached.items (number k) within (number b) (rw reached at on)) [
+      | inl same ↦
+          let is : b ≡ k = kept.numbering.apart b k b_has has same in
+          inl (rw order (subst (Contains (old.order.items ++ k ∷ [])) (sym is) (Contains-push old.order.items k)))
+      | inr before ↦ listed-grow map number old new arrive_grow b (kept.listed b b_has before)
+    ];
+    ways = rw same_ways kept.ways;
+    untold = rw same_untold kept.untold;
+    last = rw (size, same_ways, same_waiting) kept.last;
+    before = rw same_ways kept.before;
+    sent = rw (size, same_sent) kept.sent;
   }
 
   arrive_right : (seeds : List ℕ) → AreRight map number seeds old → Reached map seeds a → AreRight map number seeds new
@@ -93,7 +97,7 @@ module _ (map : InstructionMap) (number : ℕ → ℕ) (a k : ℕ) (old new : Ma
     returns = rw same_returns right.returns;
     ways = rw same_ways right.ways;
     untold = rw same_untold right.untold;
-    sent = rw same_sent right.sent;
+    leads = rw same_sent right.leads;
   }
 
   arrive_told : (p at : ℕ) → AreTold map number old p at → AreTold map number new p at

@@ -7,10 +7,10 @@ use Rattle.std.proofs.lemmas.List.Elements.{All-push, Contains-append_left, Cont
 use Rattle.cfg_model.specs.Program.Instructions.{InstructionMap}
 use Rattle.reached_terms.specs.declared.marks.Way.{Way}
 use Rattle.reached_terms.specs.declared.marks.Marks.{Marks}
-use Rattle.reached_terms.specs.Inner.Marks.{IsOn, IsNumberOf, HasWay, IsWay, IsLast, AreKept, AreRight, AreTold, LeadsBy, ReturnsBy, IsDone, IsDoneBy}
+use Rattle.reached_terms.specs.Inner.Marks.{IsOn, IsNumberOf, HasWay, IsWay, IsLast, AreKept, AreRight, AreTold, LeadsBy, ReturnsBy, IsDone}
 use Rattle.reached_terms.specs.Inner.Steps.{Grow, Step, IsMarked, IsLinked, left_to_tell}
 use Rattle.reached_terms.proofs.Bits.{on_set, on_kept, on_cases, one_less, none_less, is_on}
-use Rattle.reached_terms.proofs.Growth.{done-grow, step-on}
+use Rattle.reached_terms.proofs.Growth.{done-grow, listed-grow}
 use Rattle.reached_terms.proofs.Links.{old_way, new_way, way_cases, last-kept, last-new, last-other}
 
 -- a number of an instruction is below their count
@@ -49,22 +49,6 @@ module _ (map : InstructionMap) (number : ℕ → ℕ) (n : ℕ) (old new : Mark
     | inr off ↦ subst (λ xs. All P xs) (sym off.1) (All-push P old.untold.items n all here)
   ]
 
-  mark_kept : AreKept map number new
-  mark_kept = record {
-    lawful = kept.lawful;
-    numbering = rw same_reached kept.numbering;
-    returns = rw (same_reached, marked.returns) (length-set old.returns.items n true ∙ kept.returns);
-    waiting = rw (same_reached, same_waiting) kept.waiting;
-    order = rw (same_reached, same_order) kept.order;
-    listed = rw (same_reached, same_order) kept.listed;
-    counted = rw (same_reached, same_order) kept.counted;
-    ways = rw same_ways kept.ways;
-    untold = mark_untold (IsNumberOf map number) is_number kept.untold;
-    last = rw (same_reached, same_ways, same_waiting) kept.last;
-    before = rw same_ways kept.before;
-    sent = rw (same_reached, same_sent) kept.sent;
-  }
-
   mark_grow : Grow old new
   mark_grow = record {
     size = rw same_reached refl;
@@ -76,6 +60,23 @@ module _ (map : InstructionMap) (number : ℕ → ℕ) (n : ℕ) (old new : Mark
     more = rw same_order (omega arith);
     same = λ i d inside. rw same_order refl;
     sent = λ a there. rw same_sent there;
+    counted = rw (same_reached, same_order) refl;
+  }
+
+  mark_kept : AreKept map number new
+  mark_kept = record {
+    lawful = kept.lawful;
+    numbering = rw same_reached kept.numbering;
+    returns = rw (same_reached, marked.returns) (length-set old.returns.items n true ∙ kept.returns);
+    waiting = rw (same_reached, same_waiting) kept.waiting;
+    order = rw (same_reached, same_order) kept.order;
+    ends = rw same_reached kept.ends;
+    listed = λ k k_has on. listed-grow map number old new mark_grow k (kept.listed k k_has (rw same_reached at on));
+    ways = rw same_ways kept.ways;
+    untold = mark_untold (IsNumberOf map number) is_number kept.untold;
+    last = rw (same_reached, same_ways, same_waiting) kept.last;
+    before = rw same_ways kept.before;
+    sent = rw (same_reached, same_sent) kept.sent;
   }
 
   mark_right : (seeds : List ℕ) → AreRight map number seeds old → ReturnsBy map number n → AreRight map number seeds new
@@ -87,7 +88,7 @@ module _ (map : InstructionMap) (number : ℕ → ℕ) (n : ℕ) (old new : Mark
     ];
     ways = rw same_ways right.ways;
     untold = mark_untold (ReturnsBy map number) given right.untold;
-    sent = rw same_sent right.sent;
+    leads = rw same_sent right.leads;
   }
 
   still_untold : (m : ℕ) → Contains old.untold.items m → Contains new.untold.items m
@@ -186,22 +187,6 @@ module _ (map : InstructionMap) (number : ℕ → ℕ) (from to : ℕ) (fall : O
         (last-kept old.ways.items way to (length old.ways.items) (get_or old.waiting.items to 0) (omega arith) (kept.last to 0 (number_below map number old kept to to_is)))))
   ]
 
-  link_kept : AreKept map number new
-  link_kept = record {
-    lawful = kept.lawful;
-    numbering = rw l_reached kept.numbering;
-    returns = rw (l_reached, l_returns) kept.returns;
-    waiting = rw (l_reached, linked.waiting) (length-set old.waiting.items to (length old.ways.items + 1) ∙ kept.waiting);
-    order = rw (l_reached, l_order) kept.order;
-    listed = rw (l_reached, l_order) kept.listed;
-    counted = rw (l_reached, l_order) kept.counted;
-    ways = rw linked.ways (All-push (IsWay map number) old.ways.items way kept.ways (record { from = from_is; to = to_is; fall = known }));
-    untold = rw l_untold kept.untold;
-    last = rw (l_reached, linked.ways, linked.waiting) link_last;
-    before = rw linked.ways link_before;
-    sent = rw (l_reached, l_sent) kept.sent;
-  }
-
   link_grow : Grow old new
   link_grow = record {
     size = rw l_reached refl;
@@ -213,6 +198,23 @@ module _ (map : InstructionMap) (number : ℕ → ℕ) (from to : ℕ) (fall : O
     more = rw l_order (omega arith);
     same = λ i d inside. rw l_order refl;
     sent = λ a there. rw l_sent there;
+    counted = rw (l_reached, l_order) refl;
+  }
+
+  link_kept : AreKept map number new
+  link_kept = record {
+    lawful = kept.lawful;
+    numbering = rw l_reached kept.numbering;
+    returns = rw (l_reached, l_returns) kept.returns;
+    waiting = rw (l_reached, linked.waiting) (length-set old.waiting.items to (length old.ways.items + 1) ∙ kept.waiting);
+    order = rw (l_reached, l_order) kept.order;
+    ends = rw l_reached kept.ends;
+    listed = λ k k_has on. listed-grow map number old new link_grow k (kept.listed k k_has (rw l_reached at on));
+    ways = rw linked.ways (All-push (IsWay map number) old.ways.items way kept.ways (record { from = from_is; to = to_is; fall = known }));
+    untold = rw l_untold kept.untold;
+    last = rw (l_reached, linked.ways, linked.waiting) link_last;
+    before = rw linked.ways link_before;
+    sent = rw (l_reached, l_sent) kept.sent;
   }
 
   link_right : (seeds : List ℕ) → AreRight map number seeds old → LeadsBy map number seeds from to fall → AreRight map number seeds new
@@ -221,11 +223,11 @@ module _ (map : InstructionMap) (number : ℕ → ℕ) (from to : ℕ) (fall : O
     returns = rw l_returns right.returns;
     ways = rw linked.ways (All-push (λ w. LeadsBy map number seeds w.from w.to w.fall) old.ways.items way right.ways given);
     untold = rw l_untold right.untold;
-    sent = rw l_sent right.sent;
+    leads = rw l_sent right.leads;
   }
 
-  link_told : (IsOn old.returns.items to → IsDoneBy map number old from fall) → (p at : ℕ) → AreTold map number old p at → AreTold map number new p at
-  link_told done p at told i d inside on = elim (way_cases old.ways.items way i (rw linked.ways at inside)) [
+  link_told : (IsOn old.returns.items to → ⊥) → (p at : ℕ) → AreTold map number old p at → AreTold map number new p at
+  link_told waits p at told i d inside on = elim (way_cases old.ways.items way i (rw linked.ways at inside)) [
     | inl less ↦
         let is : get_or new.ways.items i d ≡ get_or old.ways.items i d = ap (λ xs. get_or xs i d) linked.ways ∙ old_way old.ways.items way i d less in
         let w = get_or old.ways.items i d in
@@ -240,30 +242,14 @@ module _ (map : InstructionMap) (number : ℕ → ℕ) (from to : ℕ) (fall : O
         ])
     | inr same ↦
         let is : get_or new.ways.items i d ≡ way = ap (λ xs. get_or xs i d) linked.ways ∙ ap (λ k. get_or (old.ways.items ++ way ∷ []) k d) same ∙ new_way old.ways.items way d in
-        let was : IsOn old.returns.items to = subst (λ (v : Way). IsOn old.returns.items v.to) is (rw l_returns at on) in
-        subst (λ (v : Way). IsDone map number new v ⊎ (Contains new.untold.items v.to ⊎ ((v.to ≡ p) × (i < at)))) (sym is)
-        (inl (done-grow map number old new link_grow from fall (done was)))
+        absurd (waits (subst (λ (v : Way). IsOn old.returns.items v.to) is (rw l_returns at on)))
   ]
 
-  pub link-step : (IsOn old.returns.items to → IsDoneBy map number old from fall) → Step map number (λ seeds. LeadsBy map number seeds from to fall) old new
-  link-step done = record { kept = link_kept; grow = link_grow; right = link_right; told = link_told done; left = rw (l_returns, l_untold) (omega arith) }
+  -- it is linked only if its end is not known to return
+  pub link-step : (IsOn old.returns.items to → ⊥) → Step map number (λ seeds. LeadsBy map number seeds from to fall) old new
+  link-step waits = record { kept = link_kept; grow = link_grow; right = link_right; told = link_told waits; left = rw (l_returns, l_untold) (omega arith) }
 
 pub linked-way : (from to : ℕ) (fall : Option ℕ) (old new : Marks) → IsLinked from to fall old new → HasWay new.ways.items from to fall
 linked-way from to fall old new linked =
     let way : Way = record { from = from; to = to; fall = fall; before = linked.before } in
     record { way = way; there = rw linked.ways (Contains-push old.ways.items way); from_is = refl; to_is = refl; fall_is = refl }
-
--- ---- one more way, before which what follows is marked where its end returns
-
-module _ (map : InstructionMap) (number : ℕ → ℕ) (from to : ℕ) (fall : Option ℕ) (First : List ℕ → Type 0) (old mid new : Marks) (kept : AreKept map number old)
-    (from_is : IsNumberOf map number from) (to_is : IsNumberOf map number to) (known : IfSome fall (λ f. IsSome (map f))) (linked : IsLinked from to fall mid new) where
-  pub way-done : Step map number First old mid → IsDoneBy map number mid from fall → ((seeds : List ℕ) → AreRight map number seeds old → LeadsBy map number seeds from to fall → First seeds) → Step map number (λ seeds. LeadsBy map number seeds from to fall) old new
-  way-done first done to_first =
-      step-on map number First (λ seeds. LeadsBy map number seeds from to fall) (λ seeds. LeadsBy map number seeds from to fall) old mid new first
-      (link-step map number from to fall mid new first.kept from_is to_is known linked (λ on. done))
-      to_first (λ seeds right given. given)
-
-  pub way-waits : mid ≡ old → (IsOn old.returns.items to → ⊥) → Step map number (λ seeds. LeadsBy map number seeds from to fall) old new
-  way-waits same off =
-      let from_old : IsLinked from to fall old new = subst (λ m. IsLinked from to fall m new) same linked in
-      link-step map number from to fall old new kept from_is to_is known from_old (λ on. absurd (off on))

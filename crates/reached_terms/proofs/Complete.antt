@@ -16,8 +16,9 @@ use Rattle.cfg_model.proofs.Program.Listed.{none_in, in_cases}
 use Rattle.reached_terms.specs.declared.marks.Way.{Way}
 use Rattle.reached_terms.specs.declared.marks.Marks.{Marks}
 use Rattle.reached_terms.specs.Sent.{IsSent}
-use Rattle.reached_terms.proofs.Sending.{sends, falls, sent_leads, sent_reached, reached_stands}
-use Rattle.reached_terms.specs.Inner.Marks.{IsOn, HasWay, AreKept, AreRight, AreTold, IsVisited, IsDoneBy, IsLed}
+use Rattle.reached_terms.specs.Inner.Closing.{IsFrom}
+use Rattle.reached_terms.proofs.Sending.{sends, falls, sent_reached, reached_stands}
+use Rattle.reached_terms.specs.Inner.Marks.{IsOn, HasWay, AreKept, AreRight, AreTold, IsVisited, IsDoneBy, IsLed, IsCalled}
 
 -- ---- terminators
 
@@ -63,7 +64,7 @@ call_ends map a target fall call = subst EndsChain (sym call) tt
 module _ (map : InstructionMap) (number : ℕ → ℕ) (seeds : List ℕ) (known : All (λ s. IsSome (map s)) seeds) (m : Marks)
     (kept : AreKept map number m) (right : AreRight map number seeds m) (told : AreTold map number m 0 0) (none : length m.untold.items ≡ 0)
     (visited : (k : ℕ) → Contains m.order.items k → IsVisited map number m k)
-    (from_seeds : (s : ℕ) → Contains seeds s → (k : ℕ) × IsTerminatorOf map s k × IsOn m.reached.items (number k) × IsOn m.sent.items (number s)) where
+    (from_seeds : (s : ℕ) → Contains seeds s → IsFrom map number m s) where
   done_at : (from to : ℕ) (fall : Option ℕ) (has : HasWay m.ways.items from to fall) → IsOn m.returns.items to → IsDoneBy map number m has.way.from has.way.fall
   done_at from to fall has on =
       let i = has.there.0 in
@@ -85,10 +86,23 @@ module _ (map : InstructionMap) (number : ℕ → ℕ) (seeds : List ℕ) (known
       (subst (λ n. IsDoneBy map number m n has.way.fall) has.from_is (done_at from to fall has on))
 
   visit_of : (k : ℕ) → IsTerminator map k → IsOn m.reached.items (number k) → IsVisited map number m k
-  visit_of k ends on = visited k (kept.listed k (ends_stand (map k) ends) on)
+  visit_of k ends on = elim (kept.listed k (ends_stand (map k) ends) on) [
+    | inl there ↦ visited k there
+    | inr before ↦ before
+  ]
 
   returns_led : (a b : ℕ) → (led : IsLed map number m (number a) b) → IsOn m.returns.items (number led.end) → IsOn m.returns.items (number a)
-  returns_led a b led on = done (number a) (number led.end) None led.way on
+  returns_led a b led on = elim led.way [
+    | inl already ↦ already
+    | inr way ↦ done (number a) (number led.end) None way on
+  ]
+
+  -- a call whose target returns goes on at its fall
+  goes_on : (a target fall : ℕ) → (called : IsCalled map number m (number a) target (Some fall)) → IsOn m.returns.items (number called.end) → IsLed map number m (number a) fall
+  goes_on a target fall called on = elim called.way [
+    | inl led ↦ led
+    | inr way ↦ done (number a) (number called.end) (Some fall) way on
+  ]
 
   returns_marked : {a : ℕ} → Returns map a → (t : ℕ) → IsTerminatorOf map a t → IsOn m.reached.items (number t) → IsOn m.returns.items (number t)
   returns_marked (Returns.by_itself {a = a} leaves) t ends on =
@@ -107,7 +121,7 @@ module _ (map : InstructionMap) (number : ℕ → ℕ) (seeds : List ℕ) (known
       let stops = call_ends map a target (Some fall) call in
       let here : a ≡ t = ends_at map a t stops ends.reaches in
       let called = (visit_of a stops (subst (λ k. IsOn m.reached.items (number k)) (sym here) on)).called target (Some fall) call in
-      let led : IsLed map number m (number a) fall = done (number a) (number called.end) (Some fall) called.way (returns_marked first called.end called.ends called.reached) in
+      let led = goes_on a target fall called (returns_marked first called.end called.ends called.reached) in
       subst (λ k. IsOn m.returns.items (number k)) here
       (returns_led a fall led (returns_marked second led.end led.ends led.reached))
 
@@ -115,7 +129,7 @@ module _ (map : InstructionMap) (number : ℕ → ℕ) (seeds : List ℕ) (known
   same_end b e t one other on = subst (λ k. IsOn m.reached.items (number k)) (one_end map b e t one other) on
 
   reached_marked : {a : ℕ} → Reached map seeds a → (t : ℕ) → IsTerminatorOf map a t → IsOn m.reached.items (number t)
-  reached_marked (Reached.seed {a = a} there) t ends = let at = from_seeds a there in same_end a at.0 t at.1 ends at.2
+  reached_marked (Reached.seed {a = a} there) t ends = let at = from_seeds a there in same_end a at.end t at.ends ends at.reached
   reached_marked (Reached.onward {a = a} {b = b} reached next) t ends = elim (on_or_ends (targets_at map a) (flow_at map a) b next) [
     | inl goes ↦ reached_marked reached t (record { reaches = OnChain.on goes ends.reaches; ends = ends.ends })
     | inr stops ↦
@@ -129,12 +143,12 @@ module _ (map : InstructionMap) (number : ℕ → ℕ) (seeds : List ℕ) (known
   reached_marked (Reached.past_call {a = a} {target = target} {fall = fall} reached call returns) t ends =
       let stops = call_ends map a target (Some fall) call in
       let called = (visit_of a stops (reached_marked reached a (record { reaches = OnChain.here; ends = stops }))).called target (Some fall) call in
-      let led : IsLed map number m (number a) fall = done (number a) (number called.end) (Some fall) called.way (returns_marked returns called.end called.ends called.reached) in
+      let led = goes_on a target fall called (returns_marked returns called.end called.ends called.reached) in
       same_end fall led.end t led.ends ends led.reached
 
   -- where control is sent is marked
   sent_marked : (a : ℕ) → IsSent map seeds a → IsOn m.sent.items (number a)
-  sent_marked a (IsSent.seed there) = (from_seeds a there).3
+  sent_marked a (IsSent.seed there) = (from_seeds a there).sent
   sent_marked a (IsSent.target {k = k} {flow = flow} reached at there) =
       let from = sends map k a flow at there in
       let visit = visit_of k from.0 (reached_marked reached k (record { reaches = OnChain.here; ends = from.0 })) in
@@ -148,8 +162,7 @@ module _ (map : InstructionMap) (number : ℕ → ℕ) (seeds : List ℕ) (known
   sent_marked a (IsSent.past_call {k = k} {target = target} reached call returns) =
       let stops = call_ends map k target (Some a) call in
       let called = (visit_of k stops (reached_marked reached k (record { reaches = OnChain.here; ends = stops }))).called target (Some a) call in
-      let led : IsLed map number m (number k) a = done (number k) (number called.end) (Some a) called.way (returns_marked returns called.end called.ends called.reached) in
-      led.sent
+      (goes_on k target a called (returns_marked returns called.end called.ends called.reached)).sent
 
   pub exact : (k : ℕ) → IsTerminator map k → IsOn m.reached.items (number k) ↔ Reached map seeds k
   exact k ends = (
@@ -169,4 +182,4 @@ module _ (map : InstructionMap) (number : ℕ → ℕ) (seeds : List ℕ) (known
   starts_hold a sent = (reached_stands kept.lawful known (sent_reached map seeds a sent), sent_marked a sent)
 
   pub starts_lead : (a : ℕ) → IsSome (map a) × IsOn m.sent.items (number a) → IsLeader map seeds a
-  starts_lead a on = sent_leads map seeds a (right.sent a on.0 on.1)
+  starts_lead a on = right.leads a on.0 on.1

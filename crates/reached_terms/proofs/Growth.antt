@@ -1,9 +1,9 @@
 -- What holds of the marks stays as they grow.
-use Rattle.std.proofs.Common.{ℕ, List, Option, Some, None, refl, ◌∙◌, arith}
-use Rattle.std.specs.Prelude.{IfSome}
+use Rattle.std.proofs.Common.{ℕ, ◌⊎◌, List, Option, Some, None, refl, ◌∙◌, arith, inl, inr}
+use Rattle.std.specs.Prelude.{IfSome, Contains}
 use Rattle.cfg_model.specs.Program.Instructions.{InstructionMap}
 use Rattle.reached_terms.specs.declared.marks.Marks.{Marks}
-use Rattle.reached_terms.specs.Inner.Marks.{HasWay, IsLed, IsCalled, IsVisited, IsDoneBy, AreKept, AreRight}
+use Rattle.reached_terms.specs.Inner.Marks.{IsOn, HasWay, IsLed, IsCalled, IsVisited, IsDoneBy, AreKept, AreRight}
 use Rattle.reached_terms.specs.Inner.Steps.{Grow, Step}
 
 pub grow-none : (m : Marks) → Grow m m
@@ -17,6 +17,7 @@ grow-none m = record {
   more = omega arith;
   same = λ i d within. refl;
   sent = λ a there. there;
+  counted = refl;
 }
 
 pub grow-on : (a b c : Marks) → Grow a b → Grow b c → Grow a c
@@ -30,18 +31,24 @@ grow-on a b c first second = record {
   more = omega (arith, first.more, second.more);
   same = λ i d within. second.same i d (omega (arith, within, first.more)) ∙ first.same i d within;
   sent = λ x there. second.sent x (first.sent x there);
+  counted = second.counted ∙ first.counted;
 }
 
 module _ (map : InstructionMap) (number : ℕ → ℕ) (old new : Marks) (grow : Grow old new) where
   pub way-grow : (from to : ℕ) (fall : Option ℕ) → HasWay old.ways.items from to fall → HasWay new.ways.items from to fall
   way-grow from to fall has = record { way = has.way; there = grow.ways has.way has.there; from_is = has.from_is; to_is = has.to_is; fall_is = has.fall_is }
 
-  pub led-grow : (n b : ℕ) → IsLed map number old n b → IsLed map number new n b
-  led-grow n b led = record { end = led.end; ends = led.ends; reached = grow.reached (number led.end) led.reached; way = way-grow n (number led.end) None led.way; sent = grow.sent (number b) led.sent }
+  pub following-grow : (n t : ℕ) → IsOn old.returns.items n ⊎ HasWay old.ways.items n t None → IsOn new.returns.items n ⊎ HasWay new.ways.items n t None
+  following-grow n t (inl on) = inl (grow.returns n on)
+  following-grow n t (inr way) = inr (way-grow n t None way)
 
-  fall-grow : (n t : ℕ) (fall : Option ℕ) → IfSome fall (λ f. HasWay old.ways.items n t (Some f)) → IfSome fall (λ f. HasWay new.ways.items n t (Some f))
+  pub led-grow : (n b : ℕ) → IsLed map number old n b → IsLed map number new n b
+  led-grow n b led = record { end = led.end; ends = led.ends; reached = grow.reached (number led.end) led.reached; way = following-grow n (number led.end) led.way; sent = grow.sent (number b) led.sent }
+
+  fall-grow : (n t : ℕ) (fall : Option ℕ) → IfSome fall (λ f. IsLed map number old n f ⊎ HasWay old.ways.items n t (Some f)) → IfSome fall (λ f. IsLed map number new n f ⊎ HasWay new.ways.items n t (Some f))
   fall-grow n t None way = way
-  fall-grow n t (Some f) way = way-grow n t (Some f) way
+  fall-grow n t (Some f) (inl led) = inl (led-grow n f led)
+  fall-grow n t (Some f) (inr way) = inr (way-grow n t (Some f) way)
 
   pub called-grow : (n target : ℕ) (fall : Option ℕ) → IsCalled map number old n target fall → IsCalled map number new n target fall
   called-grow n target fall called = record { end = called.end; ends = called.ends; reached = grow.reached (number called.end) called.reached; way = fall-grow n (number called.end) fall called.way; sent = grow.sent (number target) called.sent }
@@ -60,6 +67,13 @@ module _ (map : InstructionMap) (number : ℕ → ℕ) (old new : Marks) (grow :
     itself = λ leaves. grow.returns (number k) (visited.itself leaves);
     called = λ target fall call. called-grow (number k) target fall (visited.called target fall call);
   }
+
+  pub order-grow : (k : ℕ) → Contains old.order.items k → Contains new.order.items k
+  order-grow k there = (there.0, omega (arith, there.1, grow.more), grow.same there.0 k there.1 ∙ there.2)
+
+  pub listed-grow : (k : ℕ) → Contains old.order.items k ⊎ IsVisited map number old k → Contains new.order.items k ⊎ IsVisited map number new k
+  listed-grow k (inl there) = inl (order-grow k there)
+  listed-grow k (inr visited) = inr (visited-grow k visited)
 
 -- ---- steps, one after another
 

@@ -1,5 +1,5 @@
 -- Why what is given to a change is so.
-use Rattle.std.proofs.Common.{◌≡◌, ℕ, List, [], ◌∷◌, ◌++◌, Option, Some, None, IsSome, refl, sym, ◌∙◌, subst, arith, ◌+◌, ◌<◌, ◌≤◌, length, take, get_or}
+use Rattle.std.proofs.Common.{◌≡◌, ◌⊎◌, ℕ, List, [], ◌∷◌, ◌++◌, Option, Some, None, IsSome, refl, sym, ◌∙◌, subst, arith, ◌+◌, ◌<◌, ◌≤◌, length, take, get_or}
 use Rattle.std.specs.Prelude.{OnOk, Result, Ok, Err, All}
 use Rattle.std.proofs.lemmas.List.{get_or_append_left, length_push, take_all, take_more}
 use Rattle.std.proofs.lemmas.List.Elements.{All-push, Contains-push}
@@ -11,7 +11,7 @@ use Rattle.cfg_model.proofs.Program.Along.{returns_along}
 use Rattle.reached_terms.specs.declared.marks.Marks.{Marks}
 use Rattle.numbered.specs.Numbering.{IsNumbering}
 use Rattle.reached_terms.specs.Sent.{IsSent}
-use Rattle.reached_terms.specs.Inner.Marks.{IsOn, IsNumberOf, AreKept, LeadsBy, LeadsOn, ReturnsBy, IsLed, IsCalled, HasWay}
+use Rattle.reached_terms.specs.Inner.Marks.{IsOn, IsNumberOf, AreKept, GoesOn, CallsOn, EndsBy, LeadsBy, LeadsOn, ReturnsBy, IsLed, IsCalled, HasWay}
 use Rattle.reached_terms.specs.Inner.Steps.{Grow, Step, IsArrived}
 use Rattle.reached_terms.proofs.Complete.{ends_stand}
 use Rattle.reached_terms.proofs.Growth.{led-grow, step-none, step-on}
@@ -26,47 +26,53 @@ module _ (map : InstructionMap) (number : ℕ → ℕ) where
   pub arrived_number : (m : Marks) (a n : ℕ) → IsArrived map number m a n → IsNumberOf map number n
   arrived_number m a n at = record { at = at.end; has = ends_stand (map at.end) at.ends.ends; is = at.is }
 
+  -- the terminator at which one arrived
+  end_by : (m : Marks) (b to : ℕ) → IsArrived map number m b to → EndsBy map number b to
+  end_by m b to at = record { end = at.end; ends = at.ends; is = at.is }
+
+  -- an address returns if the instruction with the number of its terminator does
+  end_returns : (b to : ℕ) → EndsBy map number b to → ReturnsBy map number to → Returns map b
+  end_returns b to by returns = returns_along by.ends.reaches (returns by.end (ends_stand (map by.end) by.ends.ends) by.is)
+
   -- what waits for the terminator at which one arrived
-  pub leads_by : (count : ℕ) → IsNumbering map number count → (seeds : List ℕ) (m : Marks) (from b to : ℕ) → IsArrived map number m b to → LeadsOn map number seeds from b → LeadsBy map number seeds from to None
-  leads_by count numbering seeds m from b to at leads f t f_has t_has f_is t_is returns =
-      let same : t ≡ at.end = numbering.apart t at.end t_has (ends_stand (map at.end) at.ends.ends) (sym t_is ∙ at.is) in
-      leads.1 f f_has f_is (returns_along at.ends.reaches (subst (Returns map) same returns))
+  pub leads_by : (seeds : List ℕ) (m : Marks) (from b to : ℕ) → IsArrived map number m b to → LeadsOn map number seeds from b → LeadsBy map number seeds from to None
+  leads_by seeds m from b to at leads = (leads.from, b, leads.goes, end_by m b to at)
 
-  pub leads_on : (seeds : List ℕ) (from to fall : ℕ) → IsNumberOf map number from → IsNumberOf map number to → ReturnsBy map number to → LeadsBy map number seeds from to (Some fall) → LeadsOn map number seeds from fall
-  leads_on seeds from to fall from_is to_is returns leads =
-      let t = to_is.at in
-      let t_returns : Returns map t = returns t to_is.has to_is.is in (
-        (leads from_is.at t from_is.has to_is.has from_is.is to_is.is t_returns).0,
-        λ a has is. (leads a t has to_is.has is to_is.is t_returns).1,
-      )
+  pub leads_on : (seeds : List ℕ) (from to fall : ℕ) → ReturnsBy map number to → LeadsBy map number seeds from to (Some fall) → LeadsOn map number seeds from fall
+  leads_on seeds from to fall returns (target, calls, by) =
+      let back : Returns map target = end_returns target to by returns in
+      record { from = calls.from; goes = GoesOn.past_call calls.call back; sent = IsSent.past_call calls.reached calls.call back }
 
-  pub returns_by : (seeds : List ℕ) (from to : ℕ) → IsNumberOf map number to → ReturnsBy map number to → LeadsBy map number seeds from to None → ReturnsBy map number from
-  returns_by seeds from to to_is returns leads a has is = leads a to_is.at has to_is.has is to_is.is (returns to_is.at to_is.has to_is.is)
+  pub goes_returns : (k b : ℕ) → GoesOn map k b → Returns map b → Returns map k
+  goes_returns k b (GoesOn.next next) returns = Returns.onward next returns
+  goes_returns k b (GoesOn.past_call call back) returns = Returns.past_call call back returns
+
+  pub returns_by : (count : ℕ) → IsNumbering map number count → (seeds : List ℕ) (from to : ℕ) → ReturnsBy map number to → LeadsBy map number seeds from to None → ReturnsBy map number from
+  returns_by count numbering seeds from to returns (place, b, goes, by) a has is =
+      let same : place.at ≡ a = numbering.apart place.at a place.has has (sym place.is ∙ is) in
+      subst (Returns map) same (goes_returns place.at b goes (end_returns b to by returns))
 
   -- a call that waits for its target
-  pub call_leads : (count : ℕ) → IsNumbering map number count → (seeds : List ℕ) (m : Marks) (from target to fall : ℕ) → IsArrived map number m target to → (Returns map target → LeadsOn map number seeds from fall) → LeadsBy map number seeds from to (Some fall)
-  call_leads count numbering seeds m from target to fall at leads f t f_has t_has f_is t_is returns =
-      let same : t ≡ at.end = numbering.apart t at.end t_has (ends_stand (map at.end) at.ends.ends) (sym t_is ∙ at.is) in
-      let on = leads (returns_along at.ends.reaches (subst (Returns map) same returns)) in
-      (on.0, on.1 f f_has f_is)
+  pub call_leads : (seeds : List ℕ) (m : Marks) (from target to fall : ℕ) → IsArrived map number m target to → CallsOn map number seeds from target fall → LeadsBy map number seeds from to (Some fall)
+  call_leads seeds m from target to fall at calls = (target, calls, end_by m target to at)
 
   -- where one arrived and linked
-  pub led : (old new : Marks) (n b to : ℕ) → IsArrived map number old b to → IsOn old.sent.items (number b) → Grow old new → HasWay new.ways.items n to None → IsLed map number new n b
+  pub led : (old new : Marks) (n b to : ℕ) → IsArrived map number old b to → IsOn old.sent.items (number b) → Grow old new → IsOn new.returns.items n ⊎ HasWay new.ways.items n to None → IsLed map number new n b
   led old new n b to at sent grow way = record {
     end = at.end;
     ends = at.ends;
     reached = grow.reached (number at.end) (subst (λ k. IsOn old.reached.items k) at.is at.reached);
-    way = subst (λ k. HasWay new.ways.items n k None) at.is way;
+    way = subst (λ k. IsOn new.returns.items n ⊎ HasWay new.ways.items n k None) at.is way;
     sent = grow.sent (number b) sent;
   }
 
   -- the same of the target of a call that has a fall
-  pub called : (old new : Marks) (n target to f : ℕ) → IsArrived map number old target to → IsOn old.sent.items (number target) → Grow old new → HasWay new.ways.items n to (Some f) → IsCalled map number new n target (Some f)
+  pub called : (old new : Marks) (n target to f : ℕ) → IsArrived map number old target to → IsOn old.sent.items (number target) → Grow old new → IsLed map number new n f ⊎ HasWay new.ways.items n to (Some f) → IsCalled map number new n target (Some f)
   called old new n target to f at sent grow way = record {
     end = at.end;
     ends = at.ends;
     reached = grow.reached (number at.end) (subst (λ k. IsOn old.reached.items k) at.is at.reached);
-    way = subst (λ k. HasWay new.ways.items n k (Some f)) at.is way;
+    way = subst (λ k. IsLed map number new n f ⊎ HasWay new.ways.items n k (Some f)) at.is way;
     sent = grow.sent (number target) sent;
   }
 
@@ -75,8 +81,8 @@ module _ (map : InstructionMap) (number : ℕ → ℕ) where
       → Step map number (λ seeds. LeadsBy map number seeds n to None) mid new → Step map number (λ seeds. LeadsOn map number seeds n b) old new
   lead-step old mid new n b to kept first at second =
       step-on map number (λ seeds. IsSent map seeds b) (λ seeds. LeadsBy map number seeds n to None) (λ seeds. LeadsOn map number seeds n b) old mid new first second
-      (λ seeds right given. given.0)
-      (λ seeds right given. leads_by _ kept.numbering seeds mid n b to at given)
+      (λ seeds right given. given.sent)
+      (λ seeds right given. leads_by seeds mid n b to at given)
 
 -- ---- by flow
 
@@ -88,10 +94,12 @@ module _ (map : InstructionMap) (number : ℕ → ℕ) (count : ℕ) (numbering 
   number_is = record { at = k; has = has; is = is }
 
   pub on_successor : (seeds : List ℕ) (b : ℕ) → IsSuccessor map k b → IsSent map seeds b → LeadsOn map number seeds n b
-  on_successor seeds b next sent = (sent, λ a a_has a_is returns. subst (Returns map) (same_place a a_has a_is) (Returns.onward next returns))
+  unfolding number_is
+  on_successor seeds b next sent = record { from = number_is; goes = GoesOn.next next; sent = sent }
 
-  pub on_fall : (seeds : List ℕ) (target fall : ℕ) → IsCall map k target (Some fall) → Reached map seeds k → Returns map target → LeadsOn map number seeds n fall
-  on_fall seeds target fall call reached returns = (IsSent.past_call reached call returns, λ a a_has a_is goes_on. subst (Returns map) (same_place a a_has a_is) (Returns.past_call call returns goes_on))
+  pub on_call : (seeds : List ℕ) (target fall : ℕ) → IsCall map k target (Some fall) → Reached map seeds k → CallsOn map number seeds n target fall
+  unfolding number_is
+  on_call seeds target fall call reached = record { from = number_is; call = call; reached = reached }
 
   pub on_itself : ReturnsByItself map k → ReturnsBy map number n
   on_itself leaves a a_has a_is = subst (Returns map) (same_place a a_has a_is) (Returns.by_itself leaves)

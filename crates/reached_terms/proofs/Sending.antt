@@ -18,7 +18,7 @@ use Rattle.reached_terms.specs.declared.marks.Marks.{Marks}
 use Rattle.reached_terms.specs.Sent.{IsSent}
 use Rattle.reached_terms.specs.Inner.Marks.{IsOn, AreKept, AreRight, AreTold, IsDone}
 use Rattle.reached_terms.specs.Inner.Steps.{Grow, Step}
-use Rattle.reached_terms.proofs.Growth.{done-grow, step-on}
+use Rattle.reached_terms.proofs.Growth.{done-grow, listed-grow, step-on}
 use Rattle.reached_terms.proofs.Bits.{on_kept, on_cases}
 use Rattle.reached_terms.proofs.Visits.{in_second, in_one}
 
@@ -108,22 +108,6 @@ module _ (map : InstructionMap) (number : ℕ → ℕ) (a : ℕ) (has : IsSome (
   s_untold : new.untold.items ≡ old.untold.items
   s_untold = ap (λ v. v.items) untold
 
-  note_kept : AreKept map number new
-  note_kept = record {
-    lawful = kept.lawful;
-    numbering = rw s_reached kept.numbering;
-    returns = rw (s_reached, s_returns) kept.returns;
-    waiting = rw (s_reached, s_waiting) kept.waiting;
-    order = rw (s_reached, s_order) kept.order;
-    listed = rw (s_reached, s_order) kept.listed;
-    counted = rw (s_reached, s_order) kept.counted;
-    ways = rw s_ways kept.ways;
-    untold = rw s_untold kept.untold;
-    last = rw (s_reached, s_ways, s_waiting) kept.last;
-    before = rw s_ways kept.before;
-    sent = rw (s_reached, sent) (length-set old.sent.items (number a) true ∙ kept.sent);
-  }
-
   note_grow : Grow old new
   note_grow = record {
     size = rw s_reached refl;
@@ -135,6 +119,23 @@ module _ (map : InstructionMap) (number : ℕ → ℕ) (a : ℕ) (has : IsSome (
     more = rw s_order (omega arith);
     same = λ i d inside. rw s_order refl;
     sent = λ n on. rw sent (on_kept old.sent.items (number a) within n on);
+    counted = rw (s_reached, s_order) refl;
+  }
+
+  note_kept : AreKept map number new
+  note_kept = record {
+    lawful = kept.lawful;
+    numbering = rw s_reached kept.numbering;
+    returns = rw (s_reached, s_returns) kept.returns;
+    waiting = rw (s_reached, s_waiting) kept.waiting;
+    order = rw (s_reached, s_order) kept.order;
+    ends = rw s_reached kept.ends;
+    listed = λ k k_has on. listed-grow map number old new note_grow k (kept.listed k k_has (rw s_reached at on));
+    ways = rw s_ways kept.ways;
+    untold = rw s_untold kept.untold;
+    last = rw (s_reached, s_ways, s_waiting) kept.last;
+    before = rw s_ways kept.before;
+    sent = rw (s_reached, sent) (length-set old.sent.items (number a) true ∙ kept.sent);
   }
 
   note_right : (seeds : List ℕ) → AreRight map number seeds old → IsSent map seeds a → AreRight map number seeds new
@@ -143,11 +144,11 @@ module _ (map : InstructionMap) (number : ℕ → ℕ) (a : ℕ) (has : IsSome (
     returns = rw s_returns right.returns;
     ways = rw s_ways right.ways;
     untold = rw s_untold right.untold;
-    sent = λ b b_has on. elim (on_cases old.sent.items (number a) within (number b) (rw sent at on)) [
+    leads = λ b b_has on. elim (on_cases old.sent.items (number a) within (number b) (rw sent at on)) [
       | inl same ↦
           let is : b ≡ a = kept.numbering.apart b a b_has has same in
-          subst (IsSent map seeds) (sym is) given
-      | inr before ↦ right.sent b b_has before
+          subst (IsLeader map seeds) (sym is) (sent_leads map seeds a given)
+      | inr before ↦ right.leads b b_has before
     ];
   }
 

@@ -9,7 +9,7 @@ use Rattle.reached_terms.specs.declared.marks.Way.{Way}
 use Rattle.reached_terms.specs.declared.marks.Marks.{Marks}
 use Rattle.reached_terms.specs.Inner.Marks.{IsOn, IsNumberOf, IsWay, IsLast, AreKept, AreRight, AreTold, LeadsBy, ReturnsBy, IsDone}
 use Rattle.reached_terms.specs.Inner.Steps.{Grow, Step, left_to_tell}
-use Rattle.reached_terms.proofs.Growth.{grow-none, grow-on, done-grow}
+use Rattle.reached_terms.proofs.Growth.{grow-none, grow-on, done-grow, listed-grow}
 
 -- On the way through those that wait for n: the one at the place at, from 1 on, comes next.
 pub record IsTelling (map : InstructionMap) (number : ℕ → ℕ) (n : ℕ) (start now : Marks) (at : ℕ) : Type 0 where
@@ -155,22 +155,6 @@ module _ (map : InstructionMap) (number : ℕ → ℕ) (n : ℕ) (old new : Mark
   pub popped-number : IsNumberOf map number n
   popped-number = last_of (IsNumberOf map number) kept.untold
 
-  pub popped-kept : AreKept map number new
-  popped-kept = record {
-    lawful = kept.lawful;
-    numbering = rw p_reached kept.numbering;
-    returns = rw (p_reached, p_returns) kept.returns;
-    waiting = rw (p_reached, p_waiting) kept.waiting;
-    order = rw (p_reached, p_order) kept.order;
-    listed = rw (p_reached, p_order) kept.listed;
-    counted = rw (p_reached, p_order) kept.counted;
-    ways = rw p_ways kept.ways;
-    untold = rest_of (IsNumberOf map number) kept.untold;
-    last = rw (p_reached, p_ways, p_waiting) kept.last;
-    before = rw p_ways kept.before;
-    sent = rw (p_reached, p_sent) kept.sent;
-  }
-
   pub popped-grow : Grow old new
   popped-grow = record {
     size = rw p_reached refl;
@@ -182,6 +166,23 @@ module _ (map : InstructionMap) (number : ℕ → ℕ) (n : ℕ) (old new : Mark
     more = rw p_order (omega arith);
     same = λ i d inside. rw p_order refl;
     sent = λ a there. rw p_sent there;
+    counted = rw (p_reached, p_order) refl;
+  }
+
+  pub popped-kept : AreKept map number new
+  popped-kept = record {
+    lawful = kept.lawful;
+    numbering = rw p_reached kept.numbering;
+    returns = rw (p_reached, p_returns) kept.returns;
+    waiting = rw (p_reached, p_waiting) kept.waiting;
+    order = rw (p_reached, p_order) kept.order;
+    ends = rw p_reached kept.ends;
+    listed = λ k k_has on. listed-grow map number old new popped-grow k (kept.listed k k_has (rw p_reached at on));
+    ways = rw p_ways kept.ways;
+    untold = rest_of (IsNumberOf map number) kept.untold;
+    last = rw (p_reached, p_ways, p_waiting) kept.last;
+    before = rw p_ways kept.before;
+    sent = rw (p_reached, p_sent) kept.sent;
   }
 
   pub popped-right : (seeds : List ℕ) → AreRight map number seeds old → AreRight map number seeds new × ReturnsBy map number n
@@ -191,7 +192,7 @@ module _ (map : InstructionMap) (number : ℕ → ℕ) (n : ℕ) (old new : Mark
       returns = rw p_returns right.returns;
       ways = rw p_ways right.ways;
       untold = rest_of (ReturnsBy map number) right.untold;
-      sent = rw p_sent right.sent;
+      leads = rw p_sent right.leads;
     },
     last_of (ReturnsBy map number) right.untold,
   )
@@ -274,6 +275,23 @@ module _ (map : InstructionMap) (number : ℕ → ℕ) (old new : Marks)
     more = rw n_order (omega arith);
     same = λ i d inside. rw n_order refl;
     sent = λ a there. rw n_sent there;
+    counted = rw (n_reached, n_order) refl;
+  }
+
+  pub none-kept : new.waiting.items ≡ old.waiting.items → AreKept map number old → AreKept map number new
+  none-kept waiting kept = record {
+    lawful = kept.lawful;
+    numbering = rw n_reached kept.numbering;
+    returns = rw (n_reached, n_returns) kept.returns;
+    waiting = rw (n_reached, waiting) kept.waiting;
+    order = rw (n_reached, n_order) kept.order;
+    ends = rw n_reached kept.ends;
+    listed = λ k k_has on. listed-grow map number old new n_grow k (kept.listed k k_has (rw n_reached at on));
+    ways = rw n_ways kept.ways;
+    untold = λ i d below. absurd (omega (arith, below, new_none));
+    last = rw (n_reached, n_ways, waiting) kept.last;
+    before = rw n_ways kept.before;
+    sent = rw (n_reached, n_sent) kept.sent;
   }
 
   pub none-right : (seeds : List ℕ) → AreRight map number seeds old → AreRight map number seeds new
@@ -282,7 +300,7 @@ module _ (map : InstructionMap) (number : ℕ → ℕ) (old new : Marks)
     returns = rw n_returns right.returns;
     ways = rw n_ways right.ways;
     untold = λ k d below. absurd (omega (arith, below, new_none));
-    sent = rw n_sent right.sent;
+    leads = rw n_sent right.leads;
   }
 
   pub none-told : (n : ℕ) → AreTold map number old n 0 → AreTold map number new n 0

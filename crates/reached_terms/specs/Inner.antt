@@ -1,3 +1,5 @@
 -- Words that contracts of private functions cite; no definition stands on them.
 pub mod Marks
 pub mod Steps
+pub mod Closing
+pub mod Resuming

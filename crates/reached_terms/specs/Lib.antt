@@ -1,3 +1,4 @@
 pub mod Reached
 pub mod Sent
+pub mod Wider
 pub mod Inner

@@ -8,10 +8,14 @@
 //! marks are kept: of what is reached, of what returns, and of where control is sent.
 //!
 //! - `marks`: what is known of the terminators, and the changes of it.
-//! - `reached`: the closure from the seeds.
+//! - `closure`: the closure from the seeds.
+//! - `reached`: what a program reaches, as marks.
+//! - `wider`: what a wider program reaches, found from there.
 #![tactic(auto)]
 
+mod closure;
 mod marks;
 mod reached;
+mod wider;
 
 pub use reached::ReachedTerms;

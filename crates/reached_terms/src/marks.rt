@@ -1,19 +1,20 @@
 //! What is known of the terminators of a program, by number, and the changes of it.
 
-ghost use Rattle.std.specs.Prelude.{◌≡◌, ◌↔◌, ◌+◌, ◌≤◌, ◌<◌, ℕ, List, length, get_or, IsTrue};
+ghost use Rattle.std.specs.Prelude.{◌≡◌, ◌↔◌, ◌⊎◌, ◌+◌, ◌≤◌, ◌<◌, ℕ, List, length, get_or, IsTrue};
 ghost use Rattle.std.specs.Prelude.{IfOk, OnOk, IsSome, IfSome, All, option_to_list, ⊤, None, Some};
 ghost use Rattle.cfg_model.specs.Program.Instructions.{InstructionMap, IsLawful, targets_at};
 ghost use Rattle.cfg_model.specs.Program.Chain.{IsTerminator, IsTerminatorOf};
 ghost use Rattle.cfg_model.specs.Program.Reach.{Reached};
-ghost use Rattle.cfg_model.specs.Program.Status.{Returns};
 ghost use Rattle.numbered.specs.Numbering.{IsNumbering};
 ghost use Rattle.reached_terms.specs.Sent.{IsSent};
 ghost use Rattle.reached_terms.specs.Inner.Marks.{AreKept, AreRight, AreTold, IsCalled, IsDone};
 ghost use Rattle.reached_terms.specs.Inner.Marks.{IsLed, IsNumberOf, IsOn, IsVisited, IsWay, HasWay};
-ghost use Rattle.reached_terms.specs.Inner.Marks.{IsCutOff, LeadsBy, LeadsOn, ReturnsBy};
+ghost use Rattle.reached_terms.specs.Inner.Marks.{CallsOn, IsCutOff, LeadsBy, LeadsOn, ReturnsBy};
+ghost use Rattle.reached_terms.specs.Inner.Marks.{terms_of};
 ghost use Rattle.reached_terms.specs.Inner.Steps.{Grow, IsArrived, IsLinked, IsMarked, Step};
 ghost use Rattle.reached_terms.specs.Inner.Steps.{left_to_tell};
 
+use crate::reached::ReachedTerms;
 use cfg_model::{Flow, Memory};
 use numbered::Numbered;
 use std::alloc::Global;
@@ -41,13 +42,13 @@ pub(crate) struct Marks {
     pub(crate) returns: Vec<bool>,
     /// The place of the last one that waits for it, from 1 on; 0 if there is none.
     pub(crate) waiting: Vec<u32>,
-    /// The reached terminators, in the order in which they were found.
+    /// The reached terminators to visit, in the order in which they were found.
     pub(crate) order: Vec<u64>,
     /// Who waits for whom.
     pub(crate) ways: Vec<Way>,
     /// The numbers of those that return, but whose callers have not been told yet.
     pub(crate) untold: Vec<u32>,
-    /// Whether control is sent to the address with this number.
+    /// Whether a block is known to start at the address with this number, as where control is sent.
     pub(crate) sent: Vec<bool>,
 }
 
@@ -72,6 +73,14 @@ impl Marks {
             untold: Vec::new(alloc),
             sent: vec![in alloc; false; count]?,
         })
+    }
+
+    /// What is marked: of each terminator whether it is reached, and whether it returns, and of each
+    /// address whether a block is known to start there.
+    pub(crate) fn into_terms(self) -> ReachedTerms
+        ensures { result ≡ terms_of self }
+    {
+        ReachedTerms::from_marks(self.reached, self.returns, self.sent)
     }
 
     /// Control is sent to `a`: notes that, marks the terminator of `a` as reached, and answers its
@@ -149,10 +158,14 @@ impl Marks {
         ensures step { OnOk result ((map : InstructionMap) (number : ℕ → ℕ)
             → AreKept map number self.old → IsNumberOf map number from → IsNumberOf map number to
             → Step map number (λ seeds. LeadsBy map number seeds from to None) self.old self.new) }
-        ensures way { OnOk result (HasWay self.new.ways.items from to None) }
+        ensures way { OnOk result (IsOn self.new.returns.items from
+            ⊎ HasWay self.new.ways.items from to None) }
     {
+        if self.returns[from as usize] {
+            return Ok(());
+        }
         if self.returns[to as usize] {
-            self.mark(from)?;
+            return self.mark(from);
         }
         self.link(from, to, None)
     }
@@ -193,12 +206,15 @@ impl Marks {
         ensures step { OnOk result (Step (C.map code.now) (C.number code.now)
             (λ seeds. LeadsBy (C.map code.now) (C.number code.now) seeds from to (Some fall))
             self.old self.new) }
-        ensures way { OnOk result (HasWay self.new.ways.items from to (Some fall)) }
+        ensures way { OnOk result
+            (IsLed (C.map code.now) (C.number code.now) self.new from fall
+            ⊎ HasWay self.new.ways.items from to (Some fall)) }
     {
         if self.returns[to as usize] {
-            self.release(code, from, fall)?;
+            self.release(code, from, fall)
+        } else {
+            self.link(from, to, Some(fall))
         }
-        self.link(from, to, Some(fall))
     }
 
     /// Links a way to the terminator that it leads to.
@@ -262,6 +278,7 @@ impl Marks {
     }
 
     /// Follows the instruction at the reached terminator `k`.
+    #[inline(always)]
     pub(crate) fn visit<C: Numbered>(&mut self, code: &C, k: u64) -> Result<(), Memory>
         requires kept { AreKept (C.map code.now) (C.number code.now) self.old }
         requires ends { IsTerminator (C.map code.now) k }
@@ -357,8 +374,8 @@ impl Marks {
         requires fall { IfSome fall (λ a. IsSome (C.map code.now a)) }
         ensures step { OnOk result (Step (C.map code.now) (C.number code.now)
             (λ seeds. IsSent (C.map code.now) seeds target
-            × IfSome fall (λ f. Returns (C.map code.now) target
-            → LeadsOn (C.map code.now) (C.number code.now) seeds n f)) self.old self.new) }
+            × IfSome fall (CallsOn (C.map code.now) (C.number code.now) seeds n target))
+            self.old self.new) }
         ensures called { OnOk result
             (IsCalled (C.map code.now) (C.number code.now) self.new n target fall) }
     {

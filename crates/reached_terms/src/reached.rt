@@ -1,16 +1,14 @@
 //! What a program reaches from its seeds.
 
-ghost use Rattle.std.specs.Prelude.{◌≡◌, ◌↔◌, ℕ, List, length, IfOk, OnOk, IsSome, IsTrue, All};
+ghost use Rattle.std.specs.Prelude.{◌≡◌, ◌↔◌, ℕ, List, IfOk, IsSome, IsTrue, All};
 ghost use Rattle.std.specs.Prelude.{Contains};
 ghost use Rattle.std.specs.List.Sorted.{IsStrictlyIncreasing};
 ghost use Rattle.cfg_model.specs.Program.Chain.{IsTerminator};
 ghost use Rattle.cfg_model.specs.Program.Reach.{Reached};
 ghost use Rattle.cfg_model.specs.Program.Status.{Returns};
 ghost use Rattle.reached_terms.specs.Reached.{AreReachedTerms};
-ghost use Rattle.reached_terms.specs.Inner.Marks.{AreKept, AreRight, AreTold};
-ghost use Rattle.reached_terms.specs.Inner.Steps.{Grow};
 
-use crate::marks::Marks;
+use crate::closure::closure_of;
 use cfg_model::Memory;
 use numbered::{Numbered, marked_addresses, marked_among};
 use std::alloc::Global;
@@ -21,9 +19,9 @@ use std::marker::Model;
 /// known to start at least where control is sent. To a contract it is these marks, by number.
 #[derive(Drop)]
 pub struct ReachedTerms {
-    reached: Vec<bool>,
-    returns: Vec<bool>,
-    starts: Vec<bool>,
+    pub(crate) reached: Vec<bool>,
+    pub(crate) returns: Vec<bool>,
+    pub(crate) starts: Vec<bool>,
 }
 
 impl Model for ReachedTerms {
@@ -66,22 +64,7 @@ impl ReachedTerms {
         requires { All (λ a. IsSome (C.map code.now a)) seeds.now }
         ensures { IfOk result (AreReachedTerms (C.map code.now) (C.number code.now) seeds.now) }
     {
-        let mut marks = Marks::new(alloc, code.numbers())?;
-        for &seed in seeds {
-            marks.arrive(code, seed)?;
-        }
-        let mut i = 0;
-        while i < marks.order.len() {
-            let k = marks.order[i];
-            marks.visit(code, k)?;
-            notify_all(&mut marks, code)?;
-            i += 1;
-        }
-        Ok(ReachedTerms {
-            reached: marks.reached,
-            returns: marks.returns,
-            starts: marks.sent,
-        })
+        Ok(closure_of(alloc, code, seeds)?.into_terms())
     }
 
     /// Whether the terminator at `k` is reached.
@@ -129,23 +112,4 @@ impl ReachedTerms {
         let reached = marked_addresses(alloc, code, &self.reached)?;
         marked_among(alloc, code, &self.returns, &reached)
     }
-}
-
-/// Notifies all that wait for a terminator that returns, until there is none left to be told.
-fn notify_all<C: Numbered>(marks: &mut Marks, code: &C) -> Result<(), Memory>
-    requires kept { AreKept (C.map code.now) (C.number code.now) marks.old }
-    ensures kept { OnOk result (AreKept (C.map code.now) (C.number code.now) marks.new) }
-    ensures grow { OnOk result (Grow marks.old marks.new) }
-    ensures right { OnOk result ((seeds : List ℕ)
-        → AreRight (C.map code.now) (C.number code.now) seeds marks.old
-        → AreRight (C.map code.now) (C.number code.now) seeds marks.new) }
-    ensures told { OnOk result
-        (((n : ℕ) → AreTold (C.map code.now) (C.number code.now) marks.old n 0)
-        → (n : ℕ) → AreTold (C.map code.now) (C.number code.now) marks.new n 0) }
-    ensures none { OnOk result (length marks.new.untold.items ≡ 0) }
-{
-    while let Some(n) = marks.untold.pop() {
-        marks.notify(code, n)?;
-    }
-    Ok(())
 }

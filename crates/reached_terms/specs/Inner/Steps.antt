@@ -11,7 +11,11 @@ use Rattle.reached_terms.specs.Inner.Marks.{IsOn, count_off, AreKept, AreRight, 
 abbrev pub left_to_tell : Marks → ℕ
 left_to_tell m = count_off m.returns.items + length m.untold.items
 
--- What was marked, linked and listed stays.
+-- How many may have to be visited: those that were found, and those that are not reached.
+abbrev pub left_to_visit : Marks → ℕ
+left_to_visit m = count_off m.reached.items + length m.order.items
+
+-- What was marked, linked and listed stays. Each that is marked as reached since is listed once.
 pub record Grow (old new : Marks) : Type 0 where
   pub size : length new.reached.items ≡ length old.reached.items
   pub reached : (n : ℕ) → IsOn old.reached.items n → IsOn new.reached.items n
@@ -24,6 +28,7 @@ pub record Grow (old new : Marks) : Type 0 where
   pub same : (i d : ℕ) → i < length old.order.items
       → get_or new.order.items i d ≡ get_or old.order.items i d
   pub sent : (n : ℕ) → IsOn old.sent.items n → IsOn new.sent.items n
+  pub counted : left_to_visit new ≡ left_to_visit old
 
 -- A change of the marks that keeps what holds of them. They stay right if what is given is so.
 pub record Step (map : InstructionMap) (number : ℕ → ℕ) (Given : List ℕ → Type 0)

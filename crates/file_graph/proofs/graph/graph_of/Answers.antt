@@ -10,7 +10,7 @@ use Rattle.code_view.proofs.Views.{none-fits}
 use Rattle.file_program.specs.FileGraph.{AreCutsOf, IsGraphOf}
 use Rattle.file_program.proofs.UnderCuts.{program-is, graph-under}
 use Rattle.file_graph.specs.Inner.{AreReachedUnder, ShowTheGraph}
-use Rattle.file_graph.proofs.Likely.{reached-under}
+use Rattle.file_graph.proofs.Likely.{reached-under, reach-under}
 use Rattle.file_graph.proofs.graph.graph_of.Goals as goal
 
 -- What is answered of other cuts.
@@ -37,13 +37,18 @@ other_cuts-requires-clause-reached g c =
     (reached-under bytes from c.in_ok-likely.likely c.under-code.result c.jumps.result.now c.in_ok-counted.counted.items c.under-code.ensures.bytes c.under-code.ensures.cuts seeds-are listed
     (c.in_ok-counted.ensures from c.in_ok-reached.ensures))
 
+pub other_cuts-requires-clause-terms : goal.other_cuts-requires-clause-terms
+other_cuts-requires-clause-terms g c =
+    reach-under c.with_tables-uncut.result c.under-code.result c.in_ok-likely.likely c.addresses.result.now _ c.in_ok-reached.reached c.under-code.ensures.bytes c.under-code.ensures.cuts c.addresses.ensures.addresses
+    c.in_ok-reached.ensures
+
 pub returns : goal.returns
 returns g c =
     let uncut : FileCode = c.with_tables-uncut.result in
     let bytes = c.args.image.now in
     let same : uncut.bytes ≡ bytes = ap (λ (f : FileCode). f.bytes) c.with_tables-uncut.ensures ∙ c.new-uncut.ensures.bytes in
     let cuts : Counts = c.in-Some.cuts in
-    let own = subst (OwnOrShown uncut.bytes c.in_ok-likely.likely) c.in-Some.is c.in_ok-other_cuts.ensures in
+    let own = subst (OwnOrShown uncut.bytes c.in_ok-likely.likely) c.in-Some.is c.in_ok-others.ensures in
     IfOk-weaker c.graph_anew.result _ (IsGraphOf bytes)
     (λ graph is. record {
       cuts = cuts;
@@ -59,7 +64,7 @@ returns-in-None g c =
     let bytes = uncut.bytes in
     let same : bytes ≡ c.args.image.now = ap (λ (f : FileCode). f.bytes) c.with_tables-uncut.ensures ∙ c.new-uncut.ensures.bytes in
     let likely : Counts = c.in_ok-likely.likely in
-    let shows = subst (OwnOrShown bytes likely) c.in-None.is c.in_ok-other_cuts.ensures in
+    let shows = subst (OwnOrShown bytes likely) c.in-None.is c.in_ok-others.ensures in
     IfOk-weaker c.graph.result _ (IsGraphOf c.args.image.now)
     (λ graph is.
     subst (λ (b : List ℕ). IsGraphOf b graph) same

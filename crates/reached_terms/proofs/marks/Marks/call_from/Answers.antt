@@ -1,9 +1,8 @@
 use Rattle.std.proofs.Common.{Some, sym, subst}
 use Rattle.std.specs.Prelude.{IfSome, OnOk}
 use Rattle.std.proofs.lemmas.Result.{on_ok_weaker}
-use Rattle.cfg_model.specs.Program.Status.{Returns}
 use Rattle.reached_terms.specs.Sent.{IsSent}
-use Rattle.reached_terms.specs.Inner.Marks.{IsCalled, LeadsBy, LeadsOn}
+use Rattle.reached_terms.specs.Inner.Marks.{CallsOn, IsCalled, LeadsBy}
 use Rattle.reached_terms.proofs.Growth.{step-on}
 use Rattle.reached_terms.proofs.Leading.{call_leads, called, on_both}
 use Rattle.reached_terms.proofs.marks.Marks.call_from.Goals as goal
@@ -22,7 +21,7 @@ returns-in-Some-clause-step g c =
     on_ok_weaker c.call.result
     (λ step. step-on map number (λ seeds. IsSent map seeds target) (λ seeds. LeadsBy map number seeds n to (Some fall)) _ c.args.self.now mid c.call.new.self first step
     (λ seeds right given. given.0)
-    (λ seeds right given. call_leads map number _ first.kept.numbering seeds mid n target to fall at (subst (λ o. IfSome o (λ f. Returns map target → LeadsOn map number seeds n f)) c.in-Some.is given.1)))
+    (λ seeds right given. call_leads map number seeds mid n target to fall at (subst (λ o. IfSome o (CallsOn map number seeds n target)) c.in-Some.is given.1)))
     c.call.ensures.step
 
 pub returns-in-Some-clause-called : goal.returns-in-Some-clause-called

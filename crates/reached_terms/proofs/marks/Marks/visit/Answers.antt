@@ -5,15 +5,14 @@ use Rattle.cfg_model.specs.declared.flow.Flow.TheVariants.{Branch, Jump, Call, I
 use Rattle.cfg_model.specs.Program.Instructions.{targets_at}
 use Rattle.cfg_model.specs.Program.Successors.{LeavesFunction, ReturnsByItself}
 use Rattle.cfg_model.specs.Program.Reach.{Reached}
-use Rattle.cfg_model.specs.Program.Status.{Returns}
 use Rattle.cfg_model.proofs.Program.Known.{successor_from_flow}
 use Rattle.cfg_model.proofs.Program.Listed.{head_in}
 use Rattle.reached_terms.specs.Sent.{IsSent}
-use Rattle.reached_terms.specs.Inner.Marks.{ReturnsBy, LeadsOn}
+use Rattle.reached_terms.specs.Inner.Marks.{CallsOn, LeadsOn, ReturnsBy}
 use Rattle.reached_terms.proofs.Changes.{mark-step}
 use Rattle.reached_terms.proofs.Complete.{ends_stand}
 use Rattle.reached_terms.proofs.Growth.{step-given}
-use Rattle.reached_terms.proofs.Leading.{on_successor, on_fall, on_itself, number_is}
+use Rattle.reached_terms.proofs.Leading.{on_successor, on_call, on_itself, number_is}
 use Rattle.reached_terms.proofs.Visits.{some_of, in_first, in_second, in_one, leaves_so, table_visited}
 use Rattle.reached_terms.proofs.marks.Marks.visit.Goals as goal
 
@@ -64,8 +63,8 @@ returns-in-Call-clause-step g c =
     (λ step. step-given map number _ (λ seeds. Reached map seeds k) c.args.self.now c.call_from.new.self step
     (λ seeds right reached. (
       IsSent.target reached call (head_in target []),
-      some_of (λ f. Returns map target → LeadsOn map number seeds n f) fall
-          (λ f is returns. on_fall map number _ c.requires.kept.numbering n k has c.number-n.ensures seeds target f (call ∙ ap (λ o. Some (Call target o)) is) reached returns),
+      some_of (CallsOn map number seeds n target) fall
+          (λ f is. on_call map number _ c.requires.kept.numbering n k has c.number-n.ensures seeds target f (call ∙ ap (λ o. Some (Call target o)) is) reached),
     )))
     c.call_from.ensures.step
 

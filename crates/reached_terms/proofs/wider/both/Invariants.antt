@@ -1,0 +1,6 @@
+use Rattle.reached_terms.specs.Inner.Marks.{IsOn}
+use Rattle.reached_terms.proofs.Marked.{AreKeptBelow}
+use Rattle.reached_terms.proofs.wider.both.Given as goal
+
+abbrev pub invariant-loop-n : goal.invariant-loop-n
+invariant-loop-n l = AreKeptBelow (λ n. IsOn l.other n) l.one l.marks.items l.n
