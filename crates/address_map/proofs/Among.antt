@@ -1,5 +1,5 @@
 -- What is found among the entries of an address map: what a look at each of them has shown.
-use Rattle.std.proofs.Common.{◌≡◌, ℕ, suc, ◌+◌, ◌<◌, ◌≤◌, Bool, cond, true, false, refl, List, [], ◌∷◌, ◌++◌, length, get_or, subst, sym, ap, ◌∙◌, arith, below_more}
+use Rattle.std.proofs.Common.{◌≡◌, ◌⊎◌, inl, inr, ⊎_elim, ℕ, suc, ◌+◌, ◌<◌, ◌≤◌, Bool, cond, true, false, refl, List, [], ◌∷◌, ◌++◌, length, get_or, subst, sym, ap, ◌∙◌, arith, below_more}
 use Rattle.std.specs.Prelude.{Option, Some, None, is_some}
 use Rattle.std.specs.Ordering.{nat_cmp, eq_by_cmp}
 use Rattle.std.specs.Cmp.{nat_cmp_total}
@@ -61,20 +61,23 @@ module _ {X A : Type 0} (At : ℕ → X → A → Type 0) where
   abbrev pub IsFoundAhead : List (ℕ × maps.FinMap nat_cmp X) → A → Type 0
   IsFoundAhead rest thing = IsFoundAmong At (maps.from_entries (chunk_entries rest)) thing
 
-  pub over_less : (chunk : maps.FinMap nat_cmp X) (n : ℕ) (rest : List (ℕ × maps.FinMap nat_cmp X)) → ((thing : A) → ¬ IsFoundAmong At chunk thing) → (thing : A) → IsFoundAhead ((n, chunk) ∷ rest) thing → IsFoundAhead rest thing
-  over_less chunk n rest none thing found =
+  pub over_parts : (chunk : maps.FinMap nat_cmp X) (n : ℕ) (rest : List (ℕ × maps.FinMap nat_cmp X)) (thing : A) → IsFoundAhead ((n, chunk) ∷ rest) thing → IsFoundAmong At chunk thing ⊎ IsFoundAhead rest thing
+  over_parts chunk n rest thing found =
       by (maps.get chunk found.key) refl
       (ap (λ o. or_else o (find nat_cmp found.key (chunk_entries rest))) (maps.get-entries chunk found.key)
       ∙ sym (find_append found.key (maps.entries chunk) (chunk_entries rest)) ∙ sym (maps.get-from_entries nat_cmp_total (maps.entries chunk ++ chunk_entries rest) found.key) ∙ found.has)
     where
-      by : (o : Option X) → maps.get chunk found.key ≡ o → or_else o (find nat_cmp found.key (chunk_entries rest)) ≡ Some found.entry → IsFoundAhead rest thing
-      by (Some x) here has = absurd (none thing (record { key = found.key; entry = found.entry; has = here ∙ has; there = found.there }))
-      by None here has = record {
+      by : (o : Option X) → maps.get chunk found.key ≡ o → or_else o (find nat_cmp found.key (chunk_entries rest)) ≡ Some found.entry → IsFoundAmong At chunk thing ⊎ IsFoundAhead rest thing
+      by (Some x) here has = inl (record { key = found.key; entry = found.entry; has = here ∙ has; there = found.there })
+      by None here has = inr (record {
         key = found.key;
         entry = found.entry;
         has = maps.get-from_entries nat_cmp_total (chunk_entries rest) found.key ∙ has;
         there = found.there;
-      }
+      })
+
+  pub over_less : (chunk : maps.FinMap nat_cmp X) (n : ℕ) (rest : List (ℕ × maps.FinMap nat_cmp X)) → ((thing : A) → ¬ IsFoundAmong At chunk thing) → (thing : A) → IsFoundAhead ((n, chunk) ∷ rest) thing → IsFoundAhead rest thing
+  over_less chunk n rest none thing found = ⊎_elim (λ here. absurd (none thing here)) (λ later. later) (over_parts chunk n rest thing found)
 
   pub over_none : (thing : A) → ¬ IsFoundAhead [] thing
   over_none thing found = none (maps.get (maps.from_entries []) found.key) (maps.get-from_entries nat_cmp_total [] found.key) found.has

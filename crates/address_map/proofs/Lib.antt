@@ -12,4 +12,5 @@ pub mod EntriesKept
 pub mod NearAndFar
 pub mod Among
 pub mod AmongParts
+pub mod Gathered
 pub mod Worked

@@ -1,7 +1,7 @@
 -- The near and the far addresses of a map, and the map.
 use Rattle.std.proofs.Common.{◌≡◌, ◌≢◌, ℕ, ◌/◌, ◌%◌, zero, suc, refl, [], ◌∷◌, subst, sym, ap, ◌∙◌, arith}
 use Rattle.std.specs.Prelude.{Option, Some, None, IsSome, is_some, IfSome, IfNone, ◌⊎◌, if◌then◌else◌}
-use mathlib.Core.Logic.{inl, inr}
+use mathlib.Core.Logic.{inl, inr, ⊎_elim}
 use Rattle.std.specs.Ordering.{nat_cmp}
 use Rattle.std.specs.Cmp.{nat_cmp_total}
 use Rattle.std.specs.FinMap as maps
@@ -103,15 +103,18 @@ module _ {X : Type 0} (n : ℕ) (near far m : maps.FinMap nat_cmp X) (are : AreP
     pub found_near : (thing : A) → IsFoundAmong At near thing → IsFoundAmong At m thing
     found_near thing found = record { key = found.key; entry = found.entry; has = sym (in_near found.key (near_own found.key (ap is_some found.has))) ∙ found.has; there = found.there }
 
-    found_far : (thing : A) → IsFoundAmong At far thing → IsFoundAmong At m thing
+    pub found_far : (thing : A) → IsFoundAmong At far thing → IsFoundAmong At m thing
     found_far thing found = record { key = found.key; entry = found.entry; has = sym (in_far found.key (far_own found.key (ap is_some found.has))) ∙ found.has; there = found.there }
 
-    none_found : (thing : A) → ¬ IsFoundAmong At near thing → ¬ IsFoundAmong At far thing → ¬ IsFoundAmong At m thing
-    none_found thing no_near no_far found = by (same_or_other (region_of found.key) n)
+    pub found_parted : (thing : A) → IsFoundAmong At m thing → IsFoundAmong At near thing ⊎ IsFoundAmong At far thing
+    found_parted thing found = by (same_or_other (region_of found.key) n)
       where
-        by : (region_of found.key ≡ n) ⊎ (region_of found.key ≢ n) → ⊥
-        by (inl same) = no_near (record { key = found.key; entry = found.entry; has = in_near found.key same ∙ found.has; there = found.there })
-        by (inr other) = no_far (record { key = found.key; entry = found.entry; has = in_far found.key other ∙ found.has; there = found.there })
+        by : (region_of found.key ≡ n) ⊎ (region_of found.key ≢ n) → IsFoundAmong At near thing ⊎ IsFoundAmong At far thing
+        by (inl same) = inl (record { key = found.key; entry = found.entry; has = in_near found.key same ∙ found.has; there = found.there })
+        by (inr other) = inr (record { key = found.key; entry = found.entry; has = in_far found.key other ∙ found.has; there = found.there })
+
+    none_found : (thing : A) → ¬ IsFoundAmong At near thing → ¬ IsFoundAmong At far thing → ¬ IsFoundAmong At m thing
+    none_found thing no_near no_far found = ⊎_elim no_near no_far (found_parted thing found)
 
     pub some_far : (o : Option A) → IfSome o (IsFoundAmong At far) → IfSome o (IsFoundAmong At m)
     some_far None found = tt

@@ -9,12 +9,13 @@ ghost use Rattle.std.specs.Ordering.{nat_cmp};
 ghost use Rattle.std.specs.FinMap as maps;
 ghost use Rattle.address_map.specs.inner.Lent.{lends_of_chunk};
 ghost use Rattle.address_map.specs.Found.{IsFoundAmong};
+ghost use Rattle.address_map.specs.Read.{IsRead, IsReadInto};
 ghost use Rattle.address_map.specs.Least.{IsLeast};
 ghost use Rattle.address_map.specs.Keys.{with_new, IsKeyAbove};
 ghost use Rattle.address_map.specs.inner.Grouped.{page_of, AreTogether};
 
 use crate::entry::{Entry, append, least_in_page, one_more, page, place_in_page};
-use crate::look::Look;
+use crate::look::{Look, Reading};
 use std::alloc::{AllocError, Global};
 use std::marker::Model;
 
@@ -148,6 +149,21 @@ impl<T> Chunk<T> {
             }
         }
         None
+    }
+
+    /// Adds what each address is read as to the items, in no order.
+    pub(crate) fn read_into<A: Drop, G: Reading<T, A>>(
+        &self,
+        reading: &G,
+        items: &mut Vec<A>,
+    ) -> Result<(), AllocError>
+        ensures { OnOk result
+            (IsReadInto (G.item reading.now) self.now items.old.items items.new.items) }
+    {
+        for entry in self.entries.as_slice() {
+            items.push(reading.read(entry.key, &entry.value))?;
+        }
+        Ok(())
     }
 }
 

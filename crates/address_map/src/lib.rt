@@ -2,7 +2,7 @@
 //! many in a few ranges, and walked in their order.
 //!
 //! - [`map`]: the map itself, whose contract is that finite map.
-//! - [`look`]: a look at all of its entries for something that is wanted.
+//! - [`look`]: a look at its entries for something that is wanted, and a reading of all of them.
 //! - [`least`]: the lesser of two addresses.
 //!
 //! How it lies in memory: pages of 4096 bytes, 64 to a chunk, 256 chunks to a region of 64 MiB. The
@@ -23,5 +23,5 @@ mod region;
 mod scattered;
 
 pub use least::lesser;
-pub use look::Look;
+pub use look::{Look, Reading};
 pub use map::AddressMap;

@@ -1,17 +1,18 @@
 //! The map by address.
 
-ghost use Rattle.std.specs.Prelude.{◌≡◌, not, Some, IsSome, OnOk, OnErr, IfOk, IfSome, IfNone};
+ghost use Rattle.std.specs.Prelude.{◌≡◌, ◌↔◌, Contains, not, Some, IsSome, OnOk, OnErr, IfOk, IfSome, IfNone};
 ghost use Rattle.std.specs.Borrow.{sem};
 ghost use Rattle.std.specs.Option.{option_copied};
 ghost use Rattle.std.specs.Ordering.{nat_cmp};
 ghost use Rattle.std.specs.FinMap as maps;
 ghost use Rattle.address_map.specs.Lent.{lends_of_map};
 ghost use Rattle.address_map.specs.Found.{IsFoundAmong};
+ghost use Rattle.address_map.specs.Read.{IsRead, IsReadInto};
 ghost use Rattle.address_map.specs.Least.{IsLeast};
 ghost use Rattle.address_map.specs.Keys.{with_new, IsKeyAbove, IsNextInPage};
 
 use crate::least::lesser;
-use crate::look::Look;
+use crate::look::{Look, Reading};
 use crate::region::{Region, region_number};
 use crate::scattered::Scattered;
 use std::alloc::{AllocError, Global};
@@ -159,5 +160,21 @@ impl<T> AddressMap<T> {
             Some(found) => Some(found),
             None => self.far.find_by(look),
         }
+    }
+
+    /// What each address is read as, in no order. [`AllocError`] if memory ran out.
+    /// Time: O(n) readings. Memory: that of n items.
+    pub fn read_by<A: Drop, G: Reading<T, A>>(
+        &self,
+        alloc: Global,
+        reading: &G,
+    ) -> Result<Vec<A>, AllocError>
+        ensures { IfOk result (λ v. (item : A) → Contains v.items item
+            ↔ IsRead (G.item reading.now) self.now item) }
+    {
+        let mut items = Vec::new(alloc);
+        self.near.read_into(reading, &mut items)?;
+        self.far.read_into(reading, &mut items)?;
+        Ok(items)
     }
 }

@@ -8,6 +8,7 @@ ghost use Rattle.std.specs.Ordering.{nat_cmp};
 ghost use Rattle.std.specs.FinMap as maps;
 ghost use Rattle.address_map.specs.inner.Lent.{lends_of_region};
 ghost use Rattle.address_map.specs.Found.{IsFoundAmong};
+ghost use Rattle.address_map.specs.Read.{IsRead, IsReadInto};
 ghost use Rattle.address_map.specs.Least.{IsLeast, IsAbove};
 ghost use Rattle.address_map.specs.Keys.{with_new};
 ghost use Rattle.address_map.specs.inner.Grouped.{place_of, region_of};
@@ -16,7 +17,7 @@ ghost use Rattle.address_map.specs.inner.Grouped.{IsNextByPlace, IsFrom, AreInRe
 
 use crate::chunk::Chunk;
 use crate::entry::page;
-use crate::look::Look;
+use crate::look::{Look, Reading};
 use std::alloc::{AllocError, Global};
 use std::marker::Model;
 
@@ -163,6 +164,21 @@ impl<T> Region<T> {
             }
         }
         None
+    }
+
+    /// Adds what each address is read as to the items, in no order.
+    pub(crate) fn read_into<A: Drop, G: Reading<T, A>>(
+        &self,
+        reading: &G,
+        items: &mut Vec<A>,
+    ) -> Result<(), AllocError>
+        ensures { OnOk result
+            (IsReadInto (G.item reading.now) self.now items.old.items items.new.items) }
+    {
+        for chunk in self.chunks.as_slice() {
+            chunk.read_into(reading, items)?;
+        }
+        Ok(())
     }
 }
 

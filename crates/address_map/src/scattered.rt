@@ -9,6 +9,7 @@ ghost use Rattle.std.specs.FinMap as maps;
 ghost use Rattle.std.specs.BTreeMap as tree;
 ghost use Rattle.address_map.specs.inner.Lent.{lends_of_scattered};
 ghost use Rattle.address_map.specs.Found.{IsFoundAmong};
+ghost use Rattle.address_map.specs.Read.{IsRead, IsReadInto};
 ghost use Rattle.address_map.specs.Least.{IsLeast, IsAbove};
 ghost use Rattle.address_map.specs.Keys.{with_new, IsKeyAbove};
 ghost use Rattle.address_map.specs.inner.Grouped.{chunk_of};
@@ -16,7 +17,7 @@ ghost use Rattle.address_map.specs.inner.Grouped.{IsInChunk, IsNextInChunk, IsNe
 
 use crate::chunk::Chunk;
 use crate::entry::page;
-use crate::look::Look;
+use crate::look::{Look, Reading};
 use std::alloc::{AllocError, Global};
 use std::collections::BTreeMap;
 use std::marker::Model;
@@ -186,6 +187,21 @@ impl<T> Scattered<T> {
             }
         }
         None
+    }
+
+    /// Adds what each address is read as to the items, in no order.
+    pub(crate) fn read_into<A: Drop, G: Reading<T, A>>(
+        &self,
+        reading: &G,
+        items: &mut Vec<A>,
+    ) -> Result<(), AllocError>
+        ensures { OnOk result
+            (IsReadInto (G.item reading.now) self.now items.old.items items.new.items) }
+    {
+        for (_, chunk) in &self.chunks {
+            chunk.read_into(reading, items)?;
+        }
+        Ok(())
     }
 
     /// The least address above `a` in the chunk of `a`, if there is an `a`.

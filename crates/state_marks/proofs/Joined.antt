@@ -1,43 +1,29 @@
--- What a state shows in all gaps between bounds, one after another, is what it shows at all addresses.
-use Rattle.std.proofs.Common.{◌≡◌, ℕ, List, get_or, Ok, Err, sym, subst, arith}
-use Rattle.std.specs.Prelude.{IfOk}
-use Rattle.std.specs.List.{All, Contains, flat_map}
-use Rattle.cfg_model.specs.Builder.State.{BuilderState, IsStart, IsEntered, IsReturned}
-use Rattle.parallel.specs.declared.ranges.AddressRange.{AddressRange}
-use Rattle.parallel.specs.Gaps.{gap, whole}
-use Rattle.parallel.proofs.GapByGap.{joined_has}
-use Rattle.state_marks.specs.Inner.Seen.{AreNumbersIn, IsSeen}
-use Rattle.state_marks.specs.Inner.Parts.{Answered, IsMade, IsSeenByGap, reached_in, returns_in, starts_in}
+-- What a state shows in all shards, one after another, is what it shows at all addresses.
+use Rattle.std.proofs.Common.{ℕ, ◌<◌, ◌↔◌, List, length, get_or, refl, subst, arith, alloc_error}
+use Rattle.std.specs.Prelude.{All, Contains, Ok, Err, IfOk}
+use Rattle.std.proofs.lemmas.List.Elements.{Contains-get_or}
+use Rattle.cfg_model.specs.Builder.Shard.{shard_of}
+use Rattle.cfg_model.specs.Builder.State.{BuilderState}
+use Rattle.state_marks.specs.declared.seen.Seen.{Seen}
+use Rattle.state_marks.specs.Inner.Seen.{IsNumberOf, AreNumbersIn, IsSeen}
+use Rattle.state_marks.specs.Inner.Parts.{Answered, IsMade, IsSeenByShard, InParts}
 
-module _ (number : ℕ → ℕ) (state : BuilderState) where
-  reached_made : (range : AddressRange) (answer : Answered) → IfOk answer (IsSeen number range state) → IsMade answer → AreNumbersIn number range (IsEntered state.terminators) (reached_in answer)
-  reached_made range (Ok seen) are made = are.reached
-  reached_made range (Err e) are made = absurd (cc)
+module _ (number : ℕ → ℕ) (state : BuilderState) (answers : List Answered) (are : IsSeenByShard number state answers) where
+  -- what is seen in a part is what its shard shows
+  seen_at : (seen : Seen) (part : Contains answers (Ok seen)) → IsSeen number part.0 state seen
+  seen_at seen part =
+      let below : part.0 < 64 = omega (arith, part.1, are.as_many) in
+      subst (λ (answer : Answered). IfOk answer (IsSeen number part.0 state)) part.2 (are.each part.0 (Ok seen) below)
 
-  returns_made : (range : AddressRange) (answer : Answered) → IfOk answer (IsSeen number range state) → IsMade answer → AreNumbersIn number range (IsReturned state.terminators) (returns_in answer)
-  returns_made range (Ok seen) are made = are.returns
-  returns_made range (Err e) are made = absurd (cc)
+  module _ (made : All IsMade answers) (Such : ℕ → Type 0) (numbers : Seen → List ℕ) (each : (shard : ℕ) (seen : Seen) → IsSeen number shard state seen → AreNumbersIn number shard Such (numbers seen)) where
+    of_shard : (n : ℕ) (is : IsNumberOf number Such n) (answer : Answered) → IfOk answer (IsSeen number (shard_of is.0) state) → IsMade answer → Contains answers answer → InParts numbers answers n
+    of_shard n is (Ok seen) shows ok part = record { seen = seen; part = part; there = (each (shard_of is.0) seen shows n).1 (is.0, (is.1, refl), is.2) }
+    of_shard n is (Err e) shows ok part = absurd (cc)
 
-  starts_made : (range : AddressRange) (answer : Answered) → IfOk answer (IsSeen number range state) → IsMade answer → AreNumbersIn number range (IsStart state.starts) (starts_in answer)
-  starts_made range (Ok seen) are made = are.starts
-  starts_made range (Err e) are made = absurd (cc)
-
-  module _ (bounds : List ℕ) (answers : List Answered) (gaps : IsSeenByGap number state bounds answers) where
-    numbers_joined : (made : All IsMade answers) (Such : ℕ → Type 0) (items : Answered → List ℕ) → ((range : AddressRange) (answer : Answered) → IfOk answer (IsSeen number range state) → IsMade answer → AreNumbersIn number range Such (items answer))
-        → (numbers : List ℕ) → numbers ≡ flat_map items answers → AreNumbersIn number whole Such numbers
-    numbers_joined made Such items each numbers joined = λ n.
-        let has = joined_has items (λ a (x : ℕ). Such a × (number a ≡ x)) bounds answers gaps.as_many
-        (λ i d within. each (gap bounds i) (get_or answers i d) (gaps.each i d (omega (arith, within, gaps.as_many))) (made i d within)) n in (
-          λ there. let at = has.0 (subst (λ (xs : List ℕ). Contains xs n) joined there) in (at.0, (tt, tt), at.1),
-          λ at. subst (λ (xs : List ℕ). Contains xs n) (sym joined) (has.1 (at.0, at.2)),
-        )
-
-    pub seen_if_joined : (result : Answered) → IfOk result (λ seen. All IsMade answers)
-        → IfOk result (λ seen. seen.reached.items ≡ flat_map reached_in answers) → IfOk result (λ seen. seen.returns.items ≡ flat_map returns_in answers) → IfOk result (λ seen. seen.starts.items ≡ flat_map starts_in answers)
-        → IfOk result (IsSeen number whole state)
-    seen_if_joined (Ok seen) made reached returns starts = record {
-      reached = numbers_joined made (IsEntered state.terminators) reached_in reached_made seen.reached.items reached;
-      returns = numbers_joined made (IsReturned state.terminators) returns_in returns_made seen.returns.items returns;
-      starts = numbers_joined made (IsStart state.starts) starts_in starts_made seen.starts.items starts;
-    }
-    seen_if_joined (Err e) made reached returns starts = tt
+    pub in_parts : (n : ℕ) → InParts numbers answers n ↔ IsNumberOf number Such n
+    in_parts n = (
+      λ there. let is = (each there.part.0 there.seen (seen_at there.seen there.part) n).0 there.there in (is.0, is.1.0, is.2),
+      λ is. let below : shard_of is.0 < 64 = omega arith in
+          let within : shard_of is.0 < length answers = omega (arith, below, are.as_many) in
+          of_shard n is (get_or answers (shard_of is.0) (Err alloc_error)) (are.each (shard_of is.0) (Err alloc_error) below) (made (shard_of is.0) (Err alloc_error) within) (Contains-get_or answers (shard_of is.0) (Err alloc_error) within),
+    )

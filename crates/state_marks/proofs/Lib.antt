@@ -1,4 +1,4 @@
-pub mod Walk
 pub mod Marking
+pub mod Numbers
 pub mod Joined
 pub mod Told

@@ -1,45 +1,26 @@
 -- What a closed state tells of a program, by the marks of what it shows.
-use Rattle.std.proofs.Common.{◌≡◌, ℕ, ◌<◌, ◌↔◌, Bool, true, false, List, get_or, Option, Some, None, IsSome, IsTrue, refl, sym, ◌∙◌, subst, arith}
-use Rattle.std.specs.Prelude.{All, Contains, Result, Ok, Err, IfOk}
-use Rattle.std.specs.Option.{option_eq, option_map, option_map_or}
-use mathlib.Core.Bool.{beq}
+use Rattle.std.proofs.Common.{◌≡◌, ℕ, ◌<◌, ◌↔◌, Bool, true, false, List, get_or, IsSome, refl, sym, ◌∙◌, subst, arith}
+use Rattle.std.specs.Prelude.{All, Result, Ok, Err, IfOk}
 use Rattle.std.proofs.lemmas.List.Elements.{Contains-get_or}
-use Rattle.std.specs.FinMap as maps
+use Rattle.std.proofs.lemmas.Result.{IfOk-weaker}
 use Rattle.cfg_model.specs.declared.flow.Flow.TheVariants.{Straight}
 use Rattle.cfg_model.specs.Program.Instructions.{InstructionMap, IsLawful}
 use Rattle.cfg_model.specs.Program.Chain.{IsTerminator, OnChain}
-use Rattle.cfg_model.specs.Program.Reach.{AreSeeds, Reached}
-use Rattle.cfg_model.specs.Builder.State.{BuilderState, TerminatorEntry, TerminatorMap, IsStart, IsEntered, IsReturned}
-use Rattle.cfg_model.specs.Builder.Kept.{IsKept, IsClosed}
+use Rattle.cfg_model.specs.Program.Reach.{Reached}
+use Rattle.cfg_model.specs.Builder.State.{BuilderState, IsStart, IsEntered, IsReturned}
+use Rattle.cfg_model.specs.Builder.Kept.{IsClosed}
 use Rattle.cfg_model.specs.Builder.Shown.{ShowsGraph}
-use Rattle.cfg_model.proofs.Builder.StateGrowth.{false_true}
 use Rattle.cfg_model.proofs.Program.Code.{flow_stands}
 use Rattle.status_laws.proofs.ClosedLaws.{settled, closed_shows_graph}
-use Rattle.parallel.specs.Gaps.{whole}
 use Rattle.numbered.specs.Numbering.{IsNumbering}
 use Rattle.reached_terms.specs.Reached.{AreReachedTerms, Reach}
 use Rattle.reached_terms.proofs.Complete.{ends_stand}
 use Rattle.reached_terms.proofs.Sending.{reached_stands, sent_leads}
-use Rattle.state_marks.specs.declared.seen.Seen.{Seen}
-use Rattle.state_marks.specs.Inner.Seen.{AreNumbersIn, AreMarksAt, IsSeen, StandOn}
-
--- ---- what is read of a terminator
-
-pub reads_return : (o : Option TerminatorEntry) → IsTrue (option_eq beq (option_map (λ (e : TerminatorEntry). e.returned) o) (Some true)) ↔ IsTrue (option_map_or (λ (e : TerminatorEntry). e.returned) o false)
-reads_return None = (λ h. h, λ h. h)
-reads_return (Some e) = by e.returned
-  where
-    by : (b : Bool) → IsTrue (beq b true) ↔ IsTrue b
-    by true = (λ h. h, λ h. h)
-    by false = (λ h. h, λ h. h)
-
-entered_by : (o : Option TerminatorEntry) → IsTrue (option_map_or (λ (e : TerminatorEntry). e.returned) o false) → IsSome o
-entered_by None h = absurd (false_true h)
-entered_by (Some e) h = refl
-
--- a terminator that is known to return is entered
-pub returned_entered : (terms : TerminatorMap) (k : ℕ) → IsReturned terms k → IsEntered terms k
-returned_entered terms k returned = entered_by (maps.get terms k) returned
+use Rattle.state_marks.specs.Inner.Seen.{IsNumberOf, AreNumbersIn, AreMarksOf, IsSeen, StandOn}
+use Rattle.state_marks.specs.Inner.Parts.{Answered, IsMade, IsSeenByShard, AreBelow, InParts, reached_of, returns_of, starts_of}
+use Rattle.state_marks.proofs.Joined.{in_parts}
+use Rattle.state_marks.proofs.Marking.{marks_as}
+use Rattle.state_marks.proofs.Numbers.{returned_entered}
 
 -- ---- all of them are addresses of instructions
 
@@ -56,44 +37,33 @@ closed_stand map seeds state closed = record {
   terminators = λ k entered. ends_stand (map k) (closed.kept.entries k entered).ends.ends;
 }
 
--- in a kept one, each start is a leader, and so reached
-pub kept_stand : (map : InstructionMap) (seeds : List ℕ) (state : BuilderState) → IsLawful map → AreSeeds map seeds → IsKept map seeds state → StandOn map state
-kept_stand map seeds state lawful are kept = record {
-  starts = λ a start. reached_stands lawful are.known (kept.leaders.0 a start).reached;
-  terminators = λ k entered. ends_stand (map k) (kept.entries k entered).ends.ends;
-}
-
 module _ (map : InstructionMap) (state : BuilderState) (stand : StandOn map state) where
   returned_stands : (k : ℕ) → IsReturned state.terminators k → IsSome (map k)
   returned_stands k returned = stand.terminators k (returned_entered state.terminators k returned)
 
-  module _ (number : ℕ → ℕ) (count : ℕ) (numbering : IsNumbering map number count) (seen : Seen) (are : IsSeen number whole state seen) where
-    below : (Such : ℕ → Type 0) → ((a : ℕ) → Such a → IsSome (map a)) → (numbers : List ℕ) → AreNumbersIn number whole Such numbers → (n : ℕ) → Contains numbers n → n < count
-    below Such stands numbers exact n there =
-        let at = (exact n).0 there in
-        subst (λ m. m < count) at.2.1 (numbering.below at.0 (stands at.0 at.2.0))
+  module _ (number : ℕ → ℕ) (count : ℕ) (numbering : IsNumbering map number count) where
+    below : (shard : ℕ) (Such : ℕ → Type 0) → ((a : ℕ) → Such a → IsSome (map a)) → (numbers : List ℕ) → AreNumbersIn number shard Such numbers → All (λ n. n < count) numbers
+    below shard Such stands numbers exact k d within =
+        let at = (exact (get_or numbers k d)).0 (Contains-get_or numbers k d within) in
+        subst (λ n. n < count) at.2 (numbering.below at.0 (stands at.0 at.1.0))
 
-    all_below : (Such : ℕ → Type 0) → ((a : ℕ) → Such a → IsSome (map a)) → (numbers : List ℕ) → AreNumbersIn number whole Such numbers → All (λ n. n < count) numbers
-    all_below Such stands numbers exact k d within = below Such stands numbers exact (get_or numbers k d) (Contains-get_or numbers k d within)
+    pub parts_below : (answers : List Answered) → IsSeenByShard number state answers → All (λ part. IfOk part (AreBelow count)) answers
+    parts_below answers are k d within = IfOk-weaker (get_or answers k d) (IsSeen number k state) (AreBelow count) (λ seen is. record {
+      reached = below k (IsEntered state.terminators) stand.terminators (reached_of seen) is.reached;
+      returns = below k (IsReturned state.terminators) returned_stands (returns_of seen) is.returns;
+      starts = below k (IsStart state.starts) stand.starts (starts_of seen) is.starts;
+    }) (are.each k d (omega (arith, within, are.as_many)))
 
-    pub reached_below : All (λ n. n < count) seen.reached.items
-    reached_below = all_below (IsEntered state.terminators) stand.terminators seen.reached.items are.reached
-
-    pub returns_below : All (λ n. n < count) seen.returns.items
-    returns_below = all_below (IsReturned state.terminators) returned_stands seen.returns.items are.returns
-
-    pub starts_below : All (λ n. n < count) seen.starts.items
-    starts_below = all_below (IsStart state.starts) stand.starts seen.starts.items are.starts
-
-    -- a mark says of an address what the list says of its number
-    marked : (Such : ℕ → Type 0) → ((a : ℕ) → Such a → IsSome (map a)) → (numbers : List ℕ) (marks : List Bool) → AreNumbersIn number whole Such numbers → AreMarksAt count numbers marks
+    -- a mark says of an address what holds of it
+    marked : (Such : ℕ → Type 0) → ((a : ℕ) → Such a → IsSome (map a)) → (marks : List Bool) → AreMarksOf count (IsNumberOf number Such) marks
         → (a : ℕ) → IsSome (map a) → (get_or marks (number a) false ≡ true) ↔ Such a
-    marked Such stands numbers marks exact at a has = (
-      λ on. let is = (exact (number a)).0 ((at.exact (number a)).0 on) in subst Such (numbering.apart is.0 a (stands is.0 is.2.0) has is.2.1) is.2.0,
-      λ such. (at.exact (number a)).1 ((exact (number a)).1 (a, (tt, tt), (such, refl))),
+    marked Such stands marks at a has = (
+      λ on. let is = (at.exact (number a)).0 on in subst Such (numbering.apart is.0 a (stands is.0 is.1) has is.2) is.1,
+      λ such. (at.exact (number a)).1 (a, such, refl),
     )
 
-    module _ (seeds : List ℕ) (closed : IsClosed map seeds state) (lawful : IsLawful map) (terms : Reach) (reached : AreMarksAt count seen.reached.items terms.reached) (returns : AreMarksAt count seen.returns.items terms.returns) (starts : AreMarksAt count seen.starts.items terms.starts) where
+    module _ (seeds : List ℕ) (closed : IsClosed map seeds state) (lawful : IsLawful map) (terms : Reach)
+        (reached : AreMarksOf count (IsNumberOf number (IsEntered state.terminators)) terms.reached) (returns : AreMarksOf count (IsNumberOf number (IsReturned state.terminators)) terms.returns) (starts : AreMarksOf count (IsNumberOf number (IsStart state.starts)) terms.starts) where
       shows : ShowsGraph map seeds state
       shows = closed_shows_graph map seeds lawful state closed
 
@@ -106,13 +76,13 @@ module _ (map : InstructionMap) (state : BuilderState) (stand : StandOn map stat
       stands a is = reached_stands lawful seeds_stand is
 
       entered : (k : ℕ) → IsSome (map k) → (get_or terms.reached (number k) false ≡ true) ↔ IsEntered state.terminators k
-      entered = marked (IsEntered state.terminators) stand.terminators seen.reached.items terms.reached are.reached reached
+      entered = marked (IsEntered state.terminators) stand.terminators terms.reached reached
 
       returned : (k : ℕ) → IsSome (map k) → (get_or terms.returns (number k) false ≡ true) ↔ IsReturned state.terminators k
-      returned = marked (IsReturned state.terminators) returned_stands seen.returns.items terms.returns are.returns returns
+      returned = marked (IsReturned state.terminators) returned_stands terms.returns returns
 
       started : (a : ℕ) → IsSome (map a) → (get_or terms.starts (number a) false ≡ true) ↔ IsStart state.starts a
-      started = marked (IsStart state.starts) stand.starts seen.starts.items terms.starts are.starts starts
+      started = marked (IsStart state.starts) stand.starts terms.starts starts
 
       pub terms_told : AreReachedTerms map number seeds terms
       terms_told = record {
@@ -135,8 +105,12 @@ module _ (map : InstructionMap) (state : BuilderState) (stand : StandOn map stat
 
 -- ---- where they were made
 
-pub told_if_made : {E : Type 0} (map : InstructionMap) (state : BuilderState) → StandOn map state → IsLawful map → (number : ℕ → ℕ) (count : ℕ) → IsNumbering map number count → (seen : Seen) → IsSeen number whole state seen → (result : Result Reach E)
-    → IfOk result (λ terms. AreMarksAt count seen.reached.items terms.reached) → IfOk result (λ terms. AreMarksAt count seen.returns.items terms.returns) → IfOk result (λ terms. AreMarksAt count seen.starts.items terms.starts)
+pub told_if_made : {E : Type 0} (map : InstructionMap) (state : BuilderState) → StandOn map state → IsLawful map → (number : ℕ → ℕ) (count : ℕ) → IsNumbering map number count → (answers : List Answered) → IsSeenByShard number state answers → (result : Result Reach E) → IfOk result (λ _. All IsMade answers)
+    → IfOk result (λ terms. AreMarksOf count (InParts reached_of answers) terms.reached) → IfOk result (λ terms. AreMarksOf count (InParts returns_of answers) terms.returns) → IfOk result (λ terms. AreMarksOf count (InParts starts_of answers) terms.starts)
     → IfOk result (λ terms. (seeds : List ℕ) → IsClosed map seeds state → AreReachedTerms map number seeds terms)
-told_if_made map state stand lawful number count numbering seen are (Ok terms) reached returns starts = λ seeds closed. terms_told map state stand number count numbering seen are seeds closed lawful terms reached returns starts
-told_if_made map state stand lawful number count numbering seen are (Err e) reached returns starts = tt
+told_if_made map state stand lawful number count numbering answers are (Ok terms) made reached returns starts = λ seeds closed.
+    terms_told map state stand number count numbering seeds closed lawful terms
+    (marks_as count (InParts reached_of answers) (IsNumberOf number (IsEntered state.terminators)) terms.reached reached (in_parts number state answers are made (IsEntered state.terminators) reached_of (λ shard seen is. is.reached)))
+    (marks_as count (InParts returns_of answers) (IsNumberOf number (IsReturned state.terminators)) terms.returns returns (in_parts number state answers are made (IsReturned state.terminators) returns_of (λ shard seen is. is.returns)))
+    (marks_as count (InParts starts_of answers) (IsNumberOf number (IsStart state.starts)) terms.starts starts (in_parts number state answers are made (IsStart state.starts) starts_of (λ shard seen is. is.starts)))
+told_if_made map state stand lawful number count numbering answers are (Err e) made reached returns starts = tt

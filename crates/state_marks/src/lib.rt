@@ -5,15 +5,13 @@
 //!
 //! - `marks`: the marks of a state, made by one thread.
 //! - `sharing`: the same, made by several threads.
-//! - `shown`: what a state shows of an address.
-//! - `seen`: the numbers of the addresses of which a state shows something.
+//! - `seen`: the numbers of the addresses of which a shard shows something.
 #![tactic(auto)]
 
 mod marks;
 mod seen;
 mod sharing;
-mod shown;
 
 pub use cfg_model::Memory;
 pub use marks::marks_of;
-pub use sharing::{marks_if_closed_by, marks_of_by};
+pub use sharing::{marks_from_by, marks_of_by};

@@ -1,14 +1,16 @@
 //! The marks of a closed state, made by one thread.
 
-ghost use Rattle.std.specs.Prelude.{ℕ, List, IfOk};
+ghost use Rattle.std.specs.Prelude.{◌≡◌, ◌<◌, ℕ, List, All, IfOk, length};
 ghost use Rattle.cfg_model.specs.Builder.Kept.{IsClosed};
 ghost use Rattle.reached_terms.specs.Reached.{AreReachedTerms};
+ghost use Rattle.state_marks.specs.Inner.Seen.{StandOn, AreMarksOf, AddsMarks};
+ghost use Rattle.state_marks.specs.Inner.Parts.{AreBelow, IsMade, IsSeenByShard, InParts};
+ghost use Rattle.state_marks.specs.Inner.Parts.{reached_of, returns_of, starts_of};
 
-use crate::seen::seen_in;
+use crate::seen::{Seen, seen_in};
 use cfg_model::Memory;
-use core_state::State;
+use core_state::{SHARDS, State};
 use numbered::Numbered;
-use parallel::AddressRange;
 use reached_terms::ReachedTerms;
 use std::alloc::Global;
 
@@ -16,15 +18,68 @@ use std::alloc::Global;
 /// terminators, of those that return, and of its starts. Neither the seeds nor the program's
 /// instructions are looked at. [`Memory`] if memory ran out.
 ///
-/// Time: one pass over the starts and one over the terminators of the state. Memory: three bytes
-/// for each number, and meanwhile four for each start, for each terminator, and again for each that
-/// returns.
+/// Time: one pass over the starts and one over the terminators of the state, shard by shard.
+/// Memory: three bytes for each number, and meanwhile four for each start, for each terminator, and
+/// again for each that returns.
 pub fn marks_of<C: Numbered>(alloc: Global, code: &C, state: &State) -> Result<ReachedTerms, Memory>
     requires { (seeds : List ℕ) × IsClosed (C.map code.now) seeds state.now.maps }
     ensures { IfOk result (λ terms. (seeds : List ℕ)
         → IsClosed (C.map code.now) seeds state.now.maps
         → AreReachedTerms (C.map code.now) (C.number code.now) seeds terms) }
 {
-    let seen = seen_in(alloc, code, state, AddressRange::all())?;
-    seen.marks(alloc, code.numbers())
+    let parts = seen_of(alloc, code, state)?;
+    marks_at(alloc, code.numbers(), parts)
+}
+
+/// What the shards of each number show.
+fn seen_of<C: Numbered>(
+    alloc: Global,
+    code: &C,
+    state: &State,
+) -> Result<Vec<Result<Seen, Memory>>, Memory>
+    requires { StandOn (C.map code.now) state.now.maps }
+    ensures { IfOk result (λ v. IsSeenByShard (C.number code.now) state.now.maps v.items) }
+{
+    let mut parts = Vec::with_capacity(alloc, SHARDS)?;
+    for shard in 0..SHARDS {
+        parts.push(seen_in(alloc, code, state, shard))?;
+    }
+    Ok(parts)
+}
+
+/// So many marks of each kind, of which those at the numbers of these parts are set, and no others.
+pub(crate) fn marks_at(
+    alloc: Global,
+    count: u32,
+    parts: Vec<Result<Seen, Memory>>,
+) -> Result<ReachedTerms, Memory>
+    requires { All (λ part. IfOk part (AreBelow count)) parts.items }
+    ensures made { IfOk result (λ _. All IsMade parts.items) }
+    ensures reached { IfOk result
+        (λ terms. AreMarksOf count (InParts reached_of parts.items) terms.reached) }
+    ensures returns { IfOk result
+        (λ terms. AreMarksOf count (InParts returns_of parts.items) terms.returns) }
+    ensures starts { IfOk result
+        (λ terms. AreMarksOf count (InParts starts_of parts.items) terms.starts) }
+{
+    let mut reached = vec![in alloc; false; count as usize]?;
+    let mut returns = vec![in alloc; false; count as usize]?;
+    let mut starts = vec![in alloc; false; count as usize]?;
+    for part in parts {
+        let part = part?;
+        mark(&mut reached, &part.reached);
+        mark(&mut returns, &part.returns);
+        mark(&mut starts, &part.starts);
+    }
+    Ok(ReachedTerms::from_marks(reached, returns, starts))
+}
+
+/// Sets the marks at these numbers.
+fn mark(marks: &mut [bool], numbers: &[u32])
+    requires { All (λ n. n < length marks.old) numbers.now }
+    ensures { AddsMarks numbers.now marks.old marks.new }
+{
+    for &n in numbers {
+        marks[n as usize] = true;
+    }
 }

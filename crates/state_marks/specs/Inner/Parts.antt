@@ -1,36 +1,44 @@
--- What a state shows, found gap by gap.
-use Rattle.std.specs.Prelude.{◌≡◌, ℕ, ◌+◌, ◌≤◌, List, [], length, slice_index_or}
-use Rattle.std.specs.Prelude.{IfOk, IsOk, Result, Ok, Err}
+-- What a state shows, found shard by shard.
+use Rattle.std.specs.Prelude.{◌≡◌, ℕ, ◌<◌, List, length, slice_index_or, All, Contains}
+use Rattle.std.specs.Prelude.{IfOk, IsOk, Result, Ok}
 use Rattle.std.specs.declared.alloc.AllocError.{AllocError as Memory}
 use Rattle.cfg_model.specs.Builder.State.{BuilderState}
-use Rattle.parallel.specs.Gaps.{gap}
 use Rattle.state_marks.specs.declared.seen.Seen.{Seen}
 use Rattle.state_marks.specs.Inner.Seen.{IsSeen}
 
--- What a worker answers of a gap.
+-- What a worker answers of the shards with one number.
 abbrev pub Answered : Type 0
 Answered = Result Seen Memory
 
--- The gap was gone over.
+-- They were gone over.
 abbrev pub IsMade : Answered → Type 0
 IsMade answer = IsOk answer
 
--- The numbers that were found in a gap; none if memory ran out.
-abbrev pub reached_in : Answered → List ℕ
-reached_in (Ok seen) = seen.reached.items
-reached_in (Err e) = []
+-- The numbers of each kind.
+abbrev pub reached_of : Seen → List ℕ
+reached_of seen = seen.reached.items
 
-abbrev pub returns_in : Answered → List ℕ
-returns_in (Ok seen) = seen.returns.items
-returns_in (Err e) = []
+abbrev pub returns_of : Seen → List ℕ
+returns_of seen = seen.returns.items
 
-abbrev pub starts_in : Answered → List ℕ
-starts_in (Ok seen) = seen.starts.items
-starts_in (Err e) = []
+abbrev pub starts_of : Seen → List ℕ
+starts_of seen = seen.starts.items
 
--- Each gap between bounds has an answer: what the state shows there, if it was found.
-pub record IsSeenByGap (number : ℕ → ℕ) (state : BuilderState) (bounds : List ℕ)
-    (answers : List Answered) : Type 0 where
-  pub as_many : length answers ≡ length bounds + 1
-  pub each : (i : ℕ) (d : Answered) → i ≤ length bounds
-      → IfOk (slice_index_or answers i d) (IsSeen number (gap bounds i) state)
+-- All numbers are below this one.
+pub record AreBelow (count : ℕ) (seen : Seen) : Type 0 where
+  pub reached : All (λ n. n < count) (reached_of seen)
+  pub returns : All (λ n. n < count) (returns_of seen)
+  pub starts : All (λ n. n < count) (starts_of seen)
+
+-- n is among these numbers of one of the answers.
+pub record InParts (numbers : Seen → List ℕ) (answers : List Answered) (n : ℕ) : Type 0 where
+  pub seen : Seen
+  pub part : Contains answers (Ok seen)
+  pub there : Contains (numbers seen) n
+
+-- Each shard has an answer: what the state shows there, if it was found.
+pub record IsSeenByShard (number : ℕ → ℕ) (state : BuilderState) (answers : List Answered)
+    : Type 0 where
+  pub as_many : length answers ≡ 64
+  pub each : (i : ℕ) (d : Answered) → i < 64
+      → IfOk (slice_index_or answers i d) (IsSeen number i state)

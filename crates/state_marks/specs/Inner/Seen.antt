@@ -1,30 +1,41 @@
--- The numbers of addresses of which a state shows something, and their marks.
-use Rattle.std.specs.Prelude.{◌≡◌, ◌↔◌, ℕ, Bool, true, false, List, length, get_or, Contains, IsSome}
+-- The numbers of addresses of which a shard shows something, and their marks.
+use Rattle.std.specs.Prelude.{◌≡◌, ◌↔◌, ◌⊎◌, ℕ, Bool, true, false, List, length, get_or, Contains, IsSome}
 use Rattle.cfg_model.specs.Program.Instructions.{InstructionMap}
+use Rattle.cfg_model.specs.Builder.Shard.{shard_of}
 use Rattle.cfg_model.specs.Builder.State.{BuilderState, IsStart, IsEntered, IsReturned}
-use Rattle.parallel.specs.declared.ranges.AddressRange.{AddressRange}
-use Rattle.parallel.specs.Ranges.{IsIn}
 use Rattle.state_marks.specs.declared.seen.Seen.{Seen}
 
--- These are the numbers of the addresses in a range of which this holds, and no others.
-abbrev pub AreNumbersIn : (ℕ → ℕ) → AddressRange → (ℕ → Type 0) → List ℕ → Type 0
-AreNumbersIn number range Such numbers =
-    (n : ℕ) → Contains numbers n ↔ ((a : ℕ) × IsIn range a × (Such a × (number a ≡ n)))
+-- n is the number of an address of which this holds.
+abbrev pub IsNumberOf : (ℕ → ℕ) → (ℕ → Type 0) → ℕ → Type 0
+IsNumberOf number Such n = (a : ℕ) × Such a × (number a ≡ n)
 
--- They are those of the starts of a state in a range, of its terminators there, and of those known
+-- These are the numbers of the addresses of which this holds, and no others.
+abbrev pub AreNumbersOf : (ℕ → ℕ) → (ℕ → Type 0) → List ℕ → Type 0
+AreNumbersOf number Such numbers = (n : ℕ) → Contains numbers n ↔ IsNumberOf number Such n
+
+-- These are the numbers of those that belong to this shard.
+abbrev pub AreNumbersIn : (ℕ → ℕ) → ℕ → (ℕ → Type 0) → List ℕ → Type 0
+AreNumbersIn number shard Such = AreNumbersOf number (λ a. Such a × (shard_of a ≡ shard))
+
+-- They are those of the starts of a state in a shard, of its terminators there, and of those known
 -- to return.
-pub record IsSeen (number : ℕ → ℕ) (range : AddressRange) (state : BuilderState) (seen : Seen)
-    : Type 0 where
-  pub reached : AreNumbersIn number range (IsEntered state.terminators) seen.reached.items
-  pub returns : AreNumbersIn number range (IsReturned state.terminators) seen.returns.items
-  pub starts : AreNumbersIn number range (IsStart state.starts) seen.starts.items
+pub record IsSeen (number : ℕ → ℕ) (shard : ℕ) (state : BuilderState) (seen : Seen) : Type 0 where
+  pub reached : AreNumbersIn number shard (IsEntered state.terminators) seen.reached.items
+  pub returns : AreNumbersIn number shard (IsReturned state.terminators) seen.returns.items
+  pub starts : AreNumbersIn number shard (IsStart state.starts) seen.starts.items
 
 -- Instructions stand at all starts and terminators of the state.
 pub record StandOn (map : InstructionMap) (state : BuilderState) : Type 0 where
   pub starts : (a : ℕ) → IsStart state.starts a → IsSome (map a)
   pub terminators : (k : ℕ) → IsEntered state.terminators k → IsSome (map k)
 
--- There are so many marks, and those at these numbers are set, and no others.
-pub record AreMarksAt (count : ℕ) (numbers : List ℕ) (marks : List Bool) : Type 0 where
+-- There are so many marks, and those at the numbers of which this holds are set, and no others.
+pub record AreMarksOf (count : ℕ) (Such : ℕ → Type 0) (marks : List Bool) : Type 0 where
   pub size : length marks ≡ count
-  pub exact : (n : ℕ) → (get_or marks n false ≡ true) ↔ Contains numbers n
+  pub exact : (n : ℕ) → (get_or marks n false ≡ true) ↔ Such n
+
+-- The marks at these numbers were set, and no others.
+pub record AddsMarks (numbers : List ℕ) (old new : List Bool) : Type 0 where
+  pub size : length new ≡ length old
+  pub exact : (n : ℕ) → (get_or new n false ≡ true)
+      ↔ ((get_or old n false ≡ true) ⊎ Contains numbers n)

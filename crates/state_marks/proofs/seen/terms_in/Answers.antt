@@ -1,44 +1,43 @@
-use Rattle.std.proofs.Common.{sym, ◌∙◌}
-use Rattle.cfg_model.proofs.Builder.StateGrowth.{false_true}
-use Rattle.cfg_model.specs.Builder.State.{IsEntered, IsReturned}
-use Rattle.state_marks.proofs.Told.{returned_entered}
-use Rattle.state_marks.proofs.Walk.{walk_past, walk_takes, walked}
+use Rattle.std.proofs.Common.{ℕ, Bool, false, Contains, List, get_or, ap, subst, sym, ◌∙◌}
+use Rattle.std.proofs.lemmas.List.{take_all}
+use Rattle.std.proofs.lemmas.List.Elements.{Contains-get_or}
+use Rattle.state_marks.specs.Inner.Seen.{AreNumbersOf}
+use Rattle.state_marks.proofs.Numbers.{numbers_as, terms_next, returns_next, returns_past, among_shard, returning_in_shard, IsAmong, IsReturningAmong}
 use Rattle.state_marks.proofs.seen.terms_in.Goals as goal
+use Rattle.state_marks.proofs.seen.terms_in.Goals.{then-returned+in_ok-push-2, else-returned}
 
-pub number-requires : goal.number-requires
-number-requires g c = c.requires.terminators c.in-Some.k c.in-Some.ensures.0.0
-
-pub number-requires-then-is_returning : goal.number-requires-then-is_returning
-number-requires-then-is_returning g c = c.requires.terminators c.in-Some.k c.in-Some.ensures.0.0
-
-pub loop-k-preserved-in_ok-push-2 : goal.loop-k-preserved-in_ok-push-2
-loop-k-preserved-in_ok-push-2 g c =
-    let number = g.C.Numbered.number c.args.code.now in
-    let terms = c.args.state.now.maps.terminators in
-    record {
-      reached = walk_takes number (IsEntered terms) (IsEntered terms) (λ k is. is) c.args.range c.loop-k.at c.loop-k.reached.items c.loop-k.invariant.reached c.in-Some.k c.in-Some.ensures
-          c.in-Some.ensures.0.0 c.push.new.self.items (rw c.number.ensures at c.in_ok-push.ensures.items);
-      returns = walk_takes number (IsEntered terms) (IsReturned terms) (returned_entered terms) c.args.range c.loop-k.at c.loop-k.returns.items c.loop-k.invariant.returns c.in-Some.k c.in-Some.ensures
-          (c.is_returning.ensures.0 c.if-is_returning.true) c.push-then-is_returning.new.self.items (rw c.number-then-is_returning.ensures at c.in_ok-push-2.ensures.items);
-    }
+pub number-n-requires : goal.number-n-requires
+number-n-requires g c =
+    let xs : List (ℕ × Bool) = c.as_slice-k-items.result.now in
+    let e : ℕ × Bool = get_or xs c.loop-k.k-index (0, false) in
+    c.requires.stand.terminators e.0
+    ((among_shard c.args.state.now.maps.terminators c.args.shard c.in_ok-terms.terms.items c.in_ok-terms.ensures e.0).0
+    (e.1, subst (λ (ys : List (ℕ × Bool)). Contains ys e) c.as_slice-k-items.ensures.value (Contains-get_or xs c.loop-k.k-index (0, false) c.loop-k-test.true))).0
 
 pub loop-k-preserved : goal.loop-k-preserved
 loop-k-preserved g c =
     let number = g.C.Numbered.number c.args.code.now in
-    let terms = c.args.state.now.maps.terminators in
+    let xs : List (ℕ × Bool) = c.as_slice-k-items.result.now in
     record {
-      reached = walk_takes number (IsEntered terms) (IsEntered terms) (λ k is. is) c.args.range c.loop-k.at c.loop-k.reached.items c.loop-k.invariant.reached c.in-Some.k c.in-Some.ensures
-          c.in-Some.ensures.0.0 c.push.new.self.items (rw c.number.ensures at c.in_ok-push.ensures.items);
-      returns = walk_past number (IsEntered terms) (IsReturned terms) (returned_entered terms) c.args.range c.loop-k.at c.loop-k.returns.items c.loop-k.invariant.returns c.in-Some.k c.in-Some.ensures
-          (λ such. false_true (sym c.if-is_returning.false ∙ c.is_returning.ensures.1 such));
+      reached = subst (AreNumbersOf number (IsAmong _)) (sym (rw c.number-n.ensures at c.in_ok-push.ensures.items)) (terms_next number xs c.loop-k.k-index c.loop-k-test.true c.loop-k.reached.items c.loop-k.invariant.reached);
+      returns = elim c.if-returned.branch [
+        | then-returned+in_ok-push-2 w ↦ subst (AreNumbersOf number (IsReturningAmong _)) (sym (ap (λ returns. returns.items) w.returns-is ∙ (rw c.number-n.ensures at w.in_ok-push-2.ensures.items)))
+            (returns_next number xs c.loop-k.k-index c.loop-k-test.true c.loop-k.returns.items w.if-returned.true c.loop-k.invariant.returns)
+        | else-returned w ↦ subst (AreNumbersOf number (IsReturningAmong _)) (sym (ap (λ returns. returns.items) w.returns-is))
+            (returns_past number xs c.loop-k.k-index c.loop-k-test.true c.loop-k.returns.items w.if-returned.false c.loop-k.invariant.returns)
+      ];
     }
 
 pub returns-clause-reached : goal.returns-clause-reached
 returns-clause-reached g c =
-    let terms = c.args.state.now.maps.terminators in
-    walked (g.C.Numbered.number c.args.code.now) (IsEntered terms) (IsEntered terms) (λ k is. is) c.args.range c.loop-k.at c.loop-k.reached.items c.loop-k.invariant.reached c.in_default.ensures
+    let number = g.C.Numbered.number c.args.code.now in
+    numbers_as number _ _ c.loop-k.reached.items
+    (subst (λ xs. AreNumbersOf number (IsAmong xs) c.loop-k.reached.items) (take_all c.loop-k.k-index c.as_slice-k-items.result.now c.loop-k-test.false ∙ c.as_slice-k-items.ensures.value) c.loop-k.invariant.reached)
+    (among_shard c.args.state.now.maps.terminators c.args.shard c.in_ok-terms.terms.items c.in_ok-terms.ensures)
 
 pub returns-clause-returns : goal.returns-clause-returns
 returns-clause-returns g c =
-    let terms = c.args.state.now.maps.terminators in
-    walked (g.C.Numbered.number c.args.code.now) (IsEntered terms) (IsReturned terms) (returned_entered terms) c.args.range c.loop-k.at c.loop-k.returns.items c.loop-k.invariant.returns c.in_default.ensures
+    let number = g.C.Numbered.number c.args.code.now in
+    numbers_as number _ _ c.loop-k.returns.items
+    (subst (λ xs. AreNumbersOf number (IsReturningAmong xs) c.loop-k.returns.items) (take_all c.loop-k.k-index c.as_slice-k-items.result.now c.loop-k-test.false ∙ c.as_slice-k-items.ensures.value) c.loop-k.invariant.returns)
+    (returning_in_shard c.args.state.now.maps.terminators c.args.shard c.in_ok-terms.terms.items c.in_ok-terms.ensures)

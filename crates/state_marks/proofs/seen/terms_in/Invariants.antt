@@ -1,13 +1,11 @@
-use Rattle.std.proofs.Common.{◌-◌, ◌^◌}
-use Rattle.cfg_model.specs.Builder.State.{IsEntered, IsReturned}
-use Rattle.state_marks.proofs.Walk.{IsWalking, passed}
+use Rattle.std.proofs.Common.{take}
+use Rattle.state_marks.specs.Inner.Seen.{AreNumbersOf}
+use Rattle.state_marks.proofs.Numbers.{IsAmong, IsReturningAmong}
 use Rattle.state_marks.proofs.seen.terms_in.Given as goal
 
+-- the numbers are those of the terminators so far, and of those of them that return
 abbrev pub invariant-loop-k : goal.invariant-loop-k
 invariant-loop-k g l = record {
-  reached : IsWalking (g.C.Numbered.number l.code) (IsEntered l.state.maps.terminators) l.range l.at l.reached.items;
-  returns : IsWalking (g.C.Numbered.number l.code) (IsReturned l.state.maps.terminators) l.range l.at l.returns.items;
+  reached : AreNumbersOf (g.C.Numbered.number l.code) (IsAmong (take l.k-index l.k-items)) l.reached.items;
+  returns : AreNumbersOf (g.C.Numbered.number l.code) (IsReturningAmong (take l.k-index l.k-items)) l.returns.items;
 }
-
-abbrev pub decreases-loop-k : goal.decreases-loop-k
-decreases-loop-k g l = 2 ^ 64 - passed l.at
