@@ -180,10 +180,7 @@ impl<J: Job> Change<J, (bool, Option<u64>)> for WantInLine {
 
     fn make(&self, piece: &mut Piece) -> Result<(bool, Option<u64>), Memory> {
         match piece {
-            Piece::Starts(starts) => {
-                let new = starts.want(self.s)?;
-                Ok((new, starts.start_behind(self.s)))
-            }
+            Piece::Starts(starts) => starts.want_in_line(self.s),
             _ => unreachable!(),
         }
     }

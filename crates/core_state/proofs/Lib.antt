@@ -2,6 +2,10 @@ pub mod SeenSet
 pub mod SeenMap
 pub mod LeastFirst
 pub mod StartChanges
+pub mod Lines
+pub mod LowBits
+pub mod LineMarks
+pub mod LineStarts
 pub mod Displaced
 pub mod EndChanges
 pub mod Alone
@@ -17,10 +21,12 @@ pub mod TermChanges
 pub mod DerivedOrder
 pub mod StatePlace
 pub mod OneShard
-pub mod SharesLooked
+pub mod ShardRead
+pub mod PlacesLooked
 pub mod AtEntries
 pub mod AmongShards
 pub mod LeftPieces
 pub mod RowInOrder
 pub mod WaitersKept
 pub mod InPlace
+pub mod StartsPassed

@@ -4,6 +4,7 @@ pub mod Waiting
 pub mod Pairs
 pub mod Walk
 pub mod Remaining
-pub mod Shares
+pub mod Places
 pub mod InPlace
 pub mod EndKept
+pub mod Lines

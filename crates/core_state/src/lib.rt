@@ -21,6 +21,7 @@ mod crowd;
 mod end;
 pub mod ends;
 mod left;
+mod line;
 pub mod place;
 mod row;
 mod several;
@@ -37,7 +38,7 @@ pub use answer::{Arrival, Name, PlaceEnd, ShardKind, WorkKind};
 pub use ends::Ends;
 pub use place::{Job, Place};
 pub use starts::Starts;
-pub use state::State;
+pub use state::{SHARDS, State};
 pub use std::alloc::AllocError as Memory;
 pub use terms::Terms;
 

@@ -1,6 +1,6 @@
 //! The state of a builder: its maps, and the number of changes that were made of them.
 
-ghost use Rattle.std.specs.Prelude.{◌≡◌, ◌↔◌, ◌<◌, ℕ, All, length, IsTrue};
+ghost use Rattle.std.specs.Prelude.{◌≡◌, ◌↔◌, ◌<◌, ℕ, Bool, Some, All, Contains, length, IsTrue};
 ghost use Rattle.std.specs.Prelude.{OnOk, OnErr, IfOk, IfSome, IfNone};
 ghost use Rattle.std.specs.FinMap as maps;
 ghost use Rattle.cfg_model.specs.Program.Chain.{OnChain};
@@ -15,7 +15,7 @@ ghost use Rattle.core_state.specs.Least.{IsLeast, IsAbove};
 ghost use Rattle.core_state.specs.Line.{IsNextInLine};
 ghost use Rattle.core_state.specs.Reads.{done_at, returned_at, IsNextToTell, HasNextToTell};
 ghost use Rattle.core_state.specs.Work.{work_of};
-ghost use Rattle.core_state.specs.inner.Shares.{HasNothingAt};
+ghost use Rattle.core_state.specs.inner.Places.{HasNothingAt};
 ghost use Rattle.cfg_model.specs.Builder.Left.{IsLeft, HasNothingLeft};
 ghost use Rattle.cfg_model.specs.Builder.Shard.{shard_of};
 
@@ -33,7 +33,7 @@ use std::marker::Model;
 use std::thread::Threads;
 
 /// How many shards there are of each kind.
-pub(crate) const SHARDS: usize = 64;
+pub const SHARDS: usize = 64;
 
 /// The state of a builder: the starts, the ends and the terminators that are known, each kind in 64
 /// shards by address, and how many changes were made.
@@ -350,9 +350,8 @@ impl State {
     }
 
     /// Some work that is left if these addresses are to be starts, as [`State::left`] finds it.
-    /// Each of `workers` workers, in a thread of its own, looks at the starts, ends, terminators
-    /// and seeds of its share of the 64 shards. With none or one no thread is started, and more
-    /// than 64 work as 64. [`Memory`] if memory ran out.
+    /// `workers` workers draw the seeds and the 64 shards one after another. With none or one no
+    /// thread is started. [`Memory`] if memory ran out.
     pub fn left_by<R: Threads + Sync>(
         &self,
         rt: &R,
@@ -365,6 +364,26 @@ impl State {
         ensures none { IfOk result (λ left. IfNone left (HasNothingLeft seeds.now self.now.maps)) }
     {
         left_by(rt, alloc, self, seeds, workers)
+    }
+
+    /// The starts of the shard with this number, in no order. [`Memory`] if memory ran out.
+    /// Time: linear in them. Memory: eight bytes for each.
+    pub fn starts_in(&self, alloc: Global, number: usize) -> Result<Vec<u64>, Memory>
+        requires { number < 64 }
+        ensures { IfOk result (λ v. (s : ℕ) → Contains v.items s
+            ↔ IsStart self.now.maps.starts s × (shard_of s ≡ number)) }
+    {
+        self.starts[number].all(alloc)
+    }
+
+    /// The terminators of the shard with this number, each with whether it is known to return, in
+    /// no order. [`Memory`] if memory ran out. Time: linear in them. Memory: 16 bytes for each.
+    pub fn terms_in(&self, alloc: Global, number: usize) -> Result<Vec<(u64, bool)>, Memory>
+        requires { number < 64 }
+        ensures { IfOk result (λ v. (k : ℕ) (returned : Bool) → Contains v.items (k, returned)
+            ↔ (returned_at self.now.maps.terminators k ≡ Some returned) × (shard_of k ≡ number)) }
+    {
+        self.terms[number].all(alloc)
     }
 
     /// Work that is left in the shard with this number, of any kind.

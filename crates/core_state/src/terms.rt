@@ -1,6 +1,6 @@
 //! A shard of the terminators.
 
-ghost use Rattle.std.specs.Prelude.{◌≡◌, ◌↔◌, not, IsTrue, IsSome};
+ghost use Rattle.std.specs.Prelude.{◌≡◌, ◌↔◌, ℕ, Bool, Contains, not, IsTrue, Some, IsSome};
 ghost use Rattle.std.specs.Prelude.{OnOk, OnErr, IfOk, IfSome, IfNone};
 ghost use Rattle.std.specs.FinMap as maps;
 ghost use Rattle.cfg_model.specs.Builder.State.{IsEntered, IsReturned, WaitsAt};
@@ -18,7 +18,7 @@ use crate::Memory;
 use crate::answer::{Name, WorkKind};
 use crate::waiters::Waiters;
 use crate::walk::Keys;
-use address_map::{AddressMap, Look};
+use address_map::{AddressMap, Look, Reading};
 use cfg_model::Waiter;
 use std::alloc::Global;
 use std::marker::Model;
@@ -165,6 +165,14 @@ impl Terms {
     {
         self.terms.find_by(&LookAtTerminator)
     }
+
+    /// All terminators of the shard, each with whether it is known to return, in no order.
+    pub(crate) fn all(&self, alloc: Global) -> Result<Vec<(u64, bool)>, Memory>
+        ensures { IfOk result (λ v. (k : ℕ) (returned : Bool) → Contains v.items (k, returned)
+            ↔ (returned_at self.now k ≡ Some returned)) }
+    {
+        Ok(self.terms.read_by(alloc, &ReturnStatus)?)
+    }
 }
 
 impl Keys for Terms {
@@ -190,6 +198,18 @@ impl Look<Terminator, Name> for LookAtTerminator {
 
     fn look_at(&self, k: u64, term: &Terminator) -> Option<Name> {
         term.left(k)
+    }
+}
+
+/// The reading of a terminator as its address, and whether it is known to return.
+#[derive(Clone, Copy)]
+struct ReturnStatus;
+
+impl Reading<Terminator, (u64, bool)> for ReturnStatus {
+    ghost item = { λ _ k term. (k, term.returned) };
+
+    fn read(&self, k: u64, term: &Terminator) -> (u64, bool) {
+        (k, term.returned)
     }
 }
 

@@ -5,6 +5,10 @@ use std::sync::Wait;
 use std::sync::atomic::{AtomicU64, Ordering};
 use std::time::Duration;
 
+/// How often in a row a worker tries the work of a name at shards that are in other hands before it
+/// looks for another one.
+const TRIES: u32 = 3;
+
 /// How often in a row a worker that gets no further spins before it rests.
 const SPINS: u32 = 7;
 
@@ -62,6 +66,9 @@ impl AtWork {
 pub(crate) struct Pause {
     spin: Backoff,
     steps: u32,
+    /// How often in a row a try of the same name was lost, and the pause after each of them.
+    lost: u32,
+    retry: Backoff,
 }
 
 impl Pause {
@@ -70,6 +77,8 @@ impl Pause {
         Pause {
             spin: Backoff::new(),
             steps: 0,
+            lost: 0,
+            retry: Backoff::new(),
         }
     }
 
@@ -77,6 +86,17 @@ impl Pause {
     pub(crate) fn reset(&mut self) {
         self.spin.reset();
         self.steps = 0;
+        self.lost = 0;
+    }
+
+    /// Waits a little after a try that was lost. Whether the same name is to be tried again.
+    pub(crate) fn tries_again(&mut self) -> bool {
+        if self.lost == 0 {
+            self.retry.reset();
+        }
+        self.retry.spin();
+        self.lost = (self.lost.saturating_add(1)) % TRIES;
+        self.lost != 0
     }
 
     /// Waits a little.

@@ -1,7 +1,7 @@
 //! What a worker counts of its own work.
 
 /// What a worker counted of its own work, as measurements. It counts by itself: no other worker
-/// reads its counts or waits for them. Each stops at 2^64 - 1.
+/// reads its counts or waits for them. Each begins again at 0 after 2^64 - 1.
 #[derive(Clone, Copy, Debug, Default, PartialEq, Eq)]
 pub struct Tally {
     /// Tries to take the turn of a shard.
@@ -29,7 +29,7 @@ impl Tally {
     }
 }
 
-/// One more, if that is a number.
+/// One more; after 2^64 - 1 comes 0.
 pub(crate) fn add_one(count: &mut u64) {
-    *count = count.saturating_add(1);
+    *count = count.wrapping_add(1);
 }

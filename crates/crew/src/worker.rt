@@ -168,6 +168,7 @@ impl<J: Job, S: WorkerIds> Place<J> for Worker<'_, J, S> {
 
     ghost maps = { λ _. None };
 
+    #[inline(always)]
     fn want(&mut self, s: u64) -> Result<bool, PlaceEnd> {
         let desk = &mut self.desk;
         if desk.cache.starts.has(s) {
@@ -217,6 +218,7 @@ impl<J: Job, S: WorkerIds> Place<J> for Worker<'_, J, S> {
         desk.seat.wait(desk.board, k, w)
     }
 
+    #[inline(always)]
     fn place_waiter(&mut self, k: u64, w: Waiter) -> Result<bool, PlaceEnd> {
         let desk = &mut self.desk;
         self.tally.count_try();
@@ -273,6 +275,7 @@ impl<J: Job, S: WorkerIds> Place<J> for Worker<'_, J, S> {
         Ok(is_start)
     }
 
+    #[inline(always)]
     fn start_behind(&mut self, a: u64) -> Result<Option<u64>, PlaceEnd> {
         if let Some(next) = self.seen_behind(a) {
             return Ok(next);

@@ -14,16 +14,11 @@ use crate::worker_ids::WorkerIds;
 use board::Seat;
 use cfg_model::Chains;
 use core_state::{Job, Memory, Name, Place, PlaceEnd, WorkKind};
-use crossbeam_utils::Backoff;
 use std::alloc::Global;
 use std::marker::Brand;
 use std::sync::Wait;
 use steal_pool::Hand;
 use work_ops::edges_op;
-
-/// How often in a row a worker tries the work of a name at shards that are in other hands before it
-/// looks for another one.
-const TRIES: u32 = 3;
 
 /// Lets a worker work, and gives its seat and its hand back.
 pub(crate) fn employ<J: Job, R: Wait, C: Chains, G: Gate>(
@@ -82,7 +77,7 @@ fn work_off<J: Job, S: WorkerIds, R: Wait, C: Chains, G: Gate>(
         };
         found = match was_done(shared, worker, number, name) {
             Ok(true) => next_name(shared, worker, &mut pause),
-            Ok(false) => Some(another_name(shared, worker, &mut pause, name)),
+            Ok(false) => Some(name_after_loss(shared, worker, &mut pause, name)),
             Err(Memory) => {
                 shared.at_work.end();
                 return;
@@ -133,6 +128,27 @@ fn name_from_deques<J: Job, S: WorkerIds, R: Wait, C, G>(
     unreachable!()
 }
 
+/// The name to try after a try of this one was lost: this one again a few times, and then another.
+/// The system may hold up the holder of the shard for milliseconds; the others do what does not need
+/// that shard meanwhile.
+#[cold]
+#[inline(never)]
+fn name_after_loss<J: Job, S: WorkerIds, R: Wait, C, G>(
+    shared: &Shared<J, R, C, G>,
+    worker: &mut Worker<J, S>,
+    pause: &mut Pause,
+    name: Name,
+) -> Name
+    requires pool { shared.now.pool.now.deques ≡ S.deques }
+{
+    worker.count_lost();
+    if pause.tries_again() {
+        name
+    } else {
+        another_name(shared, worker, pause, name)
+    }
+}
+
 /// Another name after one whose shards were in other hands, which is put off. If there is no other,
 /// the same one: its work is the only one that there is to do.
 fn another_name<J: Job, S: WorkerIds, R: Wait, C, G>(
@@ -153,9 +169,7 @@ fn another_name<J: Job, S: WorkerIds, R: Wait, C, G>(
     }
 }
 
-/// Does the work of a name. Whether it was done: it is not if a shard was in other hands at each of
-/// a few tries. The system may hold up the holder of the shard for milliseconds; the others do what
-/// does not need that shard meanwhile.
+/// Tries to do the work of a name. Whether it was done: it is not if a shard was in other hands.
 fn was_done<J: Job, S: WorkerIds, R: Wait, C: Chains, G: Gate>(
     shared: &Shared<J, R, C, G>,
     worker: &mut Worker<J, S>,
@@ -164,27 +178,20 @@ fn was_done<J: Job, S: WorkerIds, R: Wait, C: Chains, G: Gate>(
 ) -> Result<bool, Memory>
     requires job { IsJob J.map J.seeds (C.map shared.now.code.now) shared.now.seeds.now }
 {
-    let pause = Backoff::new();
-    for _ in 0..TRIES {
-        shared.gate.before(number, name.kind, name.key);
-        match do_named(worker, shared.code, shared.seeds, name) {
-            Ok(Some(k)) => {
-                worker.count_made();
-                go_on(shared, worker, number, k)?;
-                return Ok(true);
-            }
-            Ok(None) => {
-                worker.count_made();
-                return Ok(true);
-            }
-            Err(PlaceEnd::Memory) => return Err(Memory),
-            Err(PlaceEnd::Busy { .. }) => {
-                worker.count_lost();
-                pause.spin();
-            }
+    shared.gate.before(number, name.kind, name.key);
+    match do_named(worker, shared.code, shared.seeds, name) {
+        Ok(Some(k)) => {
+            worker.count_made();
+            go_on(shared, worker, number, k)?;
+            Ok(true)
         }
+        Ok(None) => {
+            worker.count_made();
+            Ok(true)
+        }
+        Err(PlaceEnd::Memory) => Err(Memory),
+        Err(PlaceEnd::Busy { .. }) => Ok(false),
     }
-    Ok(false)
 }
 
 /// Follows the edges of the terminator `k`, which the worker has just entered: so it need not look

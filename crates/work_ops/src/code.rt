@@ -35,6 +35,7 @@ pub(crate) fn leads<J: Job, C: Chains>(code: &C, x: u64, p: u64) -> bool
 }
 
 /// The flow of the instruction at `k`.
+#[inline(always)]
 pub(crate) fn flow_of<J: Job, C: Chains>(code: &C, k: u64) -> Flow
     requires code { C.map code.now ≡ J.map }
     requires stands { IsSome (J.map k) }

@@ -1,4 +1,7 @@
 //! The parts that operations are made of: a change, and the work that it makes.
+//!
+//! They are inlined. So what a worker keeps in mind costs no call, and a change only that of its
+//! shard.
 
 ghost use Rattle.std.specs.Prelude.{◌≡◌, ◌≤◌, OnOk, IfErr};
 ghost use Rattle.std.specs.Option.{ForSome};
@@ -24,6 +27,7 @@ pub(crate) fn pass_on<J: Job, P: Place<J>>(place: &mut P, new: bool, kind: WorkK
 }
 
 /// Makes `s` a start. A new one has to be parsed.
+#[inline(always)]
 pub(crate) fn start<J: Job, P: Place<J>>(place: &mut P, s: u64) -> Result<(), PlaceEnd>
     requires lawful { IsLawful J.map }
     requires kept { AreKept J.map J.seeds (P.maps place.old) }
@@ -40,6 +44,7 @@ pub(crate) fn start<J: Job, P: Place<J>>(place: &mut P, s: u64) -> Result<(), Pl
 
 /// Enters `k` as a terminator. Its edges have to be followed when a start of its chain is parsed,
 /// and that puts their name.
+#[inline(always)]
 pub(crate) fn enter<J: Job, P: Place<J>>(place: &mut P, k: u64) -> Result<(), PlaceEnd>
     requires lawful { IsLawful J.map }
     requires kept { AreKept J.map J.seeds (P.maps place.old) }
@@ -55,6 +60,7 @@ pub(crate) fn enter<J: Job, P: Place<J>>(place: &mut P, k: u64) -> Result<(), Pl
 /// Makes `w` wait at `k`. A new waiter has to be told if `k` is known to return. Both are read as
 /// it is placed, in one turn. So if `k` is not known to return yet, the worker that notes it later
 /// finds the waiter there, and passes on that it has to be told.
+#[inline(always)]
 pub(crate) fn place_wait<J: Job, P: Place<J>>(
     place: &mut P,
     k: u64,
@@ -73,6 +79,7 @@ pub(crate) fn place_wait<J: Job, P: Place<J>>(
 }
 
 /// Notes that `k` returns. If that is new, its waiters have to be told.
+#[inline(always)]
 pub(crate) fn note_return<J: Job, P: Place<J>>(place: &mut P, k: u64) -> Result<(), PlaceEnd>
     requires lawful { IsLawful J.map }
     requires kept { AreKept J.map J.seeds (P.maps place.old) }
@@ -88,6 +95,7 @@ pub(crate) fn note_return<J: Job, P: Place<J>>(place: &mut P, k: u64) -> Result<
 
 /// Lets `s` arrive at `k`, and makes the start that is near there then a start. After a split, the
 /// displaced starts have to be placed.
+#[inline(always)]
 pub(crate) fn arrive_at<J: Job, P: Place<J>, C: Chains>(
     place: &mut P,
     code: &C,

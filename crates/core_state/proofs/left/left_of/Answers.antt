@@ -1,5 +1,9 @@
-use Rattle.core_state.proofs.SharesLooked.{if_none, nothing_in_one}
+use Rattle.std.proofs.Common.{arith}
+use Rattle.core_state.proofs.PlacesLooked.{passed_one, passed_all}
 use Rattle.core_state.proofs.left.left_of.Goals as goal
 
+pub loop-place-preserved : goal.loop-place-preserved
+loop-place-preserved c = passed_one _ _ _ c.loop-place.invariant c.in_default.ensures.none
+
 pub returns-clause-none : goal.returns-clause-none
-returns-clause-none c = if_none c.left_in_share.result (nothing_in_one c.args.seeds.now c.args.state.now.maps) c.left_in_share.ensures.none
+returns-clause-none c = passed_all _ _ c.loop-place.place (omega (arith, c.loop-place-test.false)) c.loop-place.invariant

@@ -4,7 +4,7 @@ use Rattle.core_state.specs.Counted.{CountedState}
 use Rattle.core_state.specs.Work.{work_of}
 use Rattle.core_state.specs.inner.Remaining.{LeftAtStart, LeftAtEnd, LeftAtTerminator}
 use Rattle.core_state.proofs.LeftPieces.{left_of_start, left_of_end, left_of_terminator}
-use Rattle.core_state.proofs.SharesLooked.{some_of_shard, none_of_shard, if_none}
+use Rattle.core_state.proofs.PlacesLooked.{some_of_shard, none_of_shard, if_none}
 use Rattle.core_state.proofs.state.State.left_in.Goals as goal
 
 pub returns-in-Some-clause-some : goal.returns-in-Some-clause-some

@@ -1,9 +1,0 @@
-use Rattle.std.specs.Prelude.{ℕ, Contains}
-use Rattle.std.proofs.Common.{take}
-use Rattle.cfg_model.specs.Builder.State.{IsStart}
-use Rattle.core_state.specs.inner.Shares.{IsShared}
-use Rattle.core_state.proofs.left.unstarted_seed_in.Given as goal
-
--- each seed of the share that was passed is a start
-abbrev pub invariant-loop-seed : goal.invariant-loop-seed
-invariant-loop-seed l = (s : ℕ) → Contains (take l.seed-index l.seeds) s → IsShared l.shares l.share s → IsStart l.state.maps.starts s

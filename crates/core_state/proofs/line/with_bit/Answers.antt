@@ -1,0 +1,11 @@
+use Rattle.std.proofs.Common.{◌%◌}
+use Rattle.std.specs.Int.{w64}
+use Rattle.std.proofs.lemmas.Nat.Bits.{bit_at_set_same, bit_at_set_other}
+use Rattle.core_state.proofs.LowBits.{low}
+use Rattle.core_state.proofs.line.with_bit.Goals as goal
+
+pub returns-clause-here : goal.returns-clause-here
+returns-clause-here c = bit_at_set_same w64 c.args.bits (c.args.a % 64) (low c.args.a)
+
+pub returns-clause-others : goal.returns-clause-others
+returns-clause-others c = λ i apart. bit_at_set_other w64 c.args.bits (c.args.a % 64) (low c.args.a) i apart
