@@ -18,19 +18,18 @@ use cfg_model::{Graph, Outline};
 use chain_index::ChainEnds;
 use code_tables::all_tables_by;
 use code_view::{AllTables, Code};
-use crew::{Gate, work};
+use crew::{Gate, build};
 use elf_image::{ElfError, Image};
 use elf_symbols::{Seeds, seeds};
 use file_graph::Survey;
 use outline_funcs::{functions_among_by, mark_tails_by};
 use reached_graph::outline_by;
 use reached_terms::ReachedTerms;
-use state_marks::{marks_if_closed_by, marks_of};
+use state_marks::marks_from_by;
 use std::alloc::Global;
 use std::marker::Sync;
 use std::sync::Wait;
 use std::thread::{Threads, join};
-use work_ops::finish;
 
 /// The survey of a file, made by `workers` workers. One thread more reads the seeds meanwhile.
 ///
@@ -96,12 +95,8 @@ pub fn follow_with<R: Threads + Wait + Sync, G: Gate>(
     if seeds.len() < 2 {
         return ReachedTerms::of(alloc, code, seeds);
     }
-    let mut state = work(rt, alloc, code, seeds, workers, gate)?;
-    if let Some(reached) = marks_if_closed_by(rt, alloc, code, seeds, &state, workers)? {
-        return Ok(reached);
-    }
-    finish(alloc, code, seeds, &mut state)?;
-    marks_of(alloc, code, &state)
+    let state = build(rt, alloc, code, seeds, workers, gate)?;
+    marks_from_by(rt, alloc, code, state, workers)
 }
 
 /// The graph of a program with this entry, from what it reaches, made by `workers` workers. Each

@@ -2,8 +2,8 @@ use Rattle.std.proofs.Common.{IsTrue}
 use Rattle.std.specs.Prelude.{◌↔◌}
 use Rattle.std.specs.FinMap as maps
 use Rattle.cfg_model.specs.Builder.State.{IsReturned}
-use Rattle.state_marks.proofs.Told.{reads_return}
 use Rattle.finaliser.proofs.Returning.{start_returns, start_stands}
+use Rattle.finaliser.proofs.StatusRead.{reads_return}
 use Rattle.finaliser.proofs.status.may_return.Goals as goal
 
 pub term-requires : goal.term-requires
