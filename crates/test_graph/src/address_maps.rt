@@ -3,8 +3,9 @@
 
 ghost use Rattle.std.specs.Prelude.{◌≡◌};
 
-use crate::asserts::same;
-use address_map::{AddressMap, Look, lesser};
+use crate::asserts::{holds, same};
+use address_map::{AddressMap, Look, Reading, lesser};
+use std::alloc::Global;
 use std::process::Abort;
 use std::test::Fail;
 
@@ -96,6 +97,41 @@ fn write_one(rt: &impl Abort, map: &mut AddressMap<u16>, spread: Spread) {
     same(rt, &map.find_by(&LookForValue(6)), &None);
 }
 
+/// The reading of an address alone.
+#[derive(Clone, Copy)]
+struct AddressAlone;
+
+impl Reading<u16, u64> for AddressAlone {
+    ghost item = { λ _ k _. k };
+
+    fn read(&self, k: u64, _value: &u16) -> u64 {
+        k
+    }
+}
+
+/// The addresses that are read are `before`, and all that were added after them.
+fn read_half(
+    rt: &impl Abort,
+    alloc: Global,
+    map: &AddressMap<u16>,
+    before: Option<u64>,
+    spread: Spread,
+) -> Result<(), Fail> {
+    let mut read = map.read_by(alloc, &AddressAlone)?;
+    read.sort_unstable();
+    let mut added = Vec::new(alloc);
+    if let Some(k) = before {
+        added.push(k)?;
+    }
+    for number in 0..COUNT {
+        if value(number).is_some() {
+            added.push(spread.address(number))?;
+        }
+    }
+    holds(rt, read.as_slice() == added.as_slice());
+    Ok(())
+}
+
 /// In one page, in several pages of one chunk, and in several chunks.
 #[test]
 fn near_ones_are_found(rt: HostRuntime) -> Result<(), Fail> {
@@ -106,6 +142,7 @@ fn near_ones_are_found(rt: HostRuntime) -> Result<(), Fail> {
         find_half(&rt, &map, spread);
         walk_half(&rt, &map, spread);
         write_one(&rt, &mut map, spread);
+        read_half(&rt, rt.alloc(), &map, None, spread)?;
     }
     Ok(())
 }
@@ -124,6 +161,7 @@ fn far_ones_are_found(rt: HostRuntime) -> Result<(), Fail> {
         find_half(&rt, &map, spread);
         walk_half(&rt, &map, spread);
         write_one(&rt, &mut map, spread);
+        read_half(&rt, rt.alloc(), &map, Some(0x10000), spread)?;
         same(&rt, &map.after(None), &Some(0x10000));
         same(&rt, &map.after(Some(0x10000)), &Some(spread.address(0)));
     }

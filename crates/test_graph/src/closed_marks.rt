@@ -3,7 +3,6 @@
 
 ghost use Rattle.std.specs.Prelude.{◌≤◌, ℕ, List, IsSome};
 ghost use Rattle.cfg_model.specs.Builder.Kept.{IsClosed};
-ghost use Rattle.cfg_model.specs.Program.Reach.{AreSeeds};
 ghost use Rattle.reached_terms.specs.Reached.{AreReachedTerms};
 
 use crate::asserts::same;
@@ -13,7 +12,7 @@ use core_state::State;
 use numbered::{Numbered, marked_addresses};
 use reached_graph::leaders_of;
 use reached_terms::ReachedTerms;
-use state_marks::{marks_if_closed_by, marks_of, marks_of_by};
+use state_marks::{marks_from_by, marks_of, marks_of_by};
 use std::alloc::Global;
 use std::marker::Sync;
 use std::process::Abort;
@@ -86,23 +85,20 @@ fn closed_shows<R: Threads + Sync + Abort + AllocGlobal, C: Numbered>(
     Ok(())
 }
 
-/// This closed state is found to be closed by `workers` workers, and its marks show this.
-fn found_closed<R: Threads + Sync + Abort + AllocGlobal, C: Numbered>(
+/// The marks of this closed state, made by `workers` workers and freed by another thread, show this.
+fn freed_shows<R: Threads + Sync + Abort + AllocGlobal, C: Numbered>(
     rt: &R,
     code: &C,
-    seeds: &[u64],
-    state: &State,
+    state: State,
     workers: u32,
     wanted: Wanted,
 ) -> Result<(), Fail>
-    requires seeds { AreSeeds (C.map code.now) seeds.now }
-    requires closed { IsClosed (C.map code.now) seeds.now state.now.maps }
+    requires closed { (seeds : List ℕ) × IsClosed (C.map code.now) seeds state.maps }
+    requires some { 1 ≤ workers }
 {
     let alloc = rt.alloc();
-    match marks_if_closed_by(rt, alloc, code, seeds, state, workers)? {
-        Some(marks) => expect(rt, &lists_of(alloc, code, &marks)?, wanted),
-        None => same(rt, &"work is left", &"no work is left"),
-    }
+    let marks = marks_from_by(rt, alloc, code, state, workers)?;
+    expect(rt, &lists_of(alloc, code, &marks)?, wanted);
     Ok(())
 }
 
@@ -123,8 +119,9 @@ fn all_show<R: Threads + Sync + Abort + AllocGlobal>(
     same(rt, &starts.as_slice(), &wanted.0);
     closed_shows(rt, code, &state, 1, wanted)?;
     closed_shows(rt, code, &state, 3, wanted)?;
-    found_closed(rt, code, code.seeds(), &state, 1, wanted)?;
-    found_closed(rt, code, code.seeds(), &state, 3, wanted)
+    freed_shows(rt, code, state, 3, wanted)?;
+    let state = build_alone(alloc, code, code.seeds())?;
+    freed_shows(rt, code, state, 1, wanted)
 }
 
 #[test]

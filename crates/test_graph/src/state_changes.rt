@@ -4,6 +4,7 @@ use crate::asserts::{holds, same};
 use crate::state_program::{Program, assert_entered, assert_near, assert_no_end, assert_start};
 use cfg_model::{Mark, WaitKind, Waiter};
 use core_state::{Arrival, Ends, Name, Starts, State, Terms, WorkKind};
+use std::alloc::Global;
 use std::marker::Send;
 use std::process::Abort;
 use std::test::Fail;
@@ -164,6 +165,23 @@ fn walk_keys(rt: &impl Abort, state: &mut State) -> Result<(), Fail> {
     Ok(())
 }
 
+/// What the first shard has, the last one, and one without starts and terminators.
+fn read_shards(rt: &impl Abort, alloc: Global, state: &State) -> Result<(), Fail> {
+    let mut starts = state.starts_in(alloc, 0)?;
+    starts.sort_unstable();
+    let first: &[u64] = &[0x10000, 0x10002, 0x10004, 0x10008];
+    same(rt, &starts.as_slice(), &first);
+    let last: &[u64] = &[0x7fff_ffff_ffff_ffff];
+    same(rt, &state.starts_in(alloc, 63)?.as_slice(), &last);
+    same(rt, &state.starts_in(alloc, 1)?.len(), &0);
+    let mut terms = state.terms_in(alloc, 0)?;
+    terms.sort_unstable();
+    let both: &[(u64, bool)] = &[(0x10004, false), (0x10008, true)];
+    same(rt, &terms.as_slice(), &both);
+    same(rt, &state.terms_in(alloc, 1)?.len(), &0);
+    Ok(())
+}
+
 #[test]
 fn row_23(rt: HostRuntime) -> Result<(), Fail> {
     let code = Program { alloc: rt.alloc() };
@@ -176,6 +194,7 @@ fn row_23(rt: HostRuntime) -> Result<(), Fail> {
     tell_of_return(&rt, &mut state)?;
     finish_first(&rt, &mut state)?;
     walk_keys(&rt, &mut state)?;
+    read_shards(&rt, rt.alloc(), &state)?;
     let empty = State::new(rt.alloc())?;
     find_left(&rt, &code, &empty, &state);
     count_changes(&rt, &empty, &state);
