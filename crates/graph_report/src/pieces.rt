@@ -6,7 +6,6 @@ ghost use Rattle.std.specs.Option.{option_map};
 ghost use Rattle.std.specs.Borrow.{sem};
 ghost use mir.Syntax.{named};
 ghost use Rattle.elf_image.specs.Seeds.{seed_name};
-ghost use Rattle.graph_report.specs.Report.{heading};
 ghost use Rattle.graph_report.specs.Inner.{heading_left, text_left};
 
 use crate::Memory;
@@ -105,6 +104,18 @@ impl<'a> ReportPieces<'a> {
         })
     }
 
+    /// Gives the text of these lines from now on, on the page that it has. What it had still to give
+    /// is dropped. Memory: none.
+    pub fn begin(&mut self, lines: &ReportLines<'a>)
+        ensures text { self.new ≡ lines.now }
+    {
+        self.names = lines.names.again();
+        self.left = lines.left;
+        self.given = 0;
+        self.page.drop_front(self.page.len());
+        push_heading(&mut self.page, lines.heading);
+    }
+
     /// The next piece; `None` exactly if all was given out.
     /// Time: O(p + f log s) for p bytes, f functions in them and s seeds. Memory: none.
     pub fn next_piece(&mut self) -> Option<&[u8]>
@@ -129,19 +140,19 @@ fn first_page(alloc: Global, heading: Option<u64>) -> Result<Page, Memory>
     ensures text { IfOk result (λ page. page ≡ heading_left heading) }
     ensures room { IfOk result (λ page. length page ≤ PAGE_ROOM) }
 {
-    match heading {
-        Some(entry) => headed(alloc, entry),
-        None => Page::new(alloc),
-    }
+    let mut page = Page::new(alloc)?;
+    push_heading(&mut page, heading);
+    Ok(page)
 }
 
-/// A page with the two lines that every report begins with.
-fn headed(alloc: Global, entry: u64) -> Result<Page, Memory>
-    ensures text { IfOk result (λ page. page ≡ heading entry) }
-    ensures room { IfOk result (λ page. length page ≤ PAGE_ROOM) }
+/// Puts the two lines that every report begins with on a page that is empty, if they are to be given.
+fn push_heading(page: &mut Page, heading: Option<u64>)
+    requires empty { page.old ≡ [] }
+    ensures text { page.new ≡ heading_left heading }
+    ensures room { length page.new ≤ PAGE_ROOM }
 {
-    let mut page = Page::new(alloc)?;
-    push_first(&mut page);
-    push_entry(&mut page, entry);
-    Ok(page)
+    if let Some(entry) = heading {
+        push_first(page);
+        push_entry(page, entry);
+    }
 }
