@@ -1,5 +1,5 @@
 -- One piece written after another.
-use Rattle.std.proofs.Common.{◌≡◌, ℕ, [], append-nil, suc, ◌+◌, ◌<◌, List, ◌∷◌, ◌++◌, length, take, drop, drop-cons, get_or, Option, Some, None, refl, sym, ap, ◌∙◌, arith, length-append, append_assoc}
+use Rattle.std.proofs.Common.{◌≡◌, ℕ, [], append-nil, suc, ◌+◌, ◌<◌, List, ◌∷◌, ◌++◌, length, take, drop, drop-cons, get_or, Option, Some, None, refl, sym, ap, subst, ◌∙◌, arith, length-append, append_assoc}
 use Rattle.std.specs.Prelude.{Result, Ok, Err, OnErr, OnOk, Vec}
 use Rattle.std.specs.List.{flat_map}
 use Rattle.std.specs.declared.alloc.Global.{Global}
@@ -7,6 +7,7 @@ use Rattle.std.specs.Option.{option_map}
 use Rattle.std.proofs.lemmas.List.{take-append-le}
 use Rattle.std.proofs.Math.Seq.{take-append-add}
 use Rattle.cfg_io.specs.Told.{Appends, AppendsPrefix}
+use Rattle.run_ends.specs.Told.{Moves}
 
 -- Nothing was appended.
 pub appends-nothing : (old : Option (List ℕ)) → Appends old [] old
@@ -49,17 +50,43 @@ text_and_rest texts i text bytes is within same =
     (sym (ap (λ (ts : List (Vec ℕ Global)). flat_map (λ t. t.items) ts)
     (drop-cons texts i text within ∙ ap (λ (t : Vec ℕ Global). t ∷ drop (suc i) texts) (sym is))))
 
--- what is written, joined and to come, if a piece goes from the one to the other
-pub joined_rest : (done more now before piece left pieces : List ℕ) → more ++ now ≡ before ++ piece → piece ++ left ≡ pieces
-    → (done ++ more) ++ (now ++ left) ≡ done ++ (before ++ pieces)
-joined_rest done more now before piece left pieces moved all =
-    append_assoc done more (now ++ left)
-    ∙ ap (λ xs. done ++ xs) (sym (append_assoc more now left) ∙ ap (λ xs. xs ++ left) moved ∙ append_assoc before piece left ∙ ap (λ xs. before ++ xs) all)
+-- nothing moved
+pub moves_nothing : (old : Option (List ℕ)) (text : List ℕ) → Moves old old text text
+moves_nothing old text = ([], appends-nothing old, refl)
+
+-- what was left moved on
+pub moves_on : (old mid new : Option (List ℕ)) (text left rest : List ℕ) → Moves old mid text left → Moves mid new left rest → Moves old new text rest
+moves_on old mid new text left rest (done, appended, all) (more, further, is) =
+    (done ++ more, both_appended old mid new done more appended further, append_assoc done more rest ∙ ap (λ xs. done ++ xs) is ∙ all)
+
+-- behind the text there was more
+pub moves_before : (old new : Option (List ℕ)) (text left more : List ℕ) → Moves old new text left → Moves old new (text ++ more) (left ++ more)
+moves_before old new text left more (done, appended, all) = (done, appended, sym (append_assoc done left more) ∙ ap (λ xs. xs ++ more) all)
+
+-- what was left was written
+pub moves_whole : (old mid new : Option (List ℕ)) (text left : List ℕ) → Moves old mid text left → Appends mid left new → Appends old text new
+moves_whole old mid new text left (done, appended, all) wrote = subst (λ (xs : List ℕ). Appends old xs new) all (both_appended old mid new done left appended wrote)
+
+-- a part of what was left was written
+pub moves_part : (old mid new : Option (List ℕ)) (text left : List ℕ) → Moves old mid text left → AppendsPrefix mid left new → AppendsPrefix old text new
+moves_part old mid new text left (done, appended, all) part = subst (λ (xs : List ℕ). AppendsPrefix old xs new) all (prefix_behind old mid new done left appended part)
+
+-- what was written before the pieces, the piece and what is left
+pub piece_moves : (old mid new : Option (List ℕ)) (text before pieces piece left now : List ℕ) → Moves old mid text (before ++ pieces) → Moves mid new (before ++ piece) now
+    → piece ++ left ≡ pieces → Moves old new text (now ++ left)
+piece_moves old mid new text before pieces piece left now moved next all =
+    let further : Moves mid new ((before ++ piece) ++ left) (now ++ left) = moves_before mid new (before ++ piece) now left next in
+    let same : (before ++ piece) ++ left ≡ before ++ pieces = append_assoc before piece left ∙ ap (λ xs. before ++ xs) all in
+    moves_on old mid new text (before ++ pieces) (now ++ left) moved (subst (λ (xs : List ℕ). Moves mid new xs (now ++ left)) same further)
+
+-- the part of a piece that was written is a part of what there was
+pub piece_part : (old mid new : Option (List ℕ)) (text before pieces piece left : List ℕ) → Moves old mid text (before ++ pieces) → AppendsPrefix mid (before ++ piece) new
+    → piece ++ left ≡ pieces → AppendsPrefix old text new
+piece_part old mid new text before pieces piece left moved part all =
+    let same : (before ++ piece) ++ left ≡ before ++ pieces = append_assoc before piece left ∙ ap (λ xs. before ++ xs) all in
+    moves_part old mid new text (before ++ pieces) moved
+    (subst (λ (xs : List ℕ). AppendsPrefix mid xs new) same (prefix_more mid new (before ++ piece) left part))
 
 pub on_ok_map : {A B : Type 0} {P Q : Type 0} (r : Result A B) → (P → Q) → OnOk r P → OnOk r Q
 on_ok_map (Ok x) f p = f p
 on_ok_map (Err e) f p = p
-
--- nothing is to come
-pub nothing_to_come : (done joined pieces text : List ℕ) → done ++ (joined ++ pieces) ≡ text → pieces ≡ [] → done ++ joined ≡ text
-nothing_to_come done joined pieces text whole none = ap (λ xs. done ++ xs) (sym (append-nil joined) ∙ ap (λ xs. joined ++ xs) (sym none)) ∙ whole

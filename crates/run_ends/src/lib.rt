@@ -3,8 +3,8 @@
 //!
 //! - `words`: the words of the command line.
 //! - `reading`: all bytes of the file at a path, up to a limit.
-//! - `writing`: a text, whole, in parts or piece by piece.
-//! - `joined`: pieces that are joined before they are written.
+//! - `writing`: a text, piece by piece.
+//! - `joined`: pieces that are joined before they are written, and texts between them.
 //! - `line`: the line on standard error.
 #![tactic(auto)]
 
@@ -14,8 +14,8 @@ mod reading;
 mod words;
 mod writing;
 
-pub use joined::JOINED;
+pub use joined::{JOINED, Joined};
 pub use line::write_failure;
 pub use reading::{FILE_LIMIT, Unread, read_file, read_within};
 pub use words::command_words;
-pub use writing::{Unwritten, write_pieces, write_texts};
+pub use writing::{Unwritten, write_pieces};

@@ -72,10 +72,8 @@ fn write_joined<O: Sink>(
     ensures failed { OnErr result (Rose (O.faults out.old) (O.faults out.new)) }
     ensures never_falls { O.faults out.old ≤ O.faults out.new }
 {
-    while let Some(piece) = pieces.next_piece() {
-        joined.put(piece, out)?;
-    }
-    write_whole(out, joined.bytes())
+    joined.put_all(&mut pieces, out)?;
+    joined.end(out)
 }
 
 /// Writes these texts, one after another. It takes no memory.
