@@ -1,21 +1,12 @@
 -- Words that no public clause cites: what the steps of a run answer one another.
-use Rattle.std.specs.Prelude.{◌≡◌, ℕ, List, Vec, Option, Some, None, IfSome, IfOk, IfErr}
-use Rattle.std.specs.Prelude.{Result, Ok, Err, All}
-use Rattle.std.specs.List.Sorted.{IsStrictlyIncreasing}
+use Rattle.std.specs.Prelude.{◌≡◌, ℕ, List, Vec, Option, Some, None, IfSome, IfOk}
+use Rattle.std.specs.Prelude.{Result, Ok, Err}
 use Rattle.std.specs.declared.alloc.Global.{Global}
-use Rattle.std.proofs.Common.{Bor}
-use Rattle.cfg_model.specs.declared.graph.Graph.{Graph}
-use Rattle.cfg_model.specs.declared.live.Live.{Live}
 use Rattle.std.specs.declared.alloc.AllocError.{AllocError as Memory}
 use Rattle.parallel.specs.Lists.{all_in}
-use Rattle.elf_image.specs.declared.fault.ElfError.{ElfError}
 use Rattle.elf_image.specs.Faults.{first_fault}
 use Rattle.cfg_words.specs.Request.{Asked}
 use Rattle.run_ends.specs.Inputs.{OverInput}
-use Rattle.file_graph.specs.File.{GraphedFile, IsGraphedFile}
-use Rattle.file_graph.specs.Survey.{IsFaultOf}
-use Rattle.live_regs.specs.Masks.{AreAllLivesOf}
-use Rattle.live_regs.specs.Noted.{AreInOrder}
 use Rattle.cfg_run.specs.declared.refusal.Refusal.{Refusal}
 use Rattle.cfg_run.specs.declared.refusal.Refusal.TheVariants as refusals
 use Rattle.cfg_run.specs.declared.status.Status.{Status}

@@ -35,6 +35,9 @@ pub trait Maker {
         ensures { IfOk result (AreAllLivesOf image.now graph.now.blocks graph.now.edges
             graph.now.functions) };
 
+    /// Of how many lines the text is made at once, and kept, if texts are made.
+    fn lines_at_once(&self) -> usize;
+
     /// The text of these lines, as texts that follow each other; `None` if it is to be made piece by
     /// piece while it is written.
     fn texts(&self, lines: ReportLines) -> Result<Option<Vec<Vec<u8>>>, Memory>
@@ -56,6 +59,10 @@ impl Maker for Alone {
 
     fn lives(&self, image: &Image, graph: &Graph) -> Result<AllLives, Memory> {
         graph_lives(self.alloc, image, graph)
+    }
+
+    fn lines_at_once(&self) -> usize {
+        usize::MAX
     }
 
     fn texts(&self, _lines: ReportLines) -> Result<Option<Vec<Vec<u8>>>, Memory> {
