@@ -12,7 +12,7 @@ use std::thread::Threads;
 
 /// The parts of the text that there are for each worker. With one each, all would wait for the one
 /// that is slowest or begins last; of four each, fast workers draw more.
-const PARTS_PER_WORKER: usize = 4;
+pub const PARTS_PER_WORKER: usize = 4;
 
 /// The text of these lines, as texts that follow each other, made by `workers` workers, from 1 to
 /// 64. With one worker no thread is started. [`Memory`] if memory ran out.

@@ -25,7 +25,7 @@ use file_crew::file_graph_by;
 use file_graph::FileGraph;
 use graph_report::ReportLines;
 use live_crew::graph_lives_by;
-use report_crew::{is_worth_sharing, text_by};
+use report_crew::{is_worth_sharing, lines_at_once, text_by};
 use std::alloc::Global;
 use std::marker::Sync;
 use std::sync::Wait;
@@ -42,8 +42,9 @@ use std::thread::Threads;
 ///
 /// From two workers on, threads share the work: with two seeds or more they build the closed state
 /// on a board that they share, and pass the gate before each operation. The run may wait then. They
-/// share the search for live registers too, and the text of a report of many lines. With one worker
-/// it does what [`run_one`](cfg_run::run_one) does.
+/// share the search for live registers too, and the text of a report of many lines: it is made in
+/// rounds, and that of a round is written before the next is made. With one worker the run does what
+/// [`run_one`](cfg_run::run_one) does.
 pub fn run<R: Threads + Wait + Sync, I: Input, O: Sink, E: Sink, G: Gate>(
     rt: &R,
     alloc: Global,
@@ -109,7 +110,12 @@ pub fn run<R: Threads + Wait + Sync, I: Input, O: Sink, E: Sink, G: Gate>(
             requires { IsSync R.row × (2 ≤ count) × (count ≤ 64) }
             ensures { AnswersTexts lines.entry result }
         { texts_by(rt, alloc, lines, count) };
-        let by = Workers { file, lives, texts };
+        let by = Workers {
+            file,
+            lives,
+            texts,
+            lines_at_once: lines_at_once(count),
+        };
         return run_by(alloc, &by, &request, input, out, err);
     }
     run_by(alloc, &Alone { alloc }, &request, input, out, err)

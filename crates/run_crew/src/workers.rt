@@ -16,8 +16,10 @@ pub struct Workers<F, L, T> {
     pub file: F,
     /// Finds the live registers of a graph.
     pub lives: L,
-    /// Makes the text of a report.
+    /// Makes the text of some lines of a report.
     pub texts: T,
+    /// Of how many lines it is made at once.
+    pub lines_at_once: usize,
 }
 
 impl<
@@ -35,6 +37,10 @@ impl<
 
     fn lives(&self, image: &Image, graph: &Graph) -> Result<AllLives, Memory> {
         (self.lives)(image, graph)
+    }
+
+    fn lines_at_once(&self) -> usize {
+        self.lines_at_once
     }
 
     fn texts(&self, lines: ReportLines) -> Result<Option<Vec<Vec<u8>>>, Memory> {
