@@ -11,6 +11,7 @@
 //! - `command_lines`: what words ask for.
 //! - `one_run`: a run of the program. `safe_run`: one in which nothing can fail.
 //! - `long_row`: a report of many lines. `shared_runs`: runs whose text workers share.
+//! - `rounds`: reports whose text is made in many rounds.
 //! - `several_workers`, `yardstick`: workers against one thread, and against another builder.
 //! - `gated_runs`: runs whose workers gates hold: that they work at the same time, and steal.
 #![tactic(auto)]
@@ -29,6 +30,8 @@ mod long_row;
 mod one_run;
 #[cfg(test)]
 mod report_text;
+#[cfg(test)]
+mod rounds;
 #[cfg(test)]
 mod row_files;
 #[cfg(test)]

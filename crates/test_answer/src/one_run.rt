@@ -33,7 +33,7 @@ pub(crate) fn left_by<R: Threads + Wait + AllocGlobal + Sync, G: Gate>(
     let name = "F".to_string(alloc)?;
     let mut input = MemInput::new(name, bytes, 65_536, Vec::new(alloc));
     let failing = vec![in alloc; failing_write]?;
-    let mut out = MemSink::new(alloc, 1_048_576, 1_048_576, failing)?;
+    let mut out = MemSink::new(alloc, 2_097_152, 1_048_576, failing)?;
     let mut err = MemSink::new(alloc, 1_048_576, 1_048_576, Vec::new(alloc))?;
     let status = run(rt, alloc, &all, &mut input, &mut out, &mut err, gate);
     Ok(Left { status, out })

@@ -52,9 +52,10 @@ fn runs_agree<R: Threads + Wait + Abort + AllocGlobal + Sync>(
     Ok(())
 }
 
+/// The lines of the graph are two rounds of two workers, and one of four.
 #[test]
 fn runs_of_many_lines(rt: HostRuntime) -> Result<(), Fail> {
-    runs_agree(&rt, "graph", 1100)?;
+    runs_agree(&rt, "graph", 2000)?;
     runs_agree(&rt, "live", 3400)
 }
 
@@ -80,7 +81,7 @@ fn workers_write_parts(rt: HostRuntime) -> Result<(), Fail> {
     );
     same(
         &rt,
-        &left_of(&rt, "4", "graph", 900, 9)?.status,
+        &left_of(&rt, "4", "graph", 350, 9)?.status,
         &Status::Done,
     );
     Ok(())

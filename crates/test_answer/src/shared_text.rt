@@ -10,7 +10,7 @@ use cfg_model::{Addresses, Function, Functions, Graph};
 use elf_image::Image;
 use elf_symbols::seeds;
 use graph_report::{FileNames, ReportKind, ReportLines, report};
-use report_crew::{LEAST_LINES, is_worth_sharing, text_by};
+use report_crew::{LEAST_LINES, is_worth_sharing, lines_at_once, text_by};
 use std::alloc::{AllocError, Global};
 use std::marker::Sync;
 use std::process::Abort;
@@ -96,13 +96,15 @@ fn is_shared(alloc: Global, functions: usize, lines: usize, name: usize) -> Resu
     Ok(is_worth_sharing(&lines))
 }
 
-/// Reports of few lines, and those whose names might make more than 256 MiB of text, are not shared.
+/// Few lines, and those whose names might make more than 256 MiB of text, are not shared. A round of
+/// four workers is sixteen parts.
 #[test]
 fn measures_of_reports(rt: HostRuntime) -> Result<(), Fail> {
     let alloc = rt.alloc();
     holds(&rt, !is_shared(alloc, 100, LEAST_LINES / 200, 1)?);
-    holds(&rt, is_shared(alloc, 100, LEAST_LINES / 100, 1)?);
-    holds(&rt, is_shared(alloc, 100, LEAST_LINES / 100, 100_000)?);
-    holds(&rt, !is_shared(alloc, 100, LEAST_LINES / 100, 1_000_000)?);
+    holds(&rt, is_shared(alloc, 100, LEAST_LINES / 50, 1)?);
+    holds(&rt, is_shared(alloc, 100, LEAST_LINES / 50, 100_000)?);
+    holds(&rt, !is_shared(alloc, 100, LEAST_LINES / 50, 1_000_000)?);
+    same(&rt, &lines_at_once(4), &65_536);
     Ok(())
 }
