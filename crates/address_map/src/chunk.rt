@@ -103,7 +103,7 @@ impl<T> Chunk<T> {
             value,
             before: self.upto[place],
         };
-        append(&mut self.entries, entry)?;
+        append(self.alloc, &mut self.entries, entry)?;
         self.upto[place] = upto;
         Ok(true)
     }

@@ -12,7 +12,7 @@ ghost use Rattle.address_map.specs.inner.Entries.{pairs, AreLinked};
 ghost use Rattle.address_map.specs.Least.{lesser_of};
 
 use crate::least::lesser;
-use std::alloc::AllocError;
+use std::alloc::{AllocError, Global};
 use std::mem::size_of;
 
 /// An address with its value, and where the one before it in its page lies.
@@ -114,7 +114,7 @@ fn is_above(key: u64, a: Option<u64>) -> bool
 
 /// A row of n entries that is full grows by n divided by this, and [`GROWTH_LEAST`]. So it has room
 /// for little more than half as many again, and is moved a number of times that is logarithmic in
-/// its length. If threads share maps, a move takes the lock of the heap that the row lies in.
+/// its length.
 const GROWTH_PART: usize = 2;
 
 /// What a row of entries grows by at least.
@@ -123,6 +123,7 @@ const GROWTH_LEAST: usize = 24;
 /// Appends an entry.
 #[inline]
 pub(crate) fn append<T: Drop>(
+    alloc: Global,
     entries: &mut Vec<Entry<T>>,
     entry: Entry<T>,
 ) -> Result<(), AllocError>
@@ -131,19 +132,26 @@ pub(crate) fn append<T: Drop>(
 {
     let len = entries.len();
     if len == entries.capacity() {
-        make_room(entries)?;
+        make_room(alloc, entries)?;
     }
     entries.push(entry)?;
     Ok(())
 }
 
 /// Makes room for more entries in a row that is full.
+///
+/// The row is not extended in place, but moved to new memory. If threads share maps, to extend it
+/// would hold the lock of the heap that it lies in, which is mostly another thread's, while it is
+/// copied.
 #[cold]
 #[inline(never)]
-fn make_room<T: Drop>(entries: &mut Vec<Entry<T>>) -> Result<(), AllocError>
+fn make_room<T: Drop>(alloc: Global, entries: &mut Vec<Entry<T>>) -> Result<(), AllocError>
     ensures { entries.new.items ≡ entries.old.items }
 {
-    entries.reserve_exact(entries.len() / GROWTH_PART + GROWTH_LEAST)?;
+    let room = (entries.len() / GROWTH_PART + GROWTH_LEAST).saturating_add(entries.len());
+    let mut roomy = Vec::with_capacity(alloc, room)?;
+    roomy.append(entries)?;
+    *entries = roomy;
     Ok(())
 }
 

@@ -1,6 +1,6 @@
 //! Waiters in a row, in their order, few enough to be looked at one by one.
 
-ghost use Rattle.std.specs.Prelude.{◌≡◌, false, Some, OnOk, IfOk, IfErr};
+ghost use Rattle.std.specs.Prelude.{◌≡◌, ◌≤◌, false, Some, OnOk, OnErr, IfOk, IfErr, length, insert};
 ghost use Rattle.std.specs.FinMap.{find};
 ghost use Rattle.std.specs.FinMap.Entries.{put};
 ghost use Rattle.cfg_model.specs.Builder.Waiter.{waiter_cmp};
@@ -11,6 +11,7 @@ ghost use Rattle.core_state.specs.inner.Waiting.{lesser_by};
 
 use crate::Memory;
 use cfg_model::Waiter;
+use std::alloc::Global;
 use std::cmp::Ordering;
 
 /// The place at which `w` stands in a row, or else the one at which it would stand.
@@ -50,6 +51,28 @@ pub(crate) fn put(row: &mut Vec<(Waiter, bool)>, w: Waiter, told: bool) -> Resul
         Ok(place) => row[place] = (w, told),
         Err(place) => row.insert(place, (w, told))?,
     }
+    Ok(())
+}
+
+/// Inserts an item into a row, before the one at `place`. A full row is moved to new memory, of
+/// which it takes twice as much: if threads share states, to extend it would hold the lock of the
+/// heap that it lies in, which is mostly another thread's, while it is copied.
+pub(crate) fn insert(
+    alloc: Global,
+    row: &mut Vec<(Waiter, bool)>,
+    place: usize,
+    item: (Waiter, bool),
+) -> Result<(), Memory>
+    requires { place ≤ length row.old.items }
+    ensures items { OnOk result (row.new.items ≡ insert row.old.items place item) }
+    ensures unchanged { OnErr result (row.new.items ≡ row.old.items) }
+{
+    if row.len() == row.capacity() {
+        let mut roomy = Vec::with_capacity(alloc, row.len().saturating_mul(2))?;
+        roomy.append(row)?;
+        *row = roomy;
+    }
+    row.insert(place, item)?;
     Ok(())
 }
 

@@ -9,7 +9,7 @@ ghost use Rattle.core_state.specs.inner.Waiting.{AwaitsTelling, with_waiter, wit
 
 use crate::Memory;
 use crate::crowd::Crowd;
-use crate::row::{lesser, put, spot, untold_among};
+use crate::row::{insert, lesser, put, spot, untold_among};
 use cfg_model::Waiter;
 use std::alloc::Global;
 use std::marker::Model;
@@ -24,6 +24,7 @@ const FEW_FIRST: usize = 6;
 /// in a crowd. Many waiters take time logarithmic in their number each.
 #[derive(Drop)]
 pub(crate) struct Several {
+    alloc: Global,
     few: Vec<(Waiter, bool)>,
     crowd: Crowd,
 }
@@ -61,6 +62,7 @@ impl Several {
         put(&mut few, second.0, second.1)?;
         put(&mut few, first.0, first.1)?;
         Ok(Several {
+            alloc,
             few,
             crowd: Crowd::new(alloc),
         })
@@ -81,7 +83,7 @@ impl Several {
             return Ok(false);
         }
         if self.few.len() < FEW {
-            self.few.insert(place, (w, false))?;
+            insert(self.alloc, &mut self.few, place, (w, false))?;
         } else {
             self.crowd.add(w)?;
         }

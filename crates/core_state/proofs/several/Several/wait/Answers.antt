@@ -24,14 +24,14 @@ returns-then-has-clause-answer c = not_new c.args.self.now c.args.w (as_in_crowd
 
 pub invariant_of-self : goal.invariant_of-self
 invariant_of-self c =
-    put_kept c.self.inside.few.items c.insert.new.self.items c.args.w false
+    put_kept c.self.inside.few.items c.insert.new.row.items c.args.w false
     (c.in_ok-insert.ensures.items ∙ put_in_gap c.self.inside.few.items c.self.inside.crowd c.args.self.now c.self.view_is c.args.w c.in-Err.place (subst (λ (row : Row). IsGapAt waiter_cmp row c.args.w c.in-Err.place) c.as_slice.ensures.value c.in-Err.ensures.gap))
     c.self.inside.crowd c.self.invariant
     (crowd_without c.self.inside.few.items c.self.inside.crowd c.args.self.now c.self.view_is c.args.w c.in-Err.place (subst (λ (row : Row). IsGapAt waiter_cmp row c.args.w c.in-Err.place) c.as_slice.ensures.value c.in-Err.ensures.gap) (sym c.has.ensures ∙ c.if-has.false))
 
 pub returns-in_ok-insert-clause-waits : goal.returns-in_ok-insert-clause-waits
 returns-in_ok-insert-clause-waits c =
-    put_over c.self.inside.few.items c.insert.new.self.items c.args.w false
+    put_over c.self.inside.few.items c.insert.new.row.items c.args.w false
     (c.in_ok-insert.ensures.items ∙ put_in_gap c.self.inside.few.items c.self.inside.crowd c.args.self.now c.self.view_is c.args.w c.in-Err.place (subst (λ (row : Row). IsGapAt waiter_cmp row c.args.w c.in-Err.place) c.as_slice.ensures.value c.in-Err.ensures.gap))
     c.self.inside.crowd c.args.self.now c.self.view_is
     ∙ waits_new c.args.self.now c.args.w (as_in_crowd c.self.inside.few.items c.self.inside.crowd c.args.self.now c.self.view_is c.args.w c.in-Err.place (subst (λ (row : Row). IsGapAt waiter_cmp row c.args.w c.in-Err.place) c.as_slice.ensures.value c.in-Err.ensures.gap) false (sym c.has.ensures ∙ c.if-has.false))
