@@ -5,9 +5,9 @@ ghost use Rattle.cfg_model.specs.Builder.Kept.{IsClosed};
 ghost use Rattle.reached_terms.specs.Reached.{AreReachedTerms};
 ghost use Rattle.state_marks.specs.Inner.Seen.{StandOn, AreMarksOf, AddsMarks};
 ghost use Rattle.state_marks.specs.Inner.Parts.{AreBelow, IsMade, IsSeenByShard, InParts};
-ghost use Rattle.state_marks.specs.Inner.Parts.{reached_of, returns_of, starts_of};
+ghost use Rattle.state_marks.specs.Inner.Parts.{numbers_of, reached_of, returns_of, starts_of};
 
-use crate::seen::{Seen, seen_in};
+use crate::seen::{Kind, Seen, seen_in};
 use cfg_model::Memory;
 use core_state::{SHARDS, State};
 use numbered::Numbered;
@@ -28,7 +28,7 @@ pub fn marks_of<C: Numbered>(alloc: Global, code: &C, state: &State) -> Result<R
         → AreReachedTerms (C.map code.now) (C.number code.now) seeds terms) }
 {
     let parts = seen_of(alloc, code, state)?;
-    marks_at(alloc, code.numbers(), parts)
+    marks_at(alloc, code.numbers(), &parts)
 }
 
 /// What the shards of each number show.
@@ -48,30 +48,46 @@ fn seen_of<C: Numbered>(
 }
 
 /// So many marks of each kind, of which those at the numbers of these parts are set, and no others.
-pub(crate) fn marks_at(
+fn marks_at(
     alloc: Global,
     count: u32,
-    parts: Vec<Result<Seen, Memory>>,
+    parts: &[Result<Seen, Memory>],
 ) -> Result<ReachedTerms, Memory>
-    requires { All (λ part. IfOk part (AreBelow count)) parts.items }
-    ensures made { IfOk result (λ _. All IsMade parts.items) }
+    requires { All (λ part. IfOk part (AreBelow count)) parts.now }
+    ensures made { IfOk result (λ _. All IsMade parts.now) }
     ensures reached { IfOk result
-        (λ terms. AreMarksOf count (InParts reached_of parts.items) terms.reached) }
+        (λ terms. AreMarksOf count (InParts reached_of parts.now) terms.reached) }
     ensures returns { IfOk result
-        (λ terms. AreMarksOf count (InParts returns_of parts.items) terms.returns) }
+        (λ terms. AreMarksOf count (InParts returns_of parts.now) terms.returns) }
     ensures starts { IfOk result
-        (λ terms. AreMarksOf count (InParts starts_of parts.items) terms.starts) }
+        (λ terms. AreMarksOf count (InParts starts_of parts.now) terms.starts) }
 {
-    let mut reached = vec![in alloc; false; count as usize]?;
-    let mut returns = vec![in alloc; false; count as usize]?;
-    let mut starts = vec![in alloc; false; count as usize]?;
-    for part in parts {
-        let part = part?;
-        mark(&mut reached, &part.reached);
-        mark(&mut returns, &part.returns);
-        mark(&mut starts, &part.starts);
-    }
+    let reached = marked_in(alloc, count, parts, Kind::Reached)?;
+    let returns = marked_in(alloc, count, parts, Kind::Returns)?;
+    let starts = marked_in(alloc, count, parts, Kind::Starts)?;
     Ok(ReachedTerms::from_marks(reached, returns, starts))
+}
+
+/// So many marks, of which those at the numbers of this kind of these parts are set, and no others.
+pub(crate) fn marked_in(
+    alloc: Global,
+    count: u32,
+    parts: &[Result<Seen, Memory>],
+    kind: Kind,
+) -> Result<Vec<bool>, Memory>
+    requires { All (λ part. IfOk part (AreBelow count)) parts.now }
+    ensures made { IfOk result (λ _. All IsMade parts.now) }
+    ensures marks { IfOk result
+        (λ marks. AreMarksOf count (InParts (numbers_of kind) parts.now) marks.items) }
+{
+    let mut marks = vec![in alloc; false; count as usize]?;
+    for part in parts {
+        match part {
+            Ok(seen) => mark(&mut marks, seen.numbers(kind)),
+            Err(_) => return Err(Memory),
+        }
+    }
+    Ok(marks)
 }
 
 /// Sets the marks at these numbers.

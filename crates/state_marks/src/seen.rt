@@ -4,6 +4,7 @@ ghost use Rattle.std.specs.Prelude.{◌≡◌, ◌<◌, true, Contains, IfOk};
 ghost use Rattle.cfg_model.specs.Builder.Shard.{shard_of};
 ghost use Rattle.cfg_model.specs.Builder.State.{IsStart, IsEntered, IsReturned};
 ghost use Rattle.state_marks.specs.Inner.Seen.{AreNumbersIn, IsSeen, StandOn};
+ghost use Rattle.state_marks.specs.Inner.Parts.{numbers_of};
 
 use cfg_model::Memory;
 use core_state::State;
@@ -19,6 +20,30 @@ pub(crate) struct Seen {
     pub(crate) returns: Vec<u32>,
     /// Those of its starts.
     pub(crate) starts: Vec<u32>,
+}
+
+/// What a mark tells of an address.
+#[derive(Clone, Copy)]
+pub(crate) enum Kind {
+    /// It is a terminator that is reached.
+    Reached,
+    /// It is a terminator that is known to return.
+    Returns,
+    /// A block starts there.
+    Starts,
+}
+
+impl Seen {
+    /// The numbers of this kind.
+    pub(crate) fn numbers(&self, kind: Kind) -> &[u32]
+        ensures { result.now ≡ numbers_of kind self.now }
+    {
+        match kind {
+            Kind::Reached => &self.reached,
+            Kind::Returns => &self.returns,
+            Kind::Starts => &self.starts,
+        }
+    }
 }
 
 /// The numbers of the addresses of which the shards with this number show something.

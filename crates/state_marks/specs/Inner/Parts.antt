@@ -1,10 +1,13 @@
 -- What a state shows, found shard by shard.
-use Rattle.std.specs.Prelude.{◌≡◌, ℕ, ◌<◌, List, length, slice_index_or, All, Contains}
+use Rattle.std.specs.Prelude.{◌≡◌, ℕ, ◌<◌, List, length, slice_index_or, All, Contains, Bool, Vec}
 use Rattle.std.specs.Prelude.{IfOk, IsOk, Result, Ok}
 use Rattle.std.specs.declared.alloc.AllocError.{AllocError as Memory}
+use Rattle.std.specs.declared.alloc.Global.{Global}
 use Rattle.cfg_model.specs.Builder.State.{BuilderState}
 use Rattle.state_marks.specs.declared.seen.Seen.{Seen}
-use Rattle.state_marks.specs.Inner.Seen.{IsSeen}
+use Rattle.state_marks.specs.declared.seen.Kind.{Kind}
+use Rattle.state_marks.specs.declared.seen.Kind.TheVariants as kinds
+use Rattle.state_marks.specs.Inner.Seen.{IsSeen, AreMarksOf}
 
 -- What a worker answers of the shards with one number.
 abbrev pub Answered : Type 0
@@ -24,6 +27,12 @@ returns_of seen = seen.returns.items
 abbrev pub starts_of : Seen → List ℕ
 starts_of seen = seen.starts.items
 
+-- The numbers of a kind.
+abbrev pub numbers_of : Kind → Seen → List ℕ
+numbers_of kinds.Reached = reached_of
+numbers_of kinds.Returns = returns_of
+numbers_of kinds.Starts = starts_of
+
 -- All numbers are below this one.
 pub record AreBelow (count : ℕ) (seen : Seen) : Type 0 where
   pub reached : All (λ n. n < count) (reached_of seen)
@@ -35,6 +44,11 @@ pub record InParts (numbers : Seen → List ℕ) (answers : List Answered) (n : 
   pub seen : Seen
   pub part : Contains answers (Ok seen)
   pub there : Contains (numbers seen) n
+
+-- If the marks of a kind were made, all parts were, and those at the numbers of this kind are set.
+abbrev pub AnswersMarks : ℕ → (Seen → List ℕ) → List Answered → Result (Vec Bool Global) Memory → Type 0
+AnswersMarks count numbers answers marks =
+    IfOk marks (λ v. All IsMade answers × AreMarksOf count (InParts numbers answers) v.items)
 
 -- Each shard has an answer: what the state shows there, if it was found.
 pub record IsSeenByShard (number : ℕ → ℕ) (state : BuilderState) (answers : List Answered)

@@ -1,4 +1,6 @@
+use Rattle.std.proofs.Common.{sym, subst}
 use Rattle.state_marks.proofs.Told.{closed_stand, parts_below, told_if_made}
+use Rattle.state_marks.specs.Inner.Parts.{IsSeenByShard}
 use Rattle.state_marks.proofs.marks.marks_of.Goals as goal
 
 pub seen_of-requires-after_bounds : goal.seen_of-requires-after_bounds
@@ -7,10 +9,14 @@ seen_of-requires-after_bounds g c κs within = closed_stand (g.C.Chains.map c.ar
 pub marks_at-requires : goal.marks_at-requires
 marks_at-requires g c =
     let map = g.C.Chains.map c.args.code.now in
-    parts_below map c.args.state.now.maps (closed_stand map c.requires.0 c.args.state.now.maps c.requires.1) (g.C.Numbered.number c.args.code.now) c.numbers.result c.numbers.ensures.numbers c.in_ok-parts.parts.items c.in_ok-parts.ensures
+    let state = c.args.state.now.maps in
+    let number = g.C.Numbered.number c.args.code.now in
+    parts_below map state (closed_stand map c.requires.0 state c.requires.1) number c.numbers.result c.numbers.ensures.numbers c.deref.result.now (subst (IsSeenByShard number state) (sym c.deref.ensures.value) c.in_ok-parts.ensures)
 
 pub returns : goal.returns
 returns g c =
     let map = g.C.Chains.map c.args.code.now in
-    told_if_made map c.args.state.now.maps (closed_stand map c.requires.0 c.args.state.now.maps c.requires.1) c.numbers.ensures.lawful (g.C.Numbered.number c.args.code.now) c.numbers.result c.numbers.ensures.numbers c.in_ok-parts.parts.items c.in_ok-parts.ensures
+    let state = c.args.state.now.maps in
+    let number = g.C.Numbered.number c.args.code.now in
+    told_if_made map state (closed_stand map c.requires.0 state c.requires.1) c.numbers.ensures.lawful number c.numbers.result c.numbers.ensures.numbers c.deref.result.now (subst (IsSeenByShard number state) (sym c.deref.ensures.value) c.in_ok-parts.ensures)
     c.marks_at.result c.marks_at.ensures.made c.marks_at.ensures.reached c.marks_at.ensures.returns c.marks_at.ensures.starts

@@ -1,16 +1,22 @@
+use Rattle.std.proofs.Common.{sym, subst}
 use Rattle.state_marks.proofs.Told.{closed_stand, parts_below, told_if_made}
+use Rattle.state_marks.specs.Inner.Parts.{IsSeenByShard}
 use Rattle.state_marks.proofs.sharing.marks_from_by.Goals as goal
 
 pub seen_by-requires-after_bounds : goal.seen_by-requires-after_bounds
 seen_by-requires-after_bounds g c κs within = closed_stand (g.C.Chains.map c.args.code.now) c.requires.closed.0 c.args.state.maps c.requires.closed.1
 
-pub marks_at-requires : goal.marks_at-requires
-marks_at-requires g c =
+pub marks_by_kind-requires-after_bounds : goal.marks_by_kind-requires-after_bounds
+marks_by_kind-requires-after_bounds g c κs within =
     let map = g.C.Chains.map c.args.code.now in
-    parts_below map c.args.state.maps (closed_stand map c.requires.closed.0 c.args.state.maps c.requires.closed.1) (g.C.Numbered.number c.args.code.now) c.numbers.result c.numbers.ensures.numbers c.in_ok-parts.parts.items c.in_ok-parts.ensures
+    let state = c.args.state.maps in
+    let number = g.C.Numbered.number c.args.code.now in
+    parts_below map state (closed_stand map c.requires.closed.0 state c.requires.closed.1) number c.numbers.result c.numbers.ensures.numbers c.deref.result.now (subst (IsSeenByShard number state) (sym c.deref.ensures.value) c.in_ok-parts.ensures)
 
 pub returns : goal.returns
 returns g c =
     let map = g.C.Chains.map c.args.code.now in
-    told_if_made map c.args.state.maps (closed_stand map c.requires.closed.0 c.args.state.maps c.requires.closed.1) c.numbers.ensures.lawful (g.C.Numbered.number c.args.code.now) c.numbers.result c.numbers.ensures.numbers c.in_ok-parts.parts.items c.in_ok-parts.ensures
-    c.marks_at.result c.marks_at.ensures.made c.marks_at.ensures.reached c.marks_at.ensures.returns c.marks_at.ensures.starts
+    let state = c.args.state.maps in
+    let number = g.C.Numbered.number c.args.code.now in
+    told_if_made map state (closed_stand map c.requires.closed.0 state c.requires.closed.1) c.numbers.ensures.lawful number c.numbers.result c.numbers.ensures.numbers c.deref.result.now (subst (IsSeenByShard number state) (sym c.deref.ensures.value) c.in_ok-parts.ensures)
+    c.marks_by_kind.result c.marks_by_kind.ensures.made c.marks_by_kind.ensures.reached c.marks_by_kind.ensures.returns c.marks_by_kind.ensures.starts
