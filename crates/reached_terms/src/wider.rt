@@ -85,10 +85,19 @@ fn both(alloc: Global, one: &[bool], other: &[bool]) -> Result<Vec<bool>, Memory
         → IsOn v.items n ↔ IsOn one.now n × IsOn other.now n) }
 {
     let mut marks = Vec::from_slice(alloc, one)?;
-    for n in 0..other.len() {
-        marks[n] = marks[n] && other[n];
-    }
+    keep_set(&mut marks, other);
     Ok(marks)
+}
+
+/// Takes the marks away that are not set in the other.
+fn keep_set(marks: &mut [bool], other: &[bool])
+    requires { length other.now ≡ length marks.old }
+    ensures size { length marks.new ≡ length marks.old }
+    ensures marks { (n : ℕ) → IsOn marks.new n ↔ IsOn marks.old n × IsOn other.now n }
+{
+    for n in 0..other.len() {
+        marks[n] = marks[n] & other[n];
+    }
 }
 
 /// The marks that are set in the one, and not in the other.
@@ -98,8 +107,18 @@ fn but(alloc: Global, one: &[bool], other: &[bool]) -> Result<Vec<bool>, Memory>
         → IsOn v.items n ↔ IsOn one.now n × (get_or other.now n false ≡ false)) }
 {
     let mut marks = Vec::from_slice(alloc, one)?;
-    for n in 0..other.len() {
-        marks[n] = marks[n] && !other[n];
-    }
+    keep_unset(&mut marks, other);
     Ok(marks)
+}
+
+/// Takes the marks away that are set in the other.
+fn keep_unset(marks: &mut [bool], other: &[bool])
+    requires { length other.now ≡ length marks.old }
+    ensures size { length marks.new ≡ length marks.old }
+    ensures marks { (n : ℕ)
+        → IsOn marks.new n ↔ IsOn marks.old n × (get_or other.now n false ≡ false) }
+{
+    for n in 0..other.len() {
+        marks[n] = marks[n] & !other[n];
+    }
 }
