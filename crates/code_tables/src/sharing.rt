@@ -7,13 +7,17 @@ ghost use Rattle.code_tables.specs.Parts.{AreTablesIn, AreTablesByGap};
 
 use crate::everywhere::{all_tables, tables_in};
 use code_view::{AllTables, Code, Memory, TableJump};
-use parallel::{AddressRange, joined_if_made, map_indices};
+use parallel::{AddressRange, joined_if_made, map_drawn};
 use std::alloc::Global;
 use std::thread::Threads;
 
-/// The answer of [`all_tables`]. `workers` threads go over the code, each over a range of about the
-/// same size. Each finds the jumps through a register there, and their tables. With one worker no
-/// thread is started. [`Memory`] if memory ran out.
+/// Into how many ranges the code is cut for each worker. With one each, all would wait for the one
+/// that is slowest or begins last; of four each, fast workers draw more.
+const RANGES_PER_WORKER: u32 = 4;
+
+/// The answer of [`all_tables`]. The code is cut into four ranges of about the same size for each
+/// worker, who draw one range after another. They find the jumps through a register there, and their
+/// tables. With one worker no thread is started. [`Memory`] if memory ran out.
 pub fn all_tables_by<R: Threads + Sync>(
     rt: &R,
     alloc: Global,
@@ -26,18 +30,19 @@ pub fn all_tables_by<R: Threads + Sync>(
     if workers == 1 {
         return all_tables(alloc, code);
     }
-    let bounds = code.bounds(alloc, workers)?;
-    let parts = tables_by_gap(rt, alloc, code, &bounds)?;
+    let bounds = code.bounds(alloc, workers.saturating_mul(RANGES_PER_WORKER))?;
+    let parts = tables_by_gap(rt, alloc, code, &bounds, workers)?;
     let jumps = joined_if_made(alloc, parts)?;
     Ok(AllTables::new(jumps))
 }
 
-/// The tables of the jumps in each gap, found on a thread of its own, in the order of the gaps.
+/// The tables of the jumps in each gap, in the order of the gaps. The workers draw the gaps.
 fn tables_by_gap<R: Threads + Sync>(
     rt: &R,
     alloc: Global,
     code: &Code<'_>,
     bounds: &[u64],
+    workers: u32,
 ) -> Result<Vec<Result<Vec<TableJump>, Memory>>, Memory>
     ensures { IfOk result (λ v. AreTablesByGap code.now.bytes bounds.now v.items) }
 {
@@ -45,5 +50,5 @@ fn tables_by_gap<R: Threads + Sync>(
         ensures { IfOk result (λ jumps. AreTablesIn code.entry.now.bytes
             (gap bounds.entry.now i) jumps.items) }
     { tables_in(alloc, code, AddressRange::gap(bounds, i)) };
-    Ok(map_indices(rt, alloc, bounds.len() + 1, &look_up)?)
+    Ok(map_drawn(rt, alloc, workers as usize, bounds.len() + 1, &look_up)?)
 }
