@@ -15,14 +15,13 @@ pub enum Step {
     Tails,
 }
 
-/// How many shares of work a step has at least for which threads are started. They take some 2 ms
-/// together. To start threads and wait for them takes less than 1 ms, but several where others want
+/// How many shares of work a step has at least for which threads are started. They take some 1 to
+/// 2 ms together. To start threads and wait for them takes less than 1 ms, but several where others want
 /// the processors.
 pub const LEAST_SHARES: usize = 3;
 
 impl Step {
-    /// How much of its work a worker gets at least: what takes about two million machine
-    /// instructions.
+    /// How much of its work a worker gets at least: what takes some 0.3 to 0.7 ms.
     pub fn share(self) -> usize
         ensures { 0 < result }
     {
@@ -30,7 +29,7 @@ impl Step {
             Step::Tables => 65_536,
             Step::Outline => 32_768,
             Step::Functions => 8_192,
-            Step::Tails => 49_152,
+            Step::Tails => 16_384,
         }
     }
 }
