@@ -1,6 +1,7 @@
 //! The edges of a block, and all edges in the order of a graph.
 
-ghost use Rattle.std.specs.Prelude.{◌≡◌, ◌↔◌, ◌≤◌, ◌<◌, ◌+◌, ℕ, List, AllPairs, Contains, IsTrue, OnOk, Some, get_or, length};
+ghost use Rattle.std.specs.Prelude.{◌≡◌, ◌↔◌, ◌≤◌, ◌<◌, ◌+◌, ℕ, List, AllPairs, Contains, IsTrue};
+ghost use Rattle.std.specs.Prelude.{OnOk, Some, get_or, length};
 ghost use Rattle.std.specs.List.Sorted.{IsPermutation};
 ghost use Rattle.cfg_model.specs.declared.graph.Edge.{Edge};
 ghost use Rattle.cfg_model.specs.Graph.Edge.{Leaves};
