@@ -15,8 +15,8 @@ pub enum Step {
     Tails,
 }
 
-/// How many shares of work a step has at least for which threads are started. They take some 1 to
-/// 2 ms together. To start threads and wait for them takes less than 1 ms, but several where others want
+/// How many shares of work a step has at least for which threads are started. They take 1 to 2 ms
+/// together. To start threads and wait for them takes less than 1 ms, but several where others want
 /// the processors.
 pub const LEAST_SHARES: usize = 3;
 
