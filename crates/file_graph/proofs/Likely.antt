@@ -6,18 +6,18 @@ use Rattle.elf_image.specs.Seeds.{seeds}
 use Rattle.cfg_model.specs.Program.Instructions.{InstructionMap}
 use Rattle.cfg_model.specs.Program.Cuts.{AreCuts}
 use Rattle.cfg_model.specs.Program.Reach.{Reached}
-use Rattle.code_view.specs.Cuts.{Counts, cut_of}
+use Rattle.code_view.specs.Cuts.{Counts, cut_of, CutsFit}
 use Rattle.code_view.specs.FileCode.{FileCode, program_of}
 use Rattle.code_view.specs.Tables.{AreAllTables, AreTablesOf, HasTable, addresses_of}
 use Rattle.code_view.specs.declared.table_jump.TableJump.{TableJump}
 use Rattle.table_cuts.specs.Extents.{extent_at}
 use Rattle.table_cuts.proofs.Counted.{cuts-other, has-table}
 use Rattle.reached_terms.specs.Reached.{Reach}
-use Rattle.reached_cuts.specs.Counted.{AreReachedAmong}
+use Rattle.reached_cuts.specs.Counted.{AreLooser, AreReachedAmong}
 use Rattle.reached_cuts.specs.Reach.{IsReachOf, under}
-use Rattle.file_program.specs.FileGraph.{cut_program, AreCutsOf}
-use Rattle.file_program.specs.Likely.{AreLikelyCuts, IsReachedUnder, AreCutsUnder, AgreeWhereReached}
-use Rattle.file_program.proofs.LikelyCuts.{agreeing-show, likely-show}
+use Rattle.file_program.specs.FileGraph.{cut_program, AreCutsOf, IsReachedUncut}
+use Rattle.file_program.specs.Likely.{AreLikelyCuts, AreCutsBy, IsReachedUnder, AreCutsUnder, AgreeWhereReached}
+use Rattle.file_program.proofs.LikelyCuts.{agreeing-show, likely-lower, likely-show, reached-uncut, some-show}
 use Rattle.file_program.proofs.UnderCuts.{program-is}
 use Rattle.file_graph.specs.Inner.{AreReachedUnder, ShowTheGraph}
 
@@ -58,6 +58,11 @@ module _ (bytes : List ℕ) (likely : Counts) (jumps : List TableJump) (reached 
           cuts-other (extent_at bytes) (λ j. Contains (addresses_of jumps) j) (IsReachedUnder bytes likely)
           (λ j extent at. (λ there. reached.only j there, λ is_reached. reached.all j (has-table bytes j extent at) is_reached)) (cut_of others) by_jumps
 
+  -- So do those by other jumps that are reached if no table is cut.
+  pub some-shows : (counted : List ℕ) (others : Counts) → AreLikelyCuts bytes likely → AreCutsBy bytes counted others → ((j : ℕ) → Contains counted j → IsReachedUncut bytes j)
+      → All (λ (f : TableJump). cut_of likely f.jump ≡ cut_of others f.jump) jumps → ShowTheGraph bytes likely
+  some-shows counted others are by_counted uncut same graph is = some-show bytes counted likely others graph are by_counted uncut (agree others same) is
+
   -- So do the file's own cuts.
   pub own-shows : (own : Counts) → AreCutsOf bytes own → All (λ (f : TableJump). cut_of likely f.jump ≡ cut_of own f.jump) jumps → ShowTheGraph bytes likely
   own-shows own are same graph is = agreeing-show bytes likely own graph are (agree own same) is
@@ -89,3 +94,13 @@ reach-under uncut code cuts from seeds terms same is-under all-seeds is =
     subst (λ (b : List ℕ). IsReachOf (record { bytes = b; cuts = cuts }) seeds terms) same
     (subst (λ (k : Counts). IsReachOf (record { bytes = code.bytes; cuts = k }) seeds terms) is-under
     (subst (λ (s : List ℕ). IsReachOf code s terms) all-seeds is))
+
+-- The cuts by some jumps with a table are looser than the likely ones.
+pub likely-looser : (bytes : List ℕ) (likely others : Counts) (jumps : List ℕ) → AreLikelyCuts bytes likely → AreCutsBy bytes jumps others → AreLooser (cut_of likely) (cut_of others)
+likely-looser bytes likely others jumps are by_jumps = likely-lower bytes likely are (λ j. Contains jumps j) others by_jumps
+
+-- Jumps that code reaches under cuts are reached if no table is cut.
+pub counted-uncut : (code : FileCode) (from : List ℕ) (tables counted : List TableJump) → CutsFit code.bytes (cut_of code.cuts) → from ≡ seeds code.bytes → AreReachedAmong code from tables counted
+    → (j : ℕ) → Contains (addresses_of counted) j → IsReachedUncut code.bytes j
+counted-uncut code from tables counted fits all-seeds among j there =
+    reached-uncut code.bytes code.cuts fits j (subst (λ (s : List ℕ). Reached (cut_program code.bytes code.cuts) s j) all-seeds (among.only j there).1)

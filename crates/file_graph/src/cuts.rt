@@ -1,20 +1,22 @@
 //! The cuts of a file's jump tables.
 
-ghost use Rattle.std.specs.Prelude.{◌≡◌, ℕ, List, IfOk, MatchOption};
+ghost use Rattle.std.specs.Prelude.{◌≡◌, ℕ, List, IfOk, IsTrue, MatchOption};
 ghost use Rattle.std.specs.FinMap as map;
 ghost use Rattle.code_view.specs.Cuts.{cut_of, CutsFit};
 ghost use Rattle.code_view.specs.Tables.{AreAllTables};
+ghost use Rattle.elf_image.specs.Seeds.{seeds};
 ghost use Rattle.elf_symbols.specs.Seeds.{addresses_of};
 ghost use Rattle.file_program.specs.FileGraph.{AreCutsOf};
 ghost use Rattle.file_program.specs.FileSeeds.{AreSeedsOf};
 ghost use Rattle.file_program.specs.Likely.{AreLikelyCuts};
+ghost use Rattle.reached_cuts.specs.Counted.{AreLooser};
 ghost use Rattle.reached_cuts.specs.Reach.{IsReachOf, under};
 ghost use Rattle.file_graph.specs.Inner.{AreReachedUnder, ShowTheGraph};
 
 use crate::Memory;
 use code_view::{AllTables, Code, Cuts, TableJump};
 use elf_symbols::Seeds;
-use reached_cuts::{cut_alike, reached_cuts};
+use reached_cuts::{cut_alike, reach_further, reached_cuts, reached_jumps};
 use reached_terms::ReachedTerms;
 use std::alloc::Global;
 use table_cuts::cuts_of;
@@ -30,10 +32,40 @@ pub fn likely_cuts(alloc: Global, tables: &AllTables) -> Result<Cuts, Memory>
     cuts_of(alloc, tables.jumps())
 }
 
-/// The file's own cuts; `None` if the graph under the likely cuts is the graph of the file anyhow.
-/// `terms` are what the program reaches under these, and `reached` the jumps with a table that it
-/// reaches so. `uncut` is the program of the file without cuts. What it reaches is found only if the
-/// cuts by the reached jumps are not the likely ones.
+/// Whether the jumps that the program `wide` reaches make the likely cuts at each of the jumps
+/// `reached`. If so, the graph under the likely cuts is the graph of the file. In `wide` each table
+/// keeps at least what these leave it. `terms` are what the program reaches under them, and `reached`
+/// the jumps with a table that it reaches so.
+pub fn agree_further(
+    alloc: Global,
+    wide: &Code,
+    from: &[u64],
+    tables: &AllTables,
+    likely: &Cuts,
+    terms: &ReachedTerms,
+    reached: &[TableJump],
+) -> Result<bool, Memory>
+    requires looser { AreLooser (cut_of likely.now) (cut_of wide.now.cuts) }
+    requires wide_fits { CutsFit wide.now.bytes (cut_of wide.now.cuts) }
+    requires from { from.now ≡ seeds wide.now.bytes }
+    requires tables { AreAllTables wide.now.bytes tables.now }
+    requires likely { AreLikelyCuts wide.now.bytes likely.now }
+    requires fits { CutsFit wide.now.bytes (cut_of likely.now) }
+    requires terms { IsReachOf (under wide.now likely.now) from.now terms.now }
+    requires reached { AreReachedUnder wide.now.bytes likely.now reached.now }
+    ensures { IfOk result
+        (λ alike. IsTrue alike → ShowTheGraph wide.now.bytes likely.now) }
+{
+    let further = reach_further(alloc, wide, from, tables, likely, terms, reached)?;
+    let counted = reached_jumps(alloc, wide, &further, tables.jumps())?;
+    let cuts = cuts_of(alloc, &counted)?;
+    Ok(cut_alike(reached, likely, &cuts))
+}
+
+/// The file's own cuts; `None` if they are the likely ones at each of the jumps `reached`, so that the
+/// graph under these is the graph of the file. `terms` are what the program reaches under the likely
+/// cuts, and `reached` the jumps with a table that it reaches so. `uncut` is the program of the file
+/// without cuts: what that reaches is found, though its tables may keep many entries that are none.
 pub fn other_cuts(
     alloc: Global,
     uncut: &Code,
@@ -53,10 +85,6 @@ pub fn other_cuts(
     ensures { IfOk result (λ cuts. MatchOption cuts (ShowTheGraph uncut.now.bytes likely.now)
         (λ cuts. AreCutsOf uncut.now.bytes cuts × CutsFit uncut.now.bytes (cut_of cuts))) }
 {
-    let by_reach = cuts_of(alloc, reached)?;
-    if cut_alike(reached, likely, &by_reach) {
-        return Ok(None);
-    }
     let from = seeds.addresses();
     let cuts = reached_cuts(alloc, uncut, from, tables, likely, terms, reached)?;
     if cut_alike(reached, likely, &cuts) {

@@ -10,20 +10,22 @@ ghost use Rattle.file_program.specs.FileSeeds.{AreSeedsOf};
 
 use crate::Memory;
 use crate::builder::Builder;
-use crate::cuts::{likely_cuts, other_cuts};
+use crate::cuts::{agree_further, likely_cuts, other_cuts};
 use cfg_model::Graph;
 use chain_index::{ChainEnds, ChainIndex};
 use code_view::{Code, Cuts};
 use elf_image::Image;
 use elf_symbols::Seeds;
-use reached_cuts::reached_jumps;
+use reached_cuts::{cut_alike, reached_jumps};
 use std::alloc::Global;
+use table_cuts::cuts_of;
 
 /// The graph of a file from its seeds and the reaches of its chains: the least closure from the
 /// seeds under the cuts of those jump tables that are reached if none is cut. `by` does the parts.
 ///
 /// The program is followed under the likely cuts. What it reaches so nearly always shows that the
-/// graph under them is that of the file.
+/// graph under them is that of the file. If not, what it reaches under the cuts that the reached jumps
+/// make mostly does. What it reaches without cuts is found only if neither shows it.
 pub fn graph_of<B: Builder>(
     alloc: Global,
     by: &B,
@@ -45,12 +47,19 @@ pub fn graph_of<B: Builder>(
     let code = uncut.under(&likely);
     let reached = by.follow(&code, seeds.addresses())?;
     let counted = reached_jumps(alloc, &code, &reached, tables.jumps())?;
-    let others = other_cuts(alloc, &uncut, seeds, &tables, &likely, &reached, &counted)?;
-    match others {
-        None => by.graph(&code, seeds.addresses(), image.entry(), &reached),
+    let by_reach = cuts_of(alloc, &counted)?;
+    let wide = uncut.under(&by_reach);
+    let from = seeds.addresses();
+    if cut_alike(&counted, &likely, &by_reach)
+        || agree_further(alloc, &wide, from, &tables, &likely, &reached, &counted)?
+    {
+        return by.graph(&code, from, image.entry(), &reached);
+    }
+    match other_cuts(alloc, &uncut, seeds, &tables, &likely, &reached, &counted)? {
+        None => by.graph(&code, from, image.entry(), &reached),
         Some(cuts) => {
             drop(reached);
-            graph_anew(by, &uncut.under(&cuts), seeds.addresses(), image.entry())
+            graph_anew(by, &uncut.under(&cuts), from, image.entry())
         }
     }
 }

@@ -1,5 +1,5 @@
 -- The graph under the likely cuts is that of the file, where the cuts by what they reach agree with them.
-use Rattle.std.proofs.Common.{◌≡◌, ℕ, ◌+◌, ◌<◌, cond, List, Option, Some, None, refl, sym, ap, ◌∙◌, subst, inl, inr, arith}
+use Rattle.std.proofs.Common.{◌≡◌, ℕ, ◌+◌, ◌<◌, ◌≤◌, cond, List, Option, Some, None, refl, sym, ap, ◌∙◌, subst, inl, inr, arith}
 use Rattle.std.specs.Prelude.{Contains}
 use Rattle.std.specs.Option.{option_map}
 use Rattle.std.specs.FinMap as map
@@ -15,23 +15,24 @@ use Rattle.rv_flow.specs.declared.raw.RawFlow.TheVariants as raw
 use Rattle.rv_flow.specs.Placed.{placed_at}
 use Rattle.rv_flow.specs.Raw.{raw_flow_at}
 use Rattle.cfg_model.specs.Program.Instructions.{Instruction}
-use Rattle.cfg_model.specs.Program.Cuts.{Extent}
-use Rattle.code_view.specs.Cuts.{Counts, cut_of}
+use Rattle.cfg_model.specs.declared.graph.Graph.{Graph}
+use Rattle.cfg_model.specs.Program.Cuts.{AreCuts, Extent}
+use Rattle.code_view.specs.Cuts.{Counts, cut_of, CutsFit}
 use Rattle.code_view.specs.Program.{instruction_at}
 use Rattle.code_view.specs.Tables.{HasTable}
 use Rattle.code_view.proofs.Lawful.{code_of}
 use Rattle.table_cuts.specs.Extents.{extent_of, extent_at}
 use Rattle.table_cuts.proofs.Counted.{has-table}
 use Rattle.table_cuts.proofs.Flows.{table-code}
-use Rattle.file_program.specs.FileGraph.{cut_program, IsReachedUncut, AreCutsOf}
-use Rattle.file_program.specs.Likely.{AreLikelyCuts, IsReachedUnder, AreCutsUnder, AgreeWhereReached}
-use Rattle.file_program.specs.Laws.{AgreeingCutsShowTheGraph, LikelyCutsShowTheGraph}
+use Rattle.file_program.specs.FileGraph.{cut_program, IsReachedUncut, AreCutsOf, IsGraphUnder, IsGraphOf}
+use Rattle.file_program.specs.Likely.{AreLikelyCuts, IsReachedUnder, AgreeWhereReached}
+use Rattle.file_program.specs.Laws.{AgreeingCutsShowTheGraph, LikelyCutsShowTheGraph, SomeCutsShowTheGraph}
 use Rattle.file_program.proofs.LeastSets.{Decided}
 use Rattle.file_program.proofs.Reaching.{reached_or_not}
 use Rattle.file_program.proofs.CodePlaces.{places-of, has-code}
-use Rattle.file_program.proofs.ChosenCuts.{has-least, CutsOf, cuts-there}
+use Rattle.file_program.proofs.ChosenCuts.{HasLeast, has-least, CutsOf, cuts-there}
 use Rattle.file_program.proofs.FewerCuts.{placed, FitsIn, uncut_further, reached_further}
-use Rattle.file_program.proofs.SqueezedCuts.{squeezed}
+use Rattle.file_program.proofs.SqueezedCuts.{cut_lower, squeezed}
 use Rattle.file_program.proofs.Agreement.{Agree, graph_there}
 
 -- ---- programs that agree
@@ -94,30 +95,59 @@ module _ (bytes : List ℕ) where
   own_cuts : CutsOf (extent_at bytes) (IsReachedUncut bytes)
   own_cuts = cuts-there (extent_at bytes) (places-of bytes) listed (IsReachedUncut bytes) reached_uncut_or_not
 
+  least_counted : (Counted : ℕ → Type 0) → ((j : ℕ) → Decided (Counted j)) → HasLeast (extent_at bytes) Counted
+  least_counted Counted decided = has-least (extent_at bytes) (places-of bytes) listed Counted decided
+
+  fit : (cuts : Counts) → CutsFit bytes (cut_of cuts) → (a : ℕ) → FitsIn (cut_of cuts a) (table_at bytes a)
+  fit cuts fits a kept table is at =
+      let can = fits a kept is in
+      let same : can.table ≡ table = same_Some can.table table (sym can.at_jump ∙ at) in
+      subst (λ (t : Table). kept ≤ t.count) same can.within
+
+  -- What is reached under cuts is reached if no table is cut.
+  pub reached-uncut : (cuts : Counts) → CutsFit bytes (cut_of cuts) → (a : ℕ) → IsReachedUnder bytes cuts a → IsReachedUncut bytes a
+  reached-uncut cuts fits a reached =
+      reached_further (cut_program bytes cuts) (cut_program bytes map.empty)
+      (uncut_further bytes (cut_of cuts) (cut_of map.empty) (λ j. map.get-empty nat_cmp j) (fit cuts fits)) (seeds bytes) reached
+
   module _ (likely : Counts) (are : AreLikelyCuts bytes likely) where
-    cuts_fit : (a : ℕ) → FitsIn (cut_of likely a) (table_at bytes a)
-    cuts_fit a kept table is at =
+    likely_fit : (a : ℕ) → FitsIn (cut_of likely a) (table_at bytes a)
+    likely_fit a kept table is at =
         let cut = (are a kept).0 is in
         let same : cut.table ≡ extent_of table = same_Some cut.table (extent_of table) (sym cut.at_jump ∙ ap (option_map extent_of) at) in
         let fewer : kept < table.count = subst (λ (e : Extent). kept < e.count) same cut.fewer in
         omega (arith, fewer)
 
-    reached_uncut : (a : ℕ) → IsReachedUnder bytes likely a → IsReachedUncut bytes a
-    reached_uncut a reached =
+    likely_uncut : (a : ℕ) → IsReachedUnder bytes likely a → IsReachedUncut bytes a
+    likely_uncut a reached =
         reached_further (cut_program bytes likely) (cut_program bytes map.empty)
-        (uncut_further bytes (cut_of likely) (cut_of map.empty) (λ j. map.get-empty nat_cmp j) cuts_fit) (seeds bytes) reached
+        (uncut_further bytes (cut_of likely) (cut_of map.empty) (λ j. map.get-empty nat_cmp j) likely_fit) (seeds bytes) reached
 
-    module _ (others : Counts) (by_reach : AreCutsUnder bytes likely others) (agree : AgreeWhereReached bytes likely others)
-        (own : Counts) (own_are : AreCutsOf bytes own) where
-      own_agree : AgreeWhereReached bytes likely own
-      own_agree j has reached =
-          squeezed (extent_at bytes) (IsReachedUnder bytes likely) (IsReachedUncut bytes) (HasTable bytes)
-          (λ k table at r. reached_uncut k r) (λ k table at r. has-table bytes k table at)
-          (has-least (extent_at bytes) (places-of bytes) listed (IsReachedUncut bytes) reached_uncut_or_not)
-          (has-least (extent_at bytes) (places-of bytes) listed (HasTable bytes) (has_table_or_not bytes))
-          (cut_of others) (cut_of own) (cut_of likely) by_reach own_are are j (agree j has reached)
+    module _ (Counted : ℕ → Type 0) (others : Counts) (by_counted : AreCuts (extent_at bytes) Counted (cut_of others)) where
+      -- A table that is cut by some tables is cut by all, to no more entries.
+      pub likely-lower : (a most : ℕ) → cut_of others a ≡ Some most → (few : ℕ) × (cut_of likely a ≡ Some few) × (few ≤ most)
+      likely-lower a most at =
+          let lower =
+          cut_lower (extent_at bytes) Counted (HasTable bytes) (λ k table there counts. has-table bytes k table there) (least_counted (HasTable bytes) (has_table_or_not bytes)) a most ((by_counted a most).0 at) in
+          (lower.less, (are a lower.less).1 lower.cut, lower.low)
+
+      module _ (reached : (j : ℕ) → Counted j → IsReachedUncut bytes j) (agree : AgreeWhereReached bytes likely others) (own : Counts) (own_are : AreCutsOf bytes own) where
+        own_agree : AgreeWhereReached bytes likely own
+        own_agree j has is =
+            squeezed (extent_at bytes) Counted (IsReachedUncut bytes) (HasTable bytes)
+            (λ k table at counts. reached k counts) (λ k table at r. has-table bytes k table at)
+            (least_counted (IsReachedUncut bytes) reached_uncut_or_not) (least_counted (HasTable bytes) (has_table_or_not bytes))
+            (cut_of others) (cut_of own) (cut_of likely) by_counted own_are are j (agree j has is)
+
+  shown : (likely : Counts) (are : AreLikelyCuts bytes likely) (Counted : ℕ → Type 0) (others : Counts) → AreCuts (extent_at bytes) Counted (cut_of others)
+      → ((j : ℕ) → Counted j → IsReachedUncut bytes j) → AgreeWhereReached bytes likely others → (graph : Graph) → IsGraphUnder bytes likely graph → IsGraphOf bytes graph
+  shown likely are Counted others by_counted reached agree graph is =
+      agreeing-show bytes likely own_cuts.cuts graph own_cuts.are (own_agree likely are Counted others by_counted reached agree own_cuts.cuts own_cuts.are) is
 
 pub likely-show : LikelyCutsShowTheGraph
 likely-show bytes likely others graph are by_reach agree is =
-    let own = own_cuts bytes in
-    agreeing-show bytes likely own.cuts graph own.are (own_agree bytes likely are others by_reach agree own.cuts own.are) is
+    shown bytes likely are (IsReachedUnder bytes likely) others by_reach (likely_uncut bytes likely are) agree graph is
+
+pub some-show : SomeCutsShowTheGraph
+some-show bytes jumps likely others graph are by_jumps reached agree is =
+    shown bytes likely are (λ j. Contains jumps j) others by_jumps reached agree graph is

@@ -22,12 +22,12 @@ module _ (tables : Tables) where
   }
 
   -- If more tables count, the table of a cut jump is cut too, to no more entries.
-  record CutLower (More : ℕ → Type 0) (j kept : ℕ) : Type 0 where
-    less : ℕ
-    cut : IsCutTo tables More j less
-    low : less ≤ kept
+  pub record CutLower (More : ℕ → Type 0) (j kept : ℕ) : Type 0 where
+    pub less : ℕ
+    pub cut : IsCutTo tables More j less
+    pub low : less ≤ kept
 
-  cut_lower : (Few More : ℕ → Type 0) → Counts-too Few More → HasLeast tables More → (j kept : ℕ) → IsCutTo tables Few j kept → CutLower More j kept
+  pub cut_lower : (Few More : ℕ → Type 0) → Counts-too Few More → HasLeast tables More → (j kept : ℕ) → IsCutTo tables Few j kept → CutLower More j kept
   cut_lower Few More too has j kept cut =
       let inside : IsBaseInside tables More cut.table cut.base = inside_too Few More too cut.table cut.base cut.inside in
       let least : LeastInside tables More cut.table = has cut.table cut.base inside in

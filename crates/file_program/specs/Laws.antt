@@ -1,10 +1,10 @@
 -- A file has one graph, under the one way to cut its jump tables; and when the graph under other
 -- cuts is that graph.
-use Rattle.std.specs.Prelude.{◌≡◌, ℕ, List}
+use Rattle.std.specs.Prelude.{◌≡◌, ℕ, List, Contains}
 use Rattle.cfg_model.specs.declared.graph.Graph.{Graph}
 use Rattle.code_view.specs.Cuts.{Counts}
-use Rattle.file_program.specs.FileGraph.{AreCutsOf, IsGraphUnder, IsGraphOf}
-use Rattle.file_program.specs.Likely.{AreLikelyCuts, AreCutsUnder, AgreeWhereReached}
+use Rattle.file_program.specs.FileGraph.{AreCutsOf, IsGraphUnder, IsGraphOf, IsReachedUncut}
+use Rattle.file_program.specs.Likely.{AreLikelyCuts, AreCutsBy, AreCutsUnder, AgreeWhereReached}
 
 -- The tables of a file are cut in one way.
 abbrev pub CutsAreUnique : Type 0
@@ -29,5 +29,14 @@ AgreeingCutsShowTheGraph = (bytes : List ℕ) (cuts others : Counts) (graph : Gr
 abbrev pub LikelyCutsShowTheGraph : Type 0
 LikelyCutsShowTheGraph = (bytes : List ℕ) (likely others : Counts) (graph : Graph)
     → AreLikelyCuts bytes likely → AreCutsUnder bytes likely others
+    → AgreeWhereReached bytes likely others → IsGraphUnder bytes likely graph
+    → IsGraphOf bytes graph
+
+-- So it is if the cuts by some jumps agree with the likely ones there, all of which are reached if no
+-- table is cut.
+abbrev pub SomeCutsShowTheGraph : Type 0
+SomeCutsShowTheGraph = (bytes jumps : List ℕ) (likely others : Counts) (graph : Graph)
+    → AreLikelyCuts bytes likely → AreCutsBy bytes jumps others
+    → ((j : ℕ) → Contains jumps j → IsReachedUncut bytes j)
     → AgreeWhereReached bytes likely others → IsGraphUnder bytes likely graph
     → IsGraphOf bytes graph

@@ -2,6 +2,7 @@
 
 ghost use Rattle.file_program.specs.Laws.{CutsAreUnique, FileGraphIsUnique};
 ghost use Rattle.file_program.specs.Laws.{AgreeingCutsShowTheGraph, LikelyCutsShowTheGraph};
+ghost use Rattle.file_program.specs.Laws.{SomeCutsShowTheGraph};
 
 /// A file has one graph, under the one way to cut its jump tables: what the definitions say of them
 /// determines them.
@@ -12,8 +13,9 @@ pub fn one_graph_of_a_file()
 
 /// When a graph under given cuts is the graph of the file: if the file's own cuts are the same for
 /// each jump that is reached under them; and of the likely cuts, those if all tables count, already
-/// if the cuts by what they reach are.
+/// if the cuts by what they reach are, or by other jumps that are reached if no table is cut.
 pub fn likely_cuts_show_the_graph()
     ensures agreeing { AgreeingCutsShowTheGraph }
     ensures likely { LikelyCutsShowTheGraph }
+    ensures some { SomeCutsShowTheGraph }
 {}

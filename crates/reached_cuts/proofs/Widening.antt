@@ -1,10 +1,11 @@
--- Code without cuts is wider than the same code under cuts.
+-- Code under looser cuts is wider than the same code under cuts.
 use Rattle.std.proofs.Common.{◌≡◌, ℕ, zero, suc, ◌≤◌, List, [], ◌∷◌, take, get_or, Option, Some, None, IsSome, refl, sym, ap, ◌∙◌, subst, inl, inr, arith}
 use Rattle.std.specs.Prelude.{Contains}
 use Rattle.std.specs.Option.{option_map_or}
 use Rattle.std.specs.FinMap as map
 use Rattle.std.specs.Ordering.{nat_cmp}
 use Rattle.std.proofs.lemmas.List.Elements.{Contains-get_or}
+use Rattle.std.proofs.lemmas.Option.{same_Some, none-some}
 use Rattle.jump_table.specs.declared.table.Table.{Table}
 use Rattle.jump_table.specs.Table.{table_at, table_targets}
 use Rattle.cfg_model.specs.Program.Instructions.{IsLawful, targets_at}
@@ -19,7 +20,7 @@ use Rattle.code_view.specs.declared.table_jump.TableJump.{TableJump}
 use Rattle.code_view.proofs.Lawful.{targets-of-table}
 use Rattle.table_cuts.proofs.Flows.{table-code, table-flow, table-ends}
 use Rattle.reached_terms.specs.Wider.{IsWider, IsTableJump, KeepsMore}
-use Rattle.reached_cuts.specs.Counted.{AreReachedAmong, AreCutAmong}
+use Rattle.reached_cuts.specs.Counted.{AreLooser, AreReachedAmong, AreCutAmong}
 use Rattle.reached_cuts.specs.Reach.{under}
 
 -- what is among the first is among more of them
@@ -45,11 +46,15 @@ some_has : (P : Type 0) (o : Option ℕ) → IsSome o → ((count : ℕ) → o �
 some_has P None has each = absurd (cc)
 some_has P (Some count) has each = each count refl
 
-module _ (bytes : List ℕ) (cuts none : ℕ → Option ℕ) (no_cut : (a : ℕ) → none a ≡ None) (fits : CutsFit bytes cuts) (a : ℕ) where
+module _ (bytes : List ℕ) (cuts others : ℕ → Option ℕ) (looser : AreLooser cuts others) (fits : CutsFit bytes cuts) (a : ℕ) where
   -- what is not cut is the same
-  same_there : cuts a ≡ None → program_under bytes none a ≡ program_under bytes cuts a
+  no_more : cuts a ≡ None → (o : Option ℕ) → others a ≡ o → others a ≡ cuts a
+  no_more is None at = at ∙ sym is
+  no_more is (Some most) at = let less = looser a most at in absurd (none-some less.0 (sym is ∙ less.1))
+
+  same_there : cuts a ≡ None → program_under bytes others a ≡ program_under bytes cuts a
   unfolding instruction_at
-  same_there is = ap (λ (c : Option ℕ). program_under bytes (λ _. c) a) (no_cut a ∙ sym is)
+  same_there is = ap (λ (c : Option ℕ). program_under bytes (λ _. c) a) (no_more is (others a) refl)
 
   has_table : (count : ℕ) → cuts a ≡ Some count → HasTable bytes a
   has_table count is = let can = fits a count is in record { table = can.table; at_jump = can.at_jump }
@@ -65,43 +70,52 @@ module _ (bytes : List ℕ) (cuts none : ℕ → Option ℕ) (no_cut : (a : ℕ)
       targets-of-table bytes some a (table-code bytes some a has)
       ∙ ap (λ (o : Option Table). option_map_or (λ t. take (kept_entries (some a) t) (table_targets bytes t)) o []) at
 
-  -- a table that is cut keeps more without the cut
-  keeps_more : (count : ℕ) → cuts a ≡ Some count → KeepsMore (program_under bytes cuts) (program_under bytes none) a
+  -- a table that is cut keeps no fewer entries under the others
+  no_fewer : (table : Table) (count : ℕ) → cuts a ≡ Some count → count ≤ table.count → (o : Option ℕ) → others a ≡ o → count ≤ kept_entries o table
+  no_fewer table count is within None at = within
+  no_fewer table count is within (Some most) at =
+      let less = looser a most at in
+      subst (λ n. n ≤ most) (same_Some less.0 count (sym less.1 ∙ is)) less.2
+
+  -- so it keeps what it kept
+  keeps_more : (count : ℕ) → cuts a ≡ Some count → KeepsMore (program_under bytes cuts) (program_under bytes others) a
   keeps_more count is =
       let can = fits a count is in
       let table = can.table in
       let has = has_table count is in
       let few : targets_at (program_under bytes cuts) a ≡ take count (table_targets bytes table) =
       kept_there cuts table can.at_jump has ∙ ap (λ (c : Option ℕ). take (kept_entries c table) (table_targets bytes table)) is in
-      let many : targets_at (program_under bytes none) a ≡ take table.count (table_targets bytes table) =
-      kept_there none table can.at_jump has ∙ ap (λ (c : Option ℕ). take (kept_entries c table) (table_targets bytes table)) (no_cut a) in
+      let many : targets_at (program_under bytes others) a ≡ take (kept_entries (others a) table) (table_targets bytes table) = kept_there others table can.at_jump has in
       record {
         narrow_jump = jump_there cuts has;
-        wide_jump = jump_there none has;
-        targets = λ b there. subst (λ xs. Contains xs b) (sym many) (take_more count table.count (table_targets bytes table) b can.within (subst (λ xs. Contains xs b) few there));
+        wide_jump = jump_there others has;
+        targets = λ b there.
+            subst (λ xs. Contains xs b) (sym many)
+            (take_more count (kept_entries (others a) table) (table_targets bytes table) b (no_fewer table count is can.within (others a) refl) (subst (λ xs. Contains xs b) few there));
       }
 
 module _ (code : FileCode) (cuts : Counts) (seeds : List ℕ) (tables jumps : List TableJump) (found : List ℕ)
-    (uncut : code.cuts ≡ map.empty) (lawful : IsLawful (program_of code)) (fits : CutsFit code.bytes (cut_of cuts)) (all : AreAllTables code.bytes tables)
+    (looser : AreLooser (cut_of cuts) (cut_of code.cuts)) (lawful : IsLawful (program_of code)) (fits : CutsFit code.bytes (cut_of cuts)) (all : AreAllTables code.bytes tables)
     (among : AreReachedAmong (under code cuts) seeds tables jumps) (cut : AreCutAmong jumps cuts found) where
-  no_cut : (a : ℕ) → cut_of code.cuts a ≡ None
-  no_cut a = ap (λ c. map.get c a) uncut ∙ map.get-empty nat_cmp a
-
   listed_there : (j : ℕ) → Contains found j → HasTable code.bytes j × Reached (program_of (under code cuts)) seeds j
   listed_there j there =
       let is = cut.only j there in (
-        some_has (HasTable code.bytes j) (cut_of cuts j) is.1 (has_table code.bytes (cut_of cuts) (cut_of code.cuts) no_cut fits j),
+        some_has (HasTable code.bytes j) (cut_of cuts j) is.1 (has_table code.bytes (cut_of cuts) (cut_of code.cuts) looser fits j),
         (among.only j is.0).1,
       )
 
   pub code-wider : IsWider (program_of (under code cuts)) (program_of code) seeds found
   code-wider = record {
     lawful = lawful;
-    each = λ a. by_cut _ (cut_of cuts a) (λ is. inl (same_there code.bytes (cut_of cuts) (cut_of code.cuts) no_cut fits a is)) (λ count is. inr (keeps_more code.bytes (cut_of cuts) (cut_of code.cuts) no_cut fits a count is));
+    each = λ a. by_cut _ (cut_of cuts a) (λ is. inl (same_there code.bytes (cut_of cuts) (cut_of code.cuts) looser fits a is)) (λ count is. inr (keeps_more code.bytes (cut_of cuts) (cut_of code.cuts) looser fits a count is));
     reached = λ a reached.
-        by_cut _ (cut_of cuts a) (λ is. inl (same_there code.bytes (cut_of cuts) (cut_of code.cuts) no_cut fits a is))
-        (λ count is. inr (cut.all a (among.all a (all.all_jumps a (has_table code.bytes (cut_of cuts) (cut_of code.cuts) no_cut fits a count is)) reached) (has_some (cut_of cuts a) count is)));
+        by_cut _ (cut_of cuts a) (λ is. inl (same_there code.bytes (cut_of cuts) (cut_of code.cuts) looser fits a is))
+        (λ count is. inr (cut.all a (among.all a (all.all_jumps a (has_table code.bytes (cut_of cuts) (cut_of code.cuts) looser fits a count is)) reached) (has_some (cut_of cuts a) count is)));
     listed = λ i d below.
         let at = listed_there (get_or found i d) (Contains-get_or found i d below) in
         (at.1, table-ends code.bytes (cut_of cuts) (get_or found i d) at.0);
   }
+
+-- no cuts are looser than any
+pub none-looser : (cuts : ℕ → Option ℕ) (none : Counts) → none ≡ map.empty → AreLooser cuts (cut_of none)
+none-looser cuts none is j most at = absurd (none-some most (sym (ap (λ (c : Counts). map.get c j) is ∙ map.get-empty nat_cmp j) ∙ at))

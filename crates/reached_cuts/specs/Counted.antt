@@ -1,5 +1,5 @@
 -- Which jump tables count where tables overlap.
-use Rattle.std.specs.Prelude.{ℕ, List, Contains, IsSome}
+use Rattle.std.specs.Prelude.{◌≡◌, ℕ, ◌≤◌, List, Contains, IsSome, Option, Some}
 use Rattle.cfg_model.specs.Program.Reach.{Reached}
 use Rattle.code_view.specs.Cuts.{Counts, cut_of}
 use Rattle.code_view.specs.FileCode.{FileCode, program_of}
@@ -19,3 +19,8 @@ pub record AreReachedAmong (code : FileCode) (seeds : List ℕ) (tables counted 
 pub record AreCutAmong (jumps : List TableJump) (cuts : Counts) (found : List ℕ) : Type 0 where
   pub only : (j : ℕ) → Contains found j → Contains (addresses_of jumps) j × IsSome (cut_of cuts j)
   pub all : (j : ℕ) → Contains (addresses_of jumps) j → IsSome (cut_of cuts j) → Contains found j
+
+-- A table that others cut is cut by these cuts too, to no more entries.
+abbrev pub AreLooser : (ℕ → Option ℕ) → (ℕ → Option ℕ) → Type 0
+AreLooser cuts others = (j most : ℕ) → others j ≡ Some most
+    → (few : ℕ) × (cuts j ≡ Some few) × (few ≤ most)

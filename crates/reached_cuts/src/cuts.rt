@@ -8,7 +8,7 @@ ghost use Rattle.code_view.specs.Cuts.{cut_of, CutsFit};
 ghost use Rattle.code_view.specs.FileCode.{program_of};
 ghost use Rattle.table_cuts.specs.Extents.{extent_at};
 ghost use Rattle.code_view.specs.Tables.{AreAllTables};
-ghost use Rattle.reached_cuts.specs.Counted.{AreReachedAmong};
+ghost use Rattle.reached_cuts.specs.Counted.{AreLooser, AreReachedAmong};
 ghost use Rattle.reached_cuts.specs.Reach.{IsReachOf, under};
 
 use crate::Memory;
@@ -17,6 +17,33 @@ use code_view::{AllTables, Code, Cuts, TableJump};
 use reached_terms::ReachedTerms;
 use std::alloc::Global;
 use table_cuts::cuts_of;
+
+/// What the program `wide` reaches from `seeds`, found from `terms`, which are what its code reaches
+/// under `cuts`. These leave no table more entries than it keeps in `wide`. `reached` are the jumps
+/// with a table that are reached under them.
+///
+/// The only error is that memory ran out. Time and memory: those of [`ReachedTerms::wider`].
+pub fn reach_further(
+    alloc: Global,
+    wide: &Code,
+    seeds: &[u64],
+    tables: &AllTables,
+    cuts: &Cuts,
+    terms: &ReachedTerms,
+    reached: &[TableJump],
+) -> Result<ReachedTerms, Memory>
+    requires looser { AreLooser (cut_of cuts.now) (cut_of wide.now.cuts) }
+    requires tables { AreAllTables wide.now.bytes tables.now }
+    requires fits { CutsFit wide.now.bytes (cut_of cuts.now) }
+    requires terms { IsReachOf (under wide.now cuts.now) seeds.now terms.now }
+    requires reached { AreReachedAmong (under wide.now cuts.now) seeds.now tables.now reached.now }
+    ensures { IfOk result (IsReachOf wide.now seeds.now) }
+{
+    // As the code of an image, it is lawful.
+    prove!(wide.index().numbers() <= u32::MAX);
+    let jumps = cut_jumps(alloc, reached, cuts)?;
+    terms.wider(alloc, wide, seeds, &jumps)
+}
 
 /// The cuts of jump tables, of which `tables` are all in the code. Those count whose jumps the
 /// program reaches from `seeds` if no table is cut; that is `uncut`. `terms` are what its code
@@ -43,11 +70,8 @@ pub fn reached_cuts(
         (Reached (program_of uncut.now) seeds.now) (cut_of cuts)) }
     ensures fits { IfOk result (λ cuts. CutsFit uncut.now.bytes (cut_of cuts)) }
 {
-    // As the code of an image, it is lawful.
-    prove!(uncut.index().numbers() <= u32::MAX);
-    let jumps = cut_jumps(alloc, reached, cuts)?;
-    let wider = terms.wider(alloc, uncut, seeds, &jumps)?;
-    cuts_from(alloc, uncut, &wider, tables)
+    let further = reach_further(alloc, uncut, seeds, tables, cuts, terms, reached)?;
+    cuts_from(alloc, uncut, &further, tables)
 }
 
 /// The cuts of jump tables, of which `tables` are all in the code. Those count whose jumps the

@@ -10,6 +10,6 @@
 mod cuts;
 mod jumps;
 
-pub use cuts::{cuts_from, reached_cuts};
+pub use cuts::{cuts_from, reach_further, reached_cuts};
 pub use jumps::{cut_alike, reached_jumps};
 pub use std::alloc::AllocError as Memory;

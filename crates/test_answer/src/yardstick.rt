@@ -7,6 +7,7 @@ ghost use Rattle.elf_image.specs.Header as header;
 
 use crate::asserts::same_at;
 use crate::row_files::{FILES, file_of};
+use crate::several_workers::move_symbol;
 use alone::build_alone;
 use cfg_model::Graph;
 use chain_index::ChainIndex;
@@ -145,6 +146,21 @@ fn rows_agree(rt: HostRuntime) -> Result<(), Fail> {
         agrees(&rt, u64::from(row), file_of(&rt, row, part)?)?;
     }
     Ok(())
+}
+
+/// The file of row 15 without the seed of its second table. The entries of the first table that the
+/// second one cuts lead there, so it counts.
+fn table_behind_cut_entries(rt: &(impl Abort + AllocGlobal)) -> Result<Vec<u8>, Fail> {
+    let mut file = file_of(rt, 15, 0)?;
+    move_symbol(&mut file, 0x10028, 0);
+    // A jump to 0x10028 in place of the return at 0x1004c.
+    put_word(&mut file, CODE_AT + 0x4C, 0xFDDF_F06F);
+    Ok(file)
+}
+
+#[test]
+fn table_behind_cut_entries_agrees(rt: HostRuntime) -> Result<(), Fail> {
+    agrees(&rt, 15, table_behind_cut_entries(&rt)?)
 }
 
 #[test]

@@ -2,14 +2,8 @@ use Rattle.std.proofs.Common.{◌∙◌, List, ℕ, sym, subst}
 use Rattle.file_program.specs.FileGraph.{AreCutsOf}
 use Rattle.file_program.proofs.UnderCuts.{cuts-of}
 use Rattle.reached_cuts.specs.Reach.{IsReachOf, under}
-use Rattle.file_graph.proofs.Likely.{among-under, by-reach-shows, own-shows}
+use Rattle.file_graph.proofs.Likely.{among-under, own-shows}
 use Rattle.file_graph.proofs.cuts.other_cuts.Goals as goal
-
-pub returns-then-cut_alike : goal.returns-then-cut_alike
-returns-then-cut_alike c =
-    let bytes = c.args.uncut.now.bytes in
-    by-reach-shows bytes c.args.likely.now c.args.reached.now c.requires.reached c.in_ok-by_reach.by_reach c.requires.likely
-    (c.in_ok-by_reach.ensures.cuts bytes c.requires.reached.tables) (c.cut_alike.ensures.0 c.if-cut_alike.true)
 
 pub reached_cuts-requires-clause-terms : goal.reached_cuts-requires-clause-terms
 reached_cuts-requires-clause-terms c =
@@ -20,12 +14,12 @@ reached_cuts-requires-clause-reached c =
     among-under c.args.uncut.now c.addresses-from.result.now c.args.likely.now c.args.tables.now c.args.reached.now
     (c.addresses-from.ensures.addresses ∙ c.requires.seeds.addresses) c.requires.tables c.requires.reached
 
-pub returns-then-cut_alike-2 : goal.returns-then-cut_alike-2
-returns-then-cut_alike-2 c =
+pub returns-then-cut_alike : goal.returns-then-cut_alike
+returns-then-cut_alike c =
     let uncut = c.args.uncut.now in
     let own : AreCutsOf uncut.bytes c.in_ok-cuts.cuts =
     cuts-of uncut.bytes c.addresses-from.result.now uncut.cuts c.in_ok-cuts.cuts c.requires.uncut (c.addresses-from.ensures.addresses ∙ c.requires.seeds.addresses) c.in_ok-cuts.ensures.cuts in
-    own-shows uncut.bytes c.args.likely.now c.args.reached.now c.requires.reached c.in_ok-cuts.cuts own (c.cut_alike-2.ensures.0 c.if-cut_alike-2.true)
+    own-shows uncut.bytes c.args.likely.now c.args.reached.now c.requires.reached c.in_ok-cuts.cuts own (c.cut_alike.ensures.0 c.if-cut_alike.true)
 
 pub returns : goal.returns
 returns c =
