@@ -17,7 +17,7 @@ use Rattle.reached_terms.specs.Reached.{AreReachedTerms, Reach}
 use Rattle.reached_terms.proofs.Complete.{ends_stand}
 use Rattle.reached_terms.proofs.Sending.{reached_stands, sent_leads}
 use Rattle.state_marks.specs.Inner.Seen.{IsNumberOf, AreNumbersIn, AreMarksOf, IsSeen, StandOn}
-use Rattle.state_marks.specs.Inner.Parts.{Answered, IsMade, IsSeenByShard, AreBelow, InParts, reached_of, returns_of, starts_of}
+use Rattle.state_marks.specs.Inner.Parts.{Answered, IsSeenByShard, AreBelow, AreMarksIn, InParts, reached_of, returns_of, starts_of}
 use Rattle.state_marks.proofs.Joined.{in_parts}
 use Rattle.state_marks.proofs.Marking.{marks_as}
 use Rattle.state_marks.proofs.Numbers.{returned_entered}
@@ -105,12 +105,11 @@ module _ (map : InstructionMap) (state : BuilderState) (stand : StandOn map stat
 
 -- ---- where they were made
 
-pub told_if_made : {E : Type 0} (map : InstructionMap) (state : BuilderState) → StandOn map state → IsLawful map → (number : ℕ → ℕ) (count : ℕ) → IsNumbering map number count → (answers : List Answered) → IsSeenByShard number state answers → (result : Result Reach E) → IfOk result (λ _. All IsMade answers)
-    → IfOk result (λ terms. AreMarksOf count (InParts reached_of answers) terms.reached) → IfOk result (λ terms. AreMarksOf count (InParts returns_of answers) terms.returns) → IfOk result (λ terms. AreMarksOf count (InParts starts_of answers) terms.starts)
+pub told_if_made : {E : Type 0} (map : InstructionMap) (state : BuilderState) → StandOn map state → IsLawful map → (number : ℕ → ℕ) (count : ℕ) → IsNumbering map number count → (answers : List Answered) → IsSeenByShard number state answers → (result : Result Reach E) → IfOk result (AreMarksIn count answers)
     → IfOk result (λ terms. (seeds : List ℕ) → IsClosed map seeds state → AreReachedTerms map number seeds terms)
-told_if_made map state stand lawful number count numbering answers are (Ok terms) made reached returns starts = λ seeds closed.
+told_if_made map state stand lawful number count numbering answers are (Ok terms) marks = λ seeds closed.
     terms_told map state stand number count numbering seeds closed lawful terms
-    (marks_as count (InParts reached_of answers) (IsNumberOf number (IsEntered state.terminators)) terms.reached reached (in_parts number state answers are made (IsEntered state.terminators) reached_of (λ shard seen is. is.reached)))
-    (marks_as count (InParts returns_of answers) (IsNumberOf number (IsReturned state.terminators)) terms.returns returns (in_parts number state answers are made (IsReturned state.terminators) returns_of (λ shard seen is. is.returns)))
-    (marks_as count (InParts starts_of answers) (IsNumberOf number (IsStart state.starts)) terms.starts starts (in_parts number state answers are made (IsStart state.starts) starts_of (λ shard seen is. is.starts)))
-told_if_made map state stand lawful number count numbering answers are (Err e) made reached returns starts = tt
+    (marks_as count (InParts reached_of answers) (IsNumberOf number (IsEntered state.terminators)) terms.reached marks.reached (in_parts number state answers are marks.made (IsEntered state.terminators) reached_of (λ shard seen is. is.reached)))
+    (marks_as count (InParts returns_of answers) (IsNumberOf number (IsReturned state.terminators)) terms.returns marks.returns (in_parts number state answers are marks.made (IsReturned state.terminators) returns_of (λ shard seen is. is.returns)))
+    (marks_as count (InParts starts_of answers) (IsNumberOf number (IsStart state.starts)) terms.starts marks.starts (in_parts number state answers are marks.made (IsStart state.starts) starts_of (λ shard seen is. is.starts)))
+told_if_made map state stand lawful number count numbering answers are (Err e) marks = tt

@@ -4,8 +4,8 @@ ghost use Rattle.std.specs.Prelude.{◌≡◌, ◌<◌, ℕ, List, All, IfOk, le
 ghost use Rattle.cfg_model.specs.Builder.Kept.{IsClosed};
 ghost use Rattle.reached_terms.specs.Reached.{AreReachedTerms};
 ghost use Rattle.state_marks.specs.Inner.Seen.{StandOn, AreMarksOf, AddsMarks};
-ghost use Rattle.state_marks.specs.Inner.Parts.{AreBelow, IsMade, IsSeenByShard, InParts};
-ghost use Rattle.state_marks.specs.Inner.Parts.{numbers_of, reached_of, returns_of, starts_of};
+ghost use Rattle.state_marks.specs.Inner.Parts.{AreBelow, AreMarksIn, InParts, IsMade, IsSeenByShard};
+ghost use Rattle.state_marks.specs.Inner.Parts.{numbers_of};
 
 use crate::seen::{Kind, Seen, seen_in};
 use cfg_model::Memory;
@@ -48,19 +48,13 @@ fn seen_of<C: Numbered>(
 }
 
 /// So many marks of each kind, of which those at the numbers of these parts are set, and no others.
-fn marks_at(
+pub(crate) fn marks_at(
     alloc: Global,
     count: u32,
     parts: &[Result<Seen, Memory>],
 ) -> Result<ReachedTerms, Memory>
     requires { All (λ part. IfOk part (AreBelow count)) parts.now }
-    ensures made { IfOk result (λ _. All IsMade parts.now) }
-    ensures reached { IfOk result
-        (λ terms. AreMarksOf count (InParts reached_of parts.now) terms.reached) }
-    ensures returns { IfOk result
-        (λ terms. AreMarksOf count (InParts returns_of parts.now) terms.returns) }
-    ensures starts { IfOk result
-        (λ terms. AreMarksOf count (InParts starts_of parts.now) terms.starts) }
+    ensures { IfOk result (AreMarksIn count parts.now) }
 {
     let reached = marked_in(alloc, count, parts, Kind::Reached)?;
     let returns = marked_in(alloc, count, parts, Kind::Returns)?;
@@ -69,7 +63,7 @@ fn marks_at(
 }
 
 /// So many marks, of which those at the numbers of this kind of these parts are set, and no others.
-pub(crate) fn marked_in(
+fn marked_in(
     alloc: Global,
     count: u32,
     parts: &[Result<Seen, Memory>],

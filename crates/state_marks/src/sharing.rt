@@ -4,12 +4,11 @@ ghost use Rattle.std.specs.Prelude.{◌<◌, ◌≤◌, ℕ, List, All, IfOk};
 ghost use Rattle.std.specs.Thread.{IsSync};
 ghost use Rattle.cfg_model.specs.Builder.Kept.{IsClosed};
 ghost use Rattle.reached_terms.specs.Reached.{AreReachedTerms};
-ghost use Rattle.state_marks.specs.Inner.Seen.{AreMarksOf, IsSeen, StandOn};
-ghost use Rattle.state_marks.specs.Inner.Parts.{AnswersMarks, AreBelow, InParts, IsMade};
-ghost use Rattle.state_marks.specs.Inner.Parts.{IsSeenByShard, reached_of, returns_of, starts_of};
+ghost use Rattle.state_marks.specs.Inner.Seen.{IsSeen, StandOn};
+ghost use Rattle.state_marks.specs.Inner.Parts.{AreBelow, AreMarksIn, IsSeenByShard};
 
-use crate::marks::{marked_in, marks_of};
-use crate::seen::{Kind, Seen, seen_in};
+use crate::marks::{marks_at, marks_of};
+use crate::seen::{Seen, seen_in};
 use cfg_model::Memory;
 use core_state::{SHARDS, State};
 use numbered::Numbered;
@@ -37,11 +36,11 @@ pub fn marks_of_by<R: Threads + Sync, C: Numbered>(
         return marks_of(alloc, code, state);
     }
     let parts = seen_by(rt, alloc, code, state, workers)?;
-    marks_by_kind(rt, alloc, code.numbers(), &parts)
+    marks_at(alloc, code.numbers(), &parts)
 }
 
-/// The answer of [`marks_of_by`], of a state that nobody needs any more. It is freed before the marks
-/// are set, so that its memory is used again. [`Memory`] if memory ran out.
+/// The answer of [`marks_of_by`], of a state that nobody needs any more. All workers but one free it,
+/// while the caller's thread sets the marks. [`Memory`] if memory ran out.
 pub fn marks_from_by<R: Threads + Sync, C: Numbered>(
     rt: &R,
     alloc: Global,
@@ -56,8 +55,33 @@ pub fn marks_from_by<R: Threads + Sync, C: Numbered>(
         → AreReachedTerms (C.map code.now) (C.number code.now) seeds terms) }
 {
     let parts = seen_by(rt, alloc, code, &state, workers)?;
-    state.free_by(rt, alloc, workers);
-    marks_by_kind(rt, alloc, code.numbers(), &parts)
+    marks_while_freed(rt, alloc, state, workers, code.numbers(), &parts)
+}
+
+/// The marks of these parts, while all workers but one free the state.
+fn marks_while_freed<R: Threads + Sync>(
+    rt: &R,
+    alloc: Global,
+    state: State,
+    workers: u32,
+    count: u32,
+    parts: &[Result<Seen, Memory>],
+) -> Result<ReachedTerms, Memory>
+    requires some { 1 ≤ workers }
+    requires below { All (λ part. IfOk part (AreBelow count)) parts.now }
+    ensures { IfOk result (AreMarksIn count parts.now) }
+{
+    let (_, marks) = join(
+        rt,
+        move ||
+            requires { IsSync R.row × (1 ≤ workers) }
+        { state.free_by(rt, alloc, (workers - 1).max(1)) },
+        || -> Result<ReachedTerms, Memory>
+            requires { All (λ part. IfOk part (AreBelow count)) parts.now }
+            ensures { IfOk result (AreMarksIn count parts.entry.now) }
+        { marks_at(alloc, count, parts) },
+    );
+    marks
 }
 
 /// What the shards of each number show, found by several threads.
@@ -76,60 +100,4 @@ fn seen_by<R: Threads + Sync, C: Numbered>(
         ensures { IfOk result (IsSeen (C.number code.entry.now) shard state.entry.now.maps) }
     { seen_in(alloc, code, state, shard) };
     Ok(map_drawn(rt, alloc, workers as usize, SHARDS, &look)?)
-}
-
-/// So many marks of each kind, of which those at the numbers of these parts are set, and no others.
-/// There is a thread for each kind.
-fn marks_by_kind<R: Threads + Sync>(
-    rt: &R,
-    alloc: Global,
-    count: u32,
-    parts: &[Result<Seen, Memory>],
-) -> Result<ReachedTerms, Memory>
-    requires { All (λ part. IfOk part (AreBelow count)) parts.now }
-    ensures made { IfOk result (λ _. All IsMade parts.now) }
-    ensures reached { IfOk result
-        (λ terms. AreMarksOf count (InParts reached_of parts.now) terms.reached) }
-    ensures returns { IfOk result
-        (λ terms. AreMarksOf count (InParts returns_of parts.now) terms.returns) }
-    ensures starts { IfOk result
-        (λ terms. AreMarksOf count (InParts starts_of parts.now) terms.starts) }
-{
-    let (reached, (returns, starts)) = join(
-        rt,
-        || -> Result<Vec<bool>, Memory>
-            requires { All (λ part. IfOk part (AreBelow count)) parts.now }
-            ensures { AnswersMarks count reached_of parts.entry.now result }
-        { marked_in(alloc, count, parts, Kind::Reached) },
-        || -> (Result<Vec<bool>, Memory>, Result<Vec<bool>, Memory>)
-            requires { IsSync R.row × All (λ part. IfOk part (AreBelow count)) parts.now }
-            ensures { AnswersMarks count returns_of parts.entry.now result.0
-                × AnswersMarks count starts_of parts.entry.now result.1 }
-        { returns_and_starts(rt, alloc, count, parts) },
-    );
-    Ok(ReachedTerms::from_marks(reached?, returns?, starts?))
-}
-
-/// The marks of what returns and of starts, each set by a thread of its own.
-fn returns_and_starts<R: Threads + Sync>(
-    rt: &R,
-    alloc: Global,
-    count: u32,
-    parts: &[Result<Seen, Memory>],
-) -> (Result<Vec<bool>, Memory>, Result<Vec<bool>, Memory>)
-    requires { All (λ part. IfOk part (AreBelow count)) parts.now }
-    ensures returns { AnswersMarks count returns_of parts.now result.0 }
-    ensures starts { AnswersMarks count starts_of parts.now result.1 }
-{
-    join(
-        rt,
-        || -> Result<Vec<bool>, Memory>
-            requires { All (λ part. IfOk part (AreBelow count)) parts.now }
-            ensures { AnswersMarks count returns_of parts.entry.now result }
-        { marked_in(alloc, count, parts, Kind::Returns) },
-        || -> Result<Vec<bool>, Memory>
-            requires { All (λ part. IfOk part (AreBelow count)) parts.now }
-            ensures { AnswersMarks count starts_of parts.entry.now result }
-        { marked_in(alloc, count, parts, Kind::Starts) },
-    )
 }

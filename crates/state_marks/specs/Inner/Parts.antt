@@ -1,9 +1,9 @@
 -- What a state shows, found shard by shard.
-use Rattle.std.specs.Prelude.{◌≡◌, ℕ, ◌<◌, List, length, slice_index_or, All, Contains, Bool, Vec}
+use Rattle.std.specs.Prelude.{◌≡◌, ℕ, ◌<◌, List, length, slice_index_or, All, Contains}
 use Rattle.std.specs.Prelude.{IfOk, IsOk, Result, Ok}
 use Rattle.std.specs.declared.alloc.AllocError.{AllocError as Memory}
-use Rattle.std.specs.declared.alloc.Global.{Global}
 use Rattle.cfg_model.specs.Builder.State.{BuilderState}
+use Rattle.reached_terms.specs.Reached.{Reach}
 use Rattle.state_marks.specs.declared.seen.Seen.{Seen}
 use Rattle.state_marks.specs.declared.seen.Kind.{Kind}
 use Rattle.state_marks.specs.declared.seen.Kind.TheVariants as kinds
@@ -45,10 +45,12 @@ pub record InParts (numbers : Seen → List ℕ) (answers : List Answered) (n : 
   pub part : Contains answers (Ok seen)
   pub there : Contains (numbers seen) n
 
--- If the marks of a kind were made, all parts were, and those at the numbers of this kind are set.
-abbrev pub AnswersMarks : ℕ → (Seen → List ℕ) → List Answered → Result (Vec Bool Global) Memory → Type 0
-AnswersMarks count numbers answers marks =
-    IfOk marks (λ v. All IsMade answers × AreMarksOf count (InParts numbers answers) v.items)
+-- All parts were made, and of the marks of each kind those at its numbers are set, and no others.
+pub record AreMarksIn (count : ℕ) (answers : List Answered) (terms : Reach) : Type 0 where
+  pub made : All IsMade answers
+  pub reached : AreMarksOf count (InParts reached_of answers) terms.reached
+  pub returns : AreMarksOf count (InParts returns_of answers) terms.returns
+  pub starts : AreMarksOf count (InParts starts_of answers) terms.starts
 
 -- Each shard has an answer: what the state shows there, if it was found.
 pub record IsSeenByShard (number : ℕ → ℕ) (state : BuilderState) (answers : List Answered)

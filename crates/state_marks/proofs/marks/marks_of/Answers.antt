@@ -19,4 +19,4 @@ returns g c =
     let state = c.args.state.now.maps in
     let number = g.C.Numbered.number c.args.code.now in
     told_if_made map state (closed_stand map c.requires.0 state c.requires.1) c.numbers.ensures.lawful number c.numbers.result c.numbers.ensures.numbers c.deref.result.now (subst (IsSeenByShard number state) (sym c.deref.ensures.value) c.in_ok-parts.ensures)
-    c.marks_at.result c.marks_at.ensures.made c.marks_at.ensures.reached c.marks_at.ensures.returns c.marks_at.ensures.starts
+    c.marks_at.result c.marks_at.ensures

@@ -6,8 +6,8 @@ use Rattle.state_marks.proofs.sharing.marks_of_by.Goals as goal
 pub seen_by-requires-after_bounds : goal.seen_by-requires-after_bounds
 seen_by-requires-after_bounds g c κs within = closed_stand (g.C.Chains.map c.args.code.now) c.requires.closed.0 c.args.state.now.maps c.requires.closed.1
 
-pub marks_by_kind-requires-after_bounds : goal.marks_by_kind-requires-after_bounds
-marks_by_kind-requires-after_bounds g c κs within =
+pub marks_at-requires : goal.marks_at-requires
+marks_at-requires g c =
     let map = g.C.Chains.map c.args.code.now in
     let state = c.args.state.now.maps in
     let number = g.C.Numbered.number c.args.code.now in
@@ -19,4 +19,4 @@ returns g c =
     let state = c.args.state.now.maps in
     let number = g.C.Numbered.number c.args.code.now in
     told_if_made map state (closed_stand map c.requires.closed.0 state c.requires.closed.1) c.numbers.ensures.lawful number c.numbers.result c.numbers.ensures.numbers c.deref.result.now (subst (IsSeenByShard number state) (sym c.deref.ensures.value) c.in_ok-parts.ensures)
-    c.marks_by_kind.result c.marks_by_kind.ensures.made c.marks_by_kind.ensures.reached c.marks_by_kind.ensures.returns c.marks_by_kind.ensures.starts
+    c.marks_at.result c.marks_at.ensures
