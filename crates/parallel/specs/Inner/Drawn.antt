@@ -11,4 +11,5 @@ module _ {F X : Type 0} (g : Shared F (ℕ × Unit {0}) X) (f : F) where
 
   -- the result at each filled place is one that f may give for that number
   pub record ArePlaced (places : List (Option X)) : Type 0 where
-    pub each : (i : ℕ) (d : Option X) → i < length places → IfSome (slice_index_or places i d) (λ x. FnReturns g f (i, tt) x)
+    pub each : (i : ℕ) (d : Option X) → i < length places
+        → IfSome (slice_index_or places i d) (λ x. FnReturns g f (i, tt) x)
