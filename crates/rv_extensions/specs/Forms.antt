@@ -84,8 +84,7 @@ arithmetic_forms =
 unfoldable pub may_be_forms : List Row
 may_be_forms =
     row (λ e. e.zcmop)
-    (quadrant_is 1 ∷ form_is 3 ∷ bits 12 12 (0 ∷ []) ∷ bits 11 11 (0 ∷ []) ∷
-     bits 7 7 (1 ∷ []) ∷ bits 6 2 (0 ∷ []) ∷ [])
+    (quadrant_is 1 ∷ form_is 3 ∷ bits 12 12 (0 ∷ []) ∷ bits 11 11 (0 ∷ []) ∷ bits 7 7 (1 ∷ []) ∷ bits 6 2 (0 ∷ []) ∷ [])
     (λ h. Extension (only (first_register h)) 0) ∷ []
 
 unfoldable pub extension_forms : List Row
