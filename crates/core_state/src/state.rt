@@ -28,7 +28,6 @@ use crate::terms::Terms;
 use crate::walk::key_after;
 use crate::{Memory, shard};
 use cfg_model::{Chains, Mark, Waiter};
-use parallel::for_each_chunk_mut;
 use std::alloc::Global;
 use std::marker::Model;
 use std::thread::Threads;
@@ -100,24 +99,6 @@ impl State {
             terms,
             changes: 0,
         }
-    }
-
-    /// Frees the state. `workers` threads share its terminators, which take the most time: their
-    /// lists of waiters lie in many pieces. Memory: none.
-    pub fn free_by<R: Threads + Sync>(mut self, rt: &R, alloc: Global, workers: u32)
-        requires { 1 ≤ workers }
-    {
-        let share = SHARDS.div_ceil(workers as usize);
-        for_each_chunk_mut(
-            rt,
-            &mut self.terms,
-            share,
-            &|_, shards: &mut [Terms]| {
-                for shard in shards {
-                    *shard = Terms::empty(alloc);
-                }
-            },
-        );
     }
 
     /// How many changes were made; it stays at 2^64 - 1 once it is there.

@@ -13,7 +13,7 @@ use Rattle.code_view.specs.declared.table_jump.TableJump.{TableJump}
 use Rattle.table_cuts.specs.Extents.{extent_at}
 use Rattle.table_cuts.proofs.Counted.{cuts-other, has-table}
 use Rattle.reached_terms.specs.Reached.{Reach}
-use Rattle.reached_cuts.specs.Counted.{AreLooser, AreReachedAmong}
+use Rattle.reached_cuts.specs.Counted.{AreTighter, AreReachedAmong}
 use Rattle.reached_cuts.specs.Reach.{IsReachOf, under}
 use Rattle.file_program.specs.FileGraph.{cut_program, AreCutsOf, IsReachedUncut}
 use Rattle.file_program.specs.Likely.{AreLikelyCuts, AreCutsBy, IsReachedUnder, AreCutsUnder, AgreeWhereReached}
@@ -95,9 +95,9 @@ reach-under uncut code cuts from seeds terms same is-under all-seeds is =
     (subst (λ (k : Counts). IsReachOf (record { bytes = code.bytes; cuts = k }) seeds terms) is-under
     (subst (λ (s : List ℕ). IsReachOf code s terms) all-seeds is))
 
--- The cuts by some jumps with a table are looser than the likely ones.
-pub likely-looser : (bytes : List ℕ) (likely others : Counts) (jumps : List ℕ) → AreLikelyCuts bytes likely → AreCutsBy bytes jumps others → AreLooser (cut_of likely) (cut_of others)
-likely-looser bytes likely others jumps are by_jumps = likely-lower bytes likely are (λ j. Contains jumps j) others by_jumps
+-- The cuts by some jumps with a table are tighter than the likely ones.
+pub likely-tighter : (bytes : List ℕ) (likely others : Counts) (jumps : List ℕ) → AreLikelyCuts bytes likely → AreCutsBy bytes jumps others → AreTighter (cut_of likely) (cut_of others)
+likely-tighter bytes likely others jumps are by_jumps = likely-lower bytes likely are (λ j. Contains jumps j) others by_jumps
 
 -- Jumps that code reaches under cuts are reached if no table is cut.
 pub counted-uncut : (code : FileCode) (from : List ℕ) (tables counted : List TableJump) → CutsFit code.bytes (cut_of code.cuts) → from ≡ seeds code.bytes → AreReachedAmong code from tables counted

@@ -9,7 +9,7 @@ ghost use Rattle.elf_symbols.specs.Seeds.{addresses_of};
 ghost use Rattle.file_program.specs.FileGraph.{AreCutsOf};
 ghost use Rattle.file_program.specs.FileSeeds.{AreSeedsOf};
 ghost use Rattle.file_program.specs.Likely.{AreLikelyCuts};
-ghost use Rattle.reached_cuts.specs.Counted.{AreLooser};
+ghost use Rattle.reached_cuts.specs.Counted.{AreTighter};
 ghost use Rattle.reached_cuts.specs.Reach.{IsReachOf, under};
 ghost use Rattle.file_graph.specs.Inner.{AreReachedUnder, ShowTheGraph};
 
@@ -45,7 +45,7 @@ pub fn agree_further(
     terms: &ReachedTerms,
     reached: &[TableJump],
 ) -> Result<bool, Memory>
-    requires looser { AreLooser (cut_of likely.now) (cut_of wide.now.cuts) }
+    requires tighter { AreTighter (cut_of likely.now) (cut_of wide.now.cuts) }
     requires wide_fits { CutsFit wide.now.bytes (cut_of wide.now.cuts) }
     requires from { from.now ≡ seeds wide.now.bytes }
     requires tables { AreAllTables wide.now.bytes tables.now }

@@ -1,6 +1,6 @@
 -- In an outline a block starts at each leader, so each edge joins two blocks.
 use Rattle.std.proofs.Common.{◌≡◌, ℕ, List, [], ◌∷◌, sym, subst, ◌∙◌, ⊎_elim}
-use Rattle.std.specs.Prelude.{All, Contains, Option, Some, IsSome, option_to_list}
+use Rattle.std.specs.Prelude.{All, Contains, Some, IsSome, option_to_list}
 use Rattle.std.proofs.lemmas.List.Elements.{All-contains, Contains-append_left, Contains-push}
 use Rattle.cfg_model.specs.declared.flow.Flow.{Flow}
 use Rattle.cfg_model.specs.declared.flow.Flow.TheVariants.{Straight, Branch, Jump, IndirectCall, Table}

@@ -8,6 +8,8 @@ ghost use Rattle.cfg_model.specs.Graph.Graph.{FunctionBefore, IsOutline};
 ghost use Rattle.cfg_model.specs.Graph.Listing.{Lists};
 ghost use Rattle.outline_funcs.specs.Listed.{AreOrdered, HaveEachEntry, TellsReturns};
 ghost use Rattle.outline_funcs.specs.Inner.Bodies.{IsFunctionBy};
+ghost use Rattle.outline_funcs.specs.Inner.Entries.{AreEntriesBy};
+ghost use Rattle.outline_funcs.specs.Inner.Exits.{AreFirsts};
 ghost use Rattle.outline_funcs.specs.Inner.Plans.{Serves, MakesAll};
 
 use crate::Memory;
@@ -75,11 +77,34 @@ pub(crate) fn plan_of<'a, C: Chains>(
     ensures makes { IfOk result
         (λ plan. MakesAll (C.map code.now) seeds.now plan.exits plan.entries.items) }
 {
-    know_laws(code);
     let blocks = outline.blocks.as_slice();
     let edges = outline.edges.as_slice();
     let entries = entries_of(alloc, edges, seeds)?;
     let firsts = firsts_of(alloc, blocks, edges)?;
+    plan_from(alloc, code, seeds, outline, entries, firsts)
+}
+
+/// The answer of [`plan_of`], of the entries and of the first edge from each block.
+pub(crate) fn plan_from<'a, C: Chains>(
+    alloc: Global,
+    code: &C,
+    seeds: &[u64],
+    outline: &'a Outline,
+    entries: Vec<u64>,
+    firsts: Vec<u32>,
+) -> Result<Plan<'a>, Memory>
+    requires outline { IsOutline (C.map code.now) seeds.now outline.now.blocks outline.now.edges }
+    requires seeds { All (λ a. IsSome (C.map code.now a)) seeds.now }
+    requires entries { AreEntriesBy outline.now.edges seeds.now entries.items }
+    requires firsts { AreFirsts outline.now.blocks outline.now.edges firsts.items }
+    ensures serves { IfOk result
+        (λ plan. Serves (IsEntry (C.map code.now) seeds.now) plan.exits plan.entries.items) }
+    ensures makes { IfOk result
+        (λ plan. MakesAll (C.map code.now) seeds.now plan.exits plan.entries.items) }
+{
+    know_laws(code);
+    let blocks = outline.blocks.as_slice();
+    let edges = outline.edges.as_slice();
     let entered = entered_of(alloc, blocks, &entries)?;
     let exits = Exits {
         blocks,

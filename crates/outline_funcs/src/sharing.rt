@@ -1,30 +1,34 @@
 //! The functions of a program, made by several threads.
 
 ghost use Rattle.std.specs.Prelude.{◌≡◌, ℕ, ◌<◌, ◌≤◌, IfOk, IsSome, length, vec_len};
-ghost use Rattle.std.specs.Prelude.{slice_index_or, All};
+ghost use Rattle.std.specs.Prelude.{slice_index_or, All, AllPairs};
 ghost use Rattle.std.specs.List.{AllZip, flat_map};
+ghost use Rattle.std.specs.List.Sorted.{IsNonDecreasingBy};
 ghost use Rattle.std.specs.Thread.{IsSync};
-ghost use Rattle.cfg_model.specs.Graph.Function.{IsFunction};
-ghost use Rattle.cfg_model.specs.Graph.Graph.{FunctionBefore, IsOutline};
+ghost use Rattle.cfg_model.specs.Graph.Function.{IsEntry, IsFunction};
+ghost use Rattle.cfg_model.specs.Graph.Graph.{BlockBefore, FunctionBefore, IsOutline};
 ghost use Rattle.cfg_model.specs.Graph.Listing.{Lists};
 ghost use Rattle.outline_funcs.specs.Listed.{AreOrdered, HaveEachEntry, TellsReturns};
 ghost use Rattle.outline_funcs.specs.Inner.Bodies.{IsFunctionBy};
-ghost use Rattle.outline_funcs.specs.Inner.Plans.{AreAll, Serves};
+ghost use Rattle.outline_funcs.specs.Inner.Entries.{AreEntriesBy};
+ghost use Rattle.outline_funcs.specs.Inner.Exits.{AreFirsts};
+ghost use Rattle.outline_funcs.specs.Inner.Plans.{AreAll, MakesAll, Serves};
 
 use crate::Memory;
-use crate::exits::Exits;
-use crate::listing::{Plan, functions_among, functions_at, plan_of};
+use crate::entries::entries_of;
+use crate::exits::{Exits, firsts_of};
+use crate::listing::{Plan, functions_among, functions_at, plan_from};
 use cfg_model::{Block, Chains, Function, Functions, Outline};
 use parallel::{MOST_WORKERS, joined_if_made, map_indices};
 use std::alloc::Global;
-use std::thread::Threads;
+use std::thread::{Threads, join};
 
 /// The answer of [`functions_among`], made by so many workers, from 1 to 64. With one worker no
 /// thread is started. [`Memory`] where memory ran out. [`Memory`] too where one part has 2^32 - 1
 /// functions or more, which alone take more than 160 GiB, or where there are 2^32 edges or more,
 /// which alone take 96 GiB.
 ///
-/// The caller's thread finds the entries, and the first edge from each block. The entries are cut
+/// Two threads find the entries, and the first edge from each block. The entries are cut
 /// into one part for each worker, with about as many blocks between the first and the last one of
 /// each. A worker needs four bytes for each block of the program, besides its functions and five
 /// bytes for each block that all share.
@@ -70,11 +74,42 @@ fn functions_shared<R: Threads + Sync, C: Chains, F: Fn(u64) -> bool + Sync>(
     ensures { IfOk result (λ v. AreAll (C.map code.now) seeds.now v.items) }
 {
     let blocks = outline.blocks.as_slice();
-    let Plan { entries, exits } = plan_of(alloc, code, seeds, outline)?;
+    let Plan { entries, exits } = plan_by(rt, alloc, code, seeds, outline)?;
     let parts = parts_of(alloc, &entries, blocks, workers)?;
     let lists = made_by_part(rt, alloc, &exits, &parts, returns)?;
     let functions = joined_if_made(alloc, lists)?;
     Ok(functions)
+}
+
+/// The answer of `plan_of`, made by two threads: one finds the entries, the other the first edges.
+fn plan_by<'a, R: Threads + Sync, C: Chains>(
+    rt: &R,
+    alloc: Global,
+    code: &C,
+    seeds: &[u64],
+    outline: &'a Outline,
+) -> Result<Plan<'a>, Memory>
+    requires outline { IsOutline (C.map code.now) seeds.now outline.now.blocks outline.now.edges }
+    requires seeds { All (λ a. IsSome (C.map code.now a)) seeds.now }
+    ensures serves { IfOk result
+        (λ plan. Serves (IsEntry (C.map code.now) seeds.now) plan.exits plan.entries.items) }
+    ensures makes { IfOk result
+        (λ plan. MakesAll (C.map code.now) seeds.now plan.exits plan.entries.items) }
+{
+    let blocks = outline.blocks.as_slice();
+    let edges = outline.edges.as_slice();
+    let (entries, firsts) = join(
+        rt,
+        || -> Result<Vec<u64>, Memory>
+            ensures { IfOk result (λ v. AreEntriesBy edges.entry.now seeds.entry.now v.items) }
+        { entries_of(alloc, edges, seeds) },
+        || -> Result<Vec<u32>, Memory>
+            requires blocks { AllPairs BlockBefore blocks.now }
+            requires edges { IsNonDecreasingBy (λ edge. edge.from) edges.now }
+            ensures { IfOk result (λ v. AreFirsts blocks.entry.now edges.entry.now v.items) }
+        { firsts_of(alloc, blocks, edges) },
+    );
+    plan_from(alloc, code, seeds, outline, entries?, firsts?)
 }
 
 /// The entries in parts that lie side by side, one for each worker at most, and one more where some

@@ -1,4 +1,4 @@
--- Code under looser cuts is wider than the same code under cuts.
+-- Code under tighter cuts is wider than the same code under cuts.
 use Rattle.std.proofs.Common.{◌≡◌, ℕ, zero, suc, ◌≤◌, List, [], ◌∷◌, take, get_or, Option, Some, None, IsSome, refl, sym, ap, ◌∙◌, subst, inl, inr, arith}
 use Rattle.std.specs.Prelude.{Contains}
 use Rattle.std.specs.Option.{option_map_or}
@@ -20,7 +20,7 @@ use Rattle.code_view.specs.declared.table_jump.TableJump.{TableJump}
 use Rattle.code_view.proofs.Lawful.{targets-of-table}
 use Rattle.table_cuts.proofs.Flows.{table-code, table-flow, table-ends}
 use Rattle.reached_terms.specs.Wider.{IsWider, IsTableJump, KeepsMore}
-use Rattle.reached_cuts.specs.Counted.{AreLooser, AreReachedAmong, AreCutAmong}
+use Rattle.reached_cuts.specs.Counted.{AreTighter, AreReachedAmong, AreCutAmong}
 use Rattle.reached_cuts.specs.Reach.{under}
 
 -- what is among the first is among more of them
@@ -46,11 +46,11 @@ some_has : (P : Type 0) (o : Option ℕ) → IsSome o → ((count : ℕ) → o �
 some_has P None has each = absurd (cc)
 some_has P (Some count) has each = each count refl
 
-module _ (bytes : List ℕ) (cuts others : ℕ → Option ℕ) (looser : AreLooser cuts others) (fits : CutsFit bytes cuts) (a : ℕ) where
+module _ (bytes : List ℕ) (cuts others : ℕ → Option ℕ) (tighter : AreTighter cuts others) (fits : CutsFit bytes cuts) (a : ℕ) where
   -- what is not cut is the same
   no_more : cuts a ≡ None → (o : Option ℕ) → others a ≡ o → others a ≡ cuts a
   no_more is None at = at ∙ sym is
-  no_more is (Some most) at = let less = looser a most at in absurd (none-some less.0 (sym is ∙ less.1))
+  no_more is (Some most) at = let less = tighter a most at in absurd (none-some less.0 (sym is ∙ less.1))
 
   same_there : cuts a ≡ None → program_under bytes others a ≡ program_under bytes cuts a
   unfolding instruction_at
@@ -74,7 +74,7 @@ module _ (bytes : List ℕ) (cuts others : ℕ → Option ℕ) (looser : AreLoos
   no_fewer : (table : Table) (count : ℕ) → cuts a ≡ Some count → count ≤ table.count → (o : Option ℕ) → others a ≡ o → count ≤ kept_entries o table
   no_fewer table count is within None at = within
   no_fewer table count is within (Some most) at =
-      let less = looser a most at in
+      let less = tighter a most at in
       subst (λ n. n ≤ most) (same_Some less.0 count (sym less.1 ∙ is)) less.2
 
   -- so it keeps what it kept
@@ -95,27 +95,27 @@ module _ (bytes : List ℕ) (cuts others : ℕ → Option ℕ) (looser : AreLoos
       }
 
 module _ (code : FileCode) (cuts : Counts) (seeds : List ℕ) (tables jumps : List TableJump) (found : List ℕ)
-    (looser : AreLooser (cut_of cuts) (cut_of code.cuts)) (lawful : IsLawful (program_of code)) (fits : CutsFit code.bytes (cut_of cuts)) (all : AreAllTables code.bytes tables)
+    (tighter : AreTighter (cut_of cuts) (cut_of code.cuts)) (lawful : IsLawful (program_of code)) (fits : CutsFit code.bytes (cut_of cuts)) (all : AreAllTables code.bytes tables)
     (among : AreReachedAmong (under code cuts) seeds tables jumps) (cut : AreCutAmong jumps cuts found) where
   listed_there : (j : ℕ) → Contains found j → HasTable code.bytes j × Reached (program_of (under code cuts)) seeds j
   listed_there j there =
       let is = cut.only j there in (
-        some_has (HasTable code.bytes j) (cut_of cuts j) is.1 (has_table code.bytes (cut_of cuts) (cut_of code.cuts) looser fits j),
+        some_has (HasTable code.bytes j) (cut_of cuts j) is.1 (has_table code.bytes (cut_of cuts) (cut_of code.cuts) tighter fits j),
         (among.only j is.0).1,
       )
 
   pub code-wider : IsWider (program_of (under code cuts)) (program_of code) seeds found
   code-wider = record {
     lawful = lawful;
-    each = λ a. by_cut _ (cut_of cuts a) (λ is. inl (same_there code.bytes (cut_of cuts) (cut_of code.cuts) looser fits a is)) (λ count is. inr (keeps_more code.bytes (cut_of cuts) (cut_of code.cuts) looser fits a count is));
+    each = λ a. by_cut _ (cut_of cuts a) (λ is. inl (same_there code.bytes (cut_of cuts) (cut_of code.cuts) tighter fits a is)) (λ count is. inr (keeps_more code.bytes (cut_of cuts) (cut_of code.cuts) tighter fits a count is));
     reached = λ a reached.
-        by_cut _ (cut_of cuts a) (λ is. inl (same_there code.bytes (cut_of cuts) (cut_of code.cuts) looser fits a is))
-        (λ count is. inr (cut.all a (among.all a (all.all_jumps a (has_table code.bytes (cut_of cuts) (cut_of code.cuts) looser fits a count is)) reached) (has_some (cut_of cuts a) count is)));
+        by_cut _ (cut_of cuts a) (λ is. inl (same_there code.bytes (cut_of cuts) (cut_of code.cuts) tighter fits a is))
+        (λ count is. inr (cut.all a (among.all a (all.all_jumps a (has_table code.bytes (cut_of cuts) (cut_of code.cuts) tighter fits a count is)) reached) (has_some (cut_of cuts a) count is)));
     listed = λ i d below.
         let at = listed_there (get_or found i d) (Contains-get_or found i d below) in
         (at.1, table-ends code.bytes (cut_of cuts) (get_or found i d) at.0);
   }
 
--- no cuts are looser than any
-pub none-looser : (cuts : ℕ → Option ℕ) (none : Counts) → none ≡ map.empty → AreLooser cuts (cut_of none)
-none-looser cuts none is j most at = absurd (none-some most (sym (ap (λ (c : Counts). map.get c j) is ∙ map.get-empty nat_cmp j) ∙ at))
+-- no cuts are tighter than any
+pub none-tighter : (cuts : ℕ → Option ℕ) (none : Counts) → none ≡ map.empty → AreTighter cuts (cut_of none)
+none-tighter cuts none is j most at = absurd (none-some most (sym (ap (λ (c : Counts). map.get c j) is ∙ map.get-empty nat_cmp j) ∙ at))

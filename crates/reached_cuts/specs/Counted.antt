@@ -20,7 +20,8 @@ pub record AreCutAmong (jumps : List TableJump) (cuts : Counts) (found : List �
   pub only : (j : ℕ) → Contains found j → Contains (addresses_of jumps) j × IsSome (cut_of cuts j)
   pub all : (j : ℕ) → Contains (addresses_of jumps) j → IsSome (cut_of cuts j) → Contains found j
 
--- A table that others cut is cut by these cuts too, to no more entries.
-abbrev pub AreLooser : (ℕ → Option ℕ) → (ℕ → Option ℕ) → Type 0
-AreLooser cuts others = (j most : ℕ) → others j ≡ Some most
+-- These cuts are as tight as the others or tighter: a table that the others cut is cut by these too, to
+-- no more entries.
+abbrev pub AreTighter : (ℕ → Option ℕ) → (ℕ → Option ℕ) → Type 0
+AreTighter cuts others = (j most : ℕ) → others j ≡ Some most
     → (few : ℕ) × (cuts j ≡ Some few) × (few ≤ most)

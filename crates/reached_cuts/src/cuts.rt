@@ -8,7 +8,7 @@ ghost use Rattle.code_view.specs.Cuts.{cut_of, CutsFit};
 ghost use Rattle.code_view.specs.FileCode.{program_of};
 ghost use Rattle.table_cuts.specs.Extents.{extent_at};
 ghost use Rattle.code_view.specs.Tables.{AreAllTables};
-ghost use Rattle.reached_cuts.specs.Counted.{AreLooser, AreReachedAmong};
+ghost use Rattle.reached_cuts.specs.Counted.{AreTighter, AreReachedAmong};
 ghost use Rattle.reached_cuts.specs.Reach.{IsReachOf, under};
 
 use crate::Memory;
@@ -32,7 +32,7 @@ pub fn reach_further(
     terms: &ReachedTerms,
     reached: &[TableJump],
 ) -> Result<ReachedTerms, Memory>
-    requires looser { AreLooser (cut_of cuts.now) (cut_of wide.now.cuts) }
+    requires tighter { AreTighter (cut_of cuts.now) (cut_of wide.now.cuts) }
     requires tables { AreAllTables wide.now.bytes tables.now }
     requires fits { CutsFit wide.now.bytes (cut_of cuts.now) }
     requires terms { IsReachOf (under wide.now cuts.now) seeds.now terms.now }

@@ -39,8 +39,8 @@ pub fn marks_of_by<R: Threads + Sync, C: Numbered>(
     marks_at(alloc, code.numbers(), &parts)
 }
 
-/// The answer of [`marks_of_by`], of a state that nobody needs any more. All workers but one free it,
-/// while the caller's thread sets the marks. [`Memory`] if memory ran out.
+/// The answer of [`marks_of_by`], of a state that nobody needs any more. A thread frees it while the
+/// caller's sets the marks. [`Memory`] if memory ran out.
 pub fn marks_from_by<R: Threads + Sync, C: Numbered>(
     rt: &R,
     alloc: Global,
@@ -55,27 +55,24 @@ pub fn marks_from_by<R: Threads + Sync, C: Numbered>(
         → AreReachedTerms (C.map code.now) (C.number code.now) seeds terms) }
 {
     let parts = seen_by(rt, alloc, code, &state, workers)?;
-    marks_while_freed(rt, alloc, state, workers, code.numbers(), &parts)
+    marks_while_freed(rt, alloc, state, code.numbers(), &parts)
 }
 
-/// The marks of these parts, while all workers but one free the state.
+/// The marks of these parts, while another thread frees the state. More threads would not free it in
+/// less time: its pieces lie in the heaps of all workers, and each heap has one lock.
 fn marks_while_freed<R: Threads + Sync>(
     rt: &R,
     alloc: Global,
     state: State,
-    workers: u32,
     count: u32,
     parts: &[Result<Seen, Memory>],
 ) -> Result<ReachedTerms, Memory>
-    requires some { 1 ≤ workers }
-    requires below { All (λ part. IfOk part (AreBelow count)) parts.now }
+    requires { All (λ part. IfOk part (AreBelow count)) parts.now }
     ensures { IfOk result (AreMarksIn count parts.now) }
 {
     let (_, marks) = join(
         rt,
-        move ||
-            requires { IsSync R.row × (1 ≤ workers) }
-        { state.free_by(rt, alloc, (workers - 1).max(1)) },
+        move || drop(state),
         || -> Result<ReachedTerms, Memory>
             requires { All (λ part. IfOk part (AreBelow count)) parts.now }
             ensures { IfOk result (AreMarksIn count parts.entry.now) }

@@ -13,8 +13,8 @@ use Rattle.file_program.specs.FileGraph.{AreCutsOf, IsGraphOf}
 use Rattle.file_program.specs.Likely.{AreCutsBy, AreLikelyCuts}
 use Rattle.file_program.proofs.UnderCuts.{program-is, graph-under}
 use Rattle.file_graph.specs.Inner.{AreReachedUnder, ShowTheGraph}
-use Rattle.file_graph.proofs.Likely.{by-reach-shows, likely-looser, reached-under, reach-under}
-use Rattle.reached_cuts.specs.Counted.{AreLooser, AreReachedAmong}
+use Rattle.file_graph.proofs.Likely.{by-reach-shows, likely-tighter, reached-under, reach-under}
+use Rattle.reached_cuts.specs.Counted.{AreTighter, AreReachedAmong}
 use Rattle.file_graph.proofs.graph.graph_of.Goals.{then-cut_alike-via-then-cut_alike, then-cut_alike-via-else-cut_alike+in_ok-agree_further+then-branch}
 use Rattle.file_graph.proofs.graph.graph_of.Goals as goal
 
@@ -105,8 +105,8 @@ under-wide-requires g c =
     (c.addresses.ensures.addresses ∙ c.requires.seeds.addresses) c.jumps.ensures all (c.in_ok-counted.ensures c.addresses.result.now c.in_ok-reached.ensures) in
     record { cuts = c.in_ok-by_reach.ensures.fits uncut.bytes (subst (AreTablesOf uncut.bytes) (sym c.deref.ensures.value) reached.tables) }
 
-pub agree_further-requires-clause-looser : goal.agree_further-requires-clause-looser
-agree_further-requires-clause-looser g c =
+pub agree_further-requires-clause-tighter : goal.agree_further-requires-clause-tighter
+agree_further-requires-clause-tighter g c =
     let uncut : FileCode = c.with_tables-uncut.result in
     let same : uncut.bytes ≡ c.args.image.now = ap (λ (f : FileCode). f.bytes) c.with_tables-uncut.ensures ∙ c.new-uncut.ensures.bytes in
     let all = subst (λ (f : FileCode). AreAllTables f.bytes c.in_ok-tables.tables) (sym c.with_tables-uncut.ensures) c.in_ok-tables.ensures.tables in
@@ -120,7 +120,7 @@ agree_further-requires-clause-looser g c =
     let tables = subst (AreTablesOf uncut.bytes) (sym is) reached.tables in
     let by_jumps = subst (λ (xs : List TableJump). AreCutsBy uncut.bytes (addresses_of xs) by_reach) is (c.in_ok-by_reach.ensures.cuts uncut.bytes tables) in
     let are = c.in_ok-likely.ensures.cuts uncut.bytes all in
-    subst (λ (k : Counts). AreLooser (cut_of likely) (cut_of k)) (sym c.under-wide.ensures.cuts) (likely-looser uncut.bytes likely by_reach (addresses_of counted) are by_jumps)
+    subst (λ (k : Counts). AreTighter (cut_of likely) (cut_of k)) (sym c.under-wide.ensures.cuts) (likely-tighter uncut.bytes likely by_reach (addresses_of counted) are by_jumps)
 
 pub agree_further-requires-clause-likely : goal.agree_further-requires-clause-likely
 agree_further-requires-clause-likely g c =

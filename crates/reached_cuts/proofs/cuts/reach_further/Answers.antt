@@ -12,6 +12,6 @@ wider-requires-after_bounds c κs =
     let jumps = c.args.reached.now in (
       program_of (under code cuts),
       c.requires.terms,
-      code-wider code cuts c.args.seeds.now c.args.tables.now jumps c.deref.result.now c.requires.looser c.index.ensures.lawful c.requires.fits c.requires.tables c.requires.reached
+      code-wider code cuts c.args.seeds.now c.args.tables.now jumps c.deref.result.now c.requires.tighter c.index.ensures.lawful c.requires.fits c.requires.tables c.requires.reached
           (subst (AreCutAmong jumps cuts) (sym c.deref.ensures.value) c.in_ok-jumps.ensures),
     )

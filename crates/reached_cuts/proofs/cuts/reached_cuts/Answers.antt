@@ -4,11 +4,11 @@ use Rattle.cfg_model.specs.Program.Reach.{Reached}
 use Rattle.code_view.specs.Cuts.{cut_of}
 use Rattle.code_view.specs.FileCode.{program_of}
 use Rattle.table_cuts.specs.Extents.{extent_at}
-use Rattle.reached_cuts.proofs.Widening.{none-looser}
+use Rattle.reached_cuts.proofs.Widening.{none-tighter}
 use Rattle.reached_cuts.proofs.cuts.reached_cuts.Goals as goal
 
-pub reach_further-requires-clause-looser : goal.reach_further-requires-clause-looser
-reach_further-requires-clause-looser c = none-looser (cut_of c.args.cuts.now) c.args.uncut.now.cuts c.requires.uncut
+pub reach_further-requires-clause-tighter : goal.reach_further-requires-clause-tighter
+reach_further-requires-clause-tighter c = none-tighter (cut_of c.args.cuts.now) c.args.uncut.now.cuts c.requires.uncut
 
 pub returns-clause-cuts : goal.returns-clause-cuts
 returns-clause-cuts c =
