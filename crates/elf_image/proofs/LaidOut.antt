@@ -12,7 +12,7 @@ use Rattle.elf_image.specs.declared.section.Section.{Section}
 use Rattle.elf_image.specs.Sections.{holds_bytes}
 use Rattle.elf_image.specs.FaultTests.{any_pair, shares_address}
 use Rattle.elf_image.specs.Inner.AddressIndex.{IsLaidOut, HasOverhang, FindsSame}
-use Rattle.elf_image.proofs.Finds.{find-at, find-none, find-permutation}
+use Rattle.elf_image.proofs.Finds.{find-at, find-none, find-cases, find-permutation}
 use Rattle.elf_image.proofs.Pairs.{any_pair-at, pair-from_any_pair, any_pair-permutation}
 
 -- a section, to read past the end of a list
@@ -41,6 +41,9 @@ laid_out-rises xs out = IsNonDecreasingBy-from_all_adjacent (λ s. s.address) xs
 -- what it means to have bytes
 pub holds-true : (a n : ℕ) (s : Section) → holds_bytes a n s ≡ true → (s.address ≤ a) × (a + n ≤ s.address + s.size)
 holds-true a n s h = grind (arith, nat_tests)
+
+pub holds-from : (a n : ℕ) (s : Section) → s.address ≤ a → a + n ≤ s.address + s.size → holds_bytes a n s ≡ true
+holds-from a n s start end = grind (arith, nat_tests)
 
 pub holds-below : (a n : ℕ) (s : Section) → a < s.address → holds_bytes a n s ≡ false
 holds-below a n s h = grind (arith, nat_tests)
@@ -71,6 +74,24 @@ find-held xs out a n i d some within holds =
     let held = holds-true a n (get_or xs i d) holds in
     find-at (holds_bytes a n) xs i d within
     (λ k below. holds-above a n (get_or xs k d) (omega (arith, held.0, end-le-start xs out k i d below within))) holds
+
+-- the section that is found for some bytes is found for those after them, as far as it has them
+pub found-after : (xs : List Section) → IsLaidOut xs → (a n i : ℕ) (s : Section) → 0 < n → find (holds_bytes a n) xs ≡ Some s → s.address ≤ a → a + i + n ≤ s.address + s.size → find (holds_bytes (a + i) n) xs ≡ Some s
+found-after xs out a n i s some found start end = elim (find-cases (holds_bytes a n) xs) [
+  | inl none ↦ absurd (differ (sym none.0 ∙ found))
+  | inr it ↦
+      let same : it.0 ≡ s = some_same (sym it.1 ∙ found) in
+      let there : Contains xs s = subst (Contains xs) same it.3 in
+      let holds = holds-from (a + i) n s (omega arith) end in
+      let is : get_or xs there.0 no_section ≡ s = get_or_default xs there.0 no_section s there.1 ∙ there.2 in
+      find-held xs out (a + i) n there.0 no_section some there.1 (ap (holds_bytes (a + i) n) is ∙ holds) ∙ ap Some is
+]
+  where
+    differ : {t : Section} → None ≡ Some t → ⊥
+    differ e = cc
+
+    some_same : {t u : Section} → Some t ≡ Some u → t ≡ u
+    some_same e = cc
 
 -- the section before the first that begins past the address is the only one that may have the bytes
 pub find-laid_out : (xs : List Section) → IsLaidOut xs → (a n i : ℕ) (d : Section) → 0 < n → i < length xs → ((k : ℕ) → suc i ≤ k → k < length xs → a < (get_or xs k d).address) → (get_or xs i d).address ≤ a → find (holds_bytes a n) xs ≡ cond (holds_bytes a n (get_or xs i d)) (Some (get_or xs i d)) None

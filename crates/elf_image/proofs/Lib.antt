@@ -16,3 +16,4 @@ pub mod Letters
 pub mod Join
 pub mod ByJump
 pub mod InFile
+pub mod DataFrom

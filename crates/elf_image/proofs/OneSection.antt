@@ -1,8 +1,8 @@
 -- An accepted file has one code section at most for each code address.
-use Rattle.std.proofs.Common.{◌≡◌, ℕ, suc, zero, ◌+◌, ◌<◌, ◌≤◌, Bool, true, false, List, [], ◌∷◌, get_or, Some, None, refl, sym, ap, ◌∙◌, subst, arith, inl, inr, lit<, leb, max, min}
+use Rattle.std.proofs.Common.{◌≡◌, ℕ, suc, zero, ◌+◌, ◌<◌, ◌≤◌, Bool, true, false, List, [], ◌∷◌, get_or, Some, None, refl, sym, ap, ◌∙◌, subst, arith, inl, inr, lit<, max, min}
 use Rattle.std.specs.List.{filter, Contains}
 use Rattle.std.specs.Option.{option_map}
-use Rattle.std.proofs.lemmas.Bool.{cases_Bool, cases_order, both_ways, and_parts, and_from, lt-ltb, le-leb}
+use Rattle.std.proofs.lemmas.Bool.{cases_Bool, cases_order, both_ways, and_parts, and_from, lt-ltb}
 use Rattle.std.proofs.lemmas.List.{get_or_default}
 use Rattle.elf_image.specs.declared.section.Section.{Section}
 use Rattle.elf_image.specs.declared.fault.Fault.TheVariants.{CodeOverlap}
@@ -12,7 +12,7 @@ use Rattle.elf_image.specs.FaultTests.{any_pair, shares_address, has_code_overla
 use Rattle.elf_image.specs.Faults.{has_fault, IsImage}
 use Rattle.elf_image.proofs.Finds.{find-cases, any-contained}
 use Rattle.elf_image.proofs.Pairs.{any_pair-at}
-use Rattle.elf_image.proofs.LaidOut.{no_section, holds-true, shares-symmetric}
+use Rattle.elf_image.proofs.LaidOut.{no_section, holds-true, holds-from, shares-symmetric}
 use Rattle.elf_image.proofs.Accepted.{no_fault}
 
 -- two sections that have the bytes at one address share it
@@ -21,9 +21,6 @@ holds-shares a n some s t s_holds t_holds =
     let in_s = holds-true a n s s_holds in
     let in_t = holds-true a n t t_holds in
     lt-ltb (max s.address t.address) (min (s.address + s.size) (t.address + t.size)) (omega arith)
-
-holds-from : (a n : ℕ) (s : Section) → s.address ≤ a → a + n ≤ s.address + s.size → holds_bytes a n s ≡ true
-holds-from a n s start end = and_from (leb s.address a) (leb (a + n) (s.address + s.size)) (le-leb s.address a start) (le-leb (a + n) (s.address + s.size) end)
 
 -- an element that passes a filter's test is kept
 Contains-filter : (test : Section → Bool) (xs : List Section) (s : Section) → Contains xs s → test s ≡ true → Contains (filter test xs) s

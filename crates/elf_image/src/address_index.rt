@@ -1,7 +1,8 @@
 //! Sections kept to be searched by address: in logarithmic time if none shares an address with
 //! another, and else one after the other.
 
-ghost use Rattle.std.specs.Prelude.{◌≡◌, ℕ, ◌+◌, ◌<◌, ◌≤◌, nat_le, not, length, IsTrue, IfOk};
+ghost use Rattle.std.specs.Prelude.{◌≡◌, ℕ, ◌+◌, ◌<◌, ◌≤◌, nat_le, not, length, IsTrue, IfOk, Some};
+ghost use Rattle.std.specs.Prelude.{IsSome, is_some};
 ghost use Rattle.std.specs.Bool.{MatchBool};
 ghost use Rattle.std.specs.Option.{option_copied};
 ghost use Rattle.std.specs.List.{find, All};
@@ -65,6 +66,47 @@ impl AddressIndex {
             find_laid_out(&self.sections, self.widest, a, n)
         } else {
             find_first(&self.sections, a, n)
+        }
+    }
+
+    /// Whether a section has the `n` bytes from address `a` on.
+    /// Time: as [`find`](Self::find), with no call if the widest has them.
+    #[inline(always)]
+    pub(crate) fn has(&self, a: u64, n: u64) -> bool
+        requires { 0 < n }
+        ensures { result ≡ is_some (find (holds_bytes a n) self.now.sections.items) }
+    {
+        self.is_in_widest(a, n) || self.find(a, n).is_some()
+    }
+
+    /// Whether the widest section has the `n` bytes from address `a` on.
+    #[inline(always)]
+    fn is_in_widest(&self, a: u64, n: u64) -> bool
+        ensures { IsTrue result → IsSome (find (holds_bytes a n) self.now.sections.items) }
+    {
+        match self.sections.get(self.widest) {
+            Some(s) => s.holds_bytes(a, n),
+            None => false,
+        }
+    }
+
+    /// How many bytes from `a` on can be read of `s`, the first section that has the `n` bytes at
+    /// `a`: a search for `n` of them finds `s` again. They go up to the end of `s` if no two
+    /// sections share an address; else they are those `n` alone.
+    pub(crate) fn found_from(&self, s: &Section, a: u64, n: u64) -> u64
+        requires some { 0 < n }
+        requires found { find (holds_bytes a n) self.now.sections.items ≡ Some s.now }
+        requires start { s.now.address ≤ a }
+        requires end { a + n ≤ s.now.address + s.now.size }
+        ensures first { n ≤ result }
+        ensures within { a + result ≤ s.now.address + s.now.size }
+        ensures same { (i : ℕ) → i + n ≤ result
+            → find (holds_bytes (a + i) n) self.now.sections.items ≡ Some s.now }
+    {
+        if self.is_laid_out {
+            s.size - (a - s.address)
+        } else {
+            n
         }
     }
 }

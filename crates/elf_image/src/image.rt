@@ -8,6 +8,7 @@ ghost use Rattle.elf_image.specs.Sections.{section, is_code_section, holds_bytes
 ghost use Rattle.elf_image.specs.Code.{is_even, code_section_of, is_code, section_start, half_at};
 ghost use Rattle.elf_image.specs.Code.{word_at, is_code_byte};
 ghost use Rattle.elf_image.specs.ReadOnly.{is_read_only, data_section_of, data_word, span_bytes};
+ghost use Rattle.elf_image.specs.ReadOnly.{AreWordsFrom};
 ghost use Rattle.elf_image.specs.Fixed.{is_fixed, is_fixed_byte};
 ghost use Rattle.elf_image.specs.Architecture.{extensions_of};
 ghost use Rattle.elf_image.specs.DeclaredTables.{declared_at};
@@ -98,7 +99,7 @@ impl Image {
         ensures in_memory { IsTrue result → a + 2 < 2 ^ 64 }
         ensures image { IsImage self.now }
     {
-        self.code_section(a).is_some()
+        a % 2 == 0 && self.layout.code.has(a, 2)
     }
 
     /// The address of the code section of a code address; `None` if `a` is no code address.
@@ -181,6 +182,24 @@ impl Image {
     {
         let s = self.data_section(a)?;
         Some(u32_at(&self.bytes, file_offset(s, a)))
+    }
+
+    /// The bytes from `a` on in the section that [`data_word`](Self::data_word) reads at `a`, for a
+    /// caller that reads many words: up to the end of the section if no two read-only sections
+    /// share an address, and else four. No bytes if there is no data word at `a`.
+    /// Time: as [`is_read_only`](Self::is_read_only). Memory: none.
+    pub fn data_from(&self, a: u64) -> &[u8]
+        ensures words { AreWordsFrom self.now a result.now }
+        ensures first { IsSome (data_word self.now a) → 4 ≤ length result.now }
+        ensures in_memory { a + length result.now < 2 ^ 64 }
+    {
+        let bytes: &[u8] = &self.bytes;
+        let Some(s) = self.data_section(a) else {
+            return &[];
+        };
+        let at = file_offset(s, a);
+        let len = self.layout.read_only.found_from(s, a, 4);
+        &bytes[at..at + len as usize]
     }
 
     /// The extensions beyond RV64GC that the file names. A section that cannot be read names none.
