@@ -1,5 +1,5 @@
 -- The entries of a table, one by one.
-use Rattle.std.proofs.Common.{◌≡◌, ℕ, zero, suc, ◌+◌, ◌<◌, true, List, [], ◌∷◌, length, Option, Some, None, is_some, refl, sym, ap, ◌∙◌, subst, arith}
+use Rattle.std.proofs.Common.{◌≡◌, ℕ, zero, suc, ◌+◌, ◌<◌, true, false, List, [], ◌∷◌, length, Option, Some, None, is_some, refl, sym, ap, ◌∙◌, subst, arith}
 use Rattle.std.specs.Prelude.{◌==◌, ◌%◌, IsSome, IfSome, slice_get}
 use Rattle.std.proofs.lemmas.Bool.{cond_both}
 use Rattle.jump_table.specs.declared.place.Place.{Place}
@@ -19,6 +19,11 @@ module _ (bytes : List ℕ) (base width add : ℕ) where
   pub count-on : (i m n : ℕ) (o : Option ℕ) → m ≡ suc n → o ≡ entry_target bytes base width add i → is_some o ≡ true → count_of (from i m) ≡ suc (count_of (from (i + 1) n))
   count-on i m n None is e some = absurd (cc)
   count-on i m n (Some t) is e some = ap count_of (from-suc i m n (Some t) is (sym e))
+
+  -- One that has none ends them.
+  pub count-off : (i m n : ℕ) (o : Option ℕ) → m ≡ suc n → o ≡ entry_target bytes base width add i → is_some o ≡ false → count_of (from i m) ≡ 0
+  count-off i m n None is e none = ap count_of (from-suc i m n None is (sym e))
+  count-off i m n (Some t) is e none = absurd (cc)
 
   -- Entry k behind entry i is where the list of the targets has it.
   pub get-from : (n i k : ℕ) → k < length (from i n) → slice_get (from i n) k ≡ entry_target bytes base width add (i + k)

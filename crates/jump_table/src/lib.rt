@@ -15,6 +15,7 @@ mod step;
 mod table;
 mod values;
 mod width;
+mod words;
 
 pub use bound::{BoundTest, Comparison};
 pub use entries::entry_target;
