@@ -270,6 +270,29 @@ fn overlapping_data(rt: HostRuntime) -> Result<(), Fail> {
     Ok(())
 }
 
+/// The bytes of data from an address on: in each of two read-only sections beside each other, and
+/// in two that share addresses, where four are given.
+#[test]
+fn data_from(rt: HostRuntime) -> Result<(), Fail> {
+    let alloc = rt.alloc();
+    let beside = edited(
+        alloc,
+        &RET_FILE,
+        &[(168, 8), (216, 8), (218, 1), (224, 0), (232, 8)],
+    )?;
+    let image = Image::parse(alloc, beside)?;
+    same(&rt, &image.data_from(0x10000), &&RET_FILE[64..72]);
+    same(&rt, &image.data_from(0x10003), &&RET_FILE[67..72]);
+    same(&rt, &image.data_from(0x10005), &[].as_slice());
+    same(&rt, &image.data_from(0x10008), &&RET_FILE[..8]);
+    same(&rt, &image.data_from(0x10010), &[].as_slice());
+    let overlapping = edited(alloc, &RET_FILE, &[(218, 1), (224, 0), (232, 8)])?;
+    let image = Image::parse(alloc, overlapping)?;
+    same(&rt, &image.data_from(0x10000), &&RET_FILE[64..68]);
+    same(&rt, &image.data_from(0x10002), &&RET_FILE[2..6]);
+    Ok(())
+}
+
 /// The file with three code sections instead of its own: of each the address, and the offset and
 /// the number of its bytes, which are those of the file.
 fn with_code(alloc: Global, sections: [(u32, u8, u8); 3]) -> Result<Vec<u8>, AllocError> {
