@@ -196,8 +196,16 @@ impl<'a> ChainIndex<'a> {
     {
         match self.sections.get(self.widest) {
             Some(s) if a % 2 == 0 && s.holds(a) => true,
-            _ => self.image.is_code(a),
+            _ => self.is_code_elsewhere(a),
         }
+    }
+
+    /// The same, by a search among all sections.
+    #[inline(never)]
+    fn is_code_elsewhere(&self, a: u64) -> bool
+        ensures { result ≡ is_code self.now a }
+    {
+        self.image.is_code(a)
     }
 
     /// The number of the code address `a`: how many code addresses lie below it. So different ones

@@ -94,6 +94,7 @@ impl Image {
     /// Whether `a` is a code address: an even address whose two bytes lie inside one code section.
     /// The other reads of code take the same time.
     /// Time: O(1) in the widest of n code sections, else O(log n).
+    #[inline(always)]
     pub fn is_code(&self, a: u64) -> bool
         ensures value { result ≡ is_code self.now a }
         ensures in_memory { IsTrue result → a + 2 < 2 ^ 64 }
