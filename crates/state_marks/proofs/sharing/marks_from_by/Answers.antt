@@ -6,8 +6,8 @@ use Rattle.state_marks.proofs.sharing.marks_from_by.Goals as goal
 pub seen_by-requires-after_bounds : goal.seen_by-requires-after_bounds
 seen_by-requires-after_bounds g c κs within = closed_stand (g.C.Chains.map c.args.code.now) c.requires.closed.0 c.args.state.maps c.requires.closed.1
 
-pub marks_while_freed-requires : goal.marks_while_freed-requires
-marks_while_freed-requires g c κs within =
+pub marks_while_freed-requires-after_bounds : goal.marks_while_freed-requires-after_bounds
+marks_while_freed-requires-after_bounds g c κs within =
     let map = g.C.Chains.map c.args.code.now in
     let state = c.args.state.maps in
     let number = g.C.Numbered.number c.args.code.now in
