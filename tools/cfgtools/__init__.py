@@ -13,3 +13,18 @@ No room imports one that imports it, and no module itself. From the ground up:
     checks       what other tools say of a file, and other methods; certificates by these
     repository   the crates of this repository, and the programs that are built of them
 """
+
+from __future__ import annotations
+
+from typing import Any
+
+__version__ = "1.0"
+__all__ = ["Graph", "GraphError", "graph"]
+
+
+def __getattr__(name: str) -> Any:
+    """What stands in other modules is read when it is asked for, so that a room can be used without the others."""
+    if name in __all__:
+        from cfgtools.shown import graph as found
+        return getattr(found, name)
+    raise AttributeError(f"module cfgtools has no attribute {name}")

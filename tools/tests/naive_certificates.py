@@ -5,9 +5,8 @@ from __future__ import annotations
 from typing import Dict, List, Optional, Set
 
 import rows
-from cfgtools.checks.certificate import Certificate, Lead, Part, Program, Return, cuts_of
+from cfgtools.checks.certificate import Certificate, Lead, Part, Program, Return, cut_program
 from cfgtools.checks.listing import Listing
-from cfgtools.checks.pattern_tables import Tables
 
 # (it puts the folder of the scripts on the path)
 assert rows.TOOLS
@@ -15,12 +14,7 @@ assert rows.TOOLS
 
 def made(path: str) -> Certificate:
     """A certificate of a file, with least ranks."""
-    listing = Listing(path)
-    tables = Tables(listing)
-    plain = Program(listing, tables, {})
-    part = made_part(plain)
-    kept = cuts_of(plain, part)
-    return Certificate(part, made_part(Program(listing, tables, kept)) if kept else None)
+    return Certificate(made_part(cut_program(Listing(path))))
 
 
 def made_part(program: Program) -> Part:

@@ -61,5 +61,6 @@ def elf(parts: Sequence[Part], symbols: Sequence[Tuple[str, int, int]], entry: i
 def report(functions: str, blocks: str, edges: str = "", entry: str = "10000") -> bytes:
     """A report of kind graph, in the notation of rows.py."""
     parts: List[List[str]] = list(rows.sections(rows.Row(functions, blocks, edges)))
-    lines = ["cfg-report 2", f"entry {int(entry, 16):016x}", *(line for part in parts for line in part), "end"]
+    version = 3 if " landing" in edges else 2
+    lines = [f"cfg-report {version}", f"entry {int(entry, 16):016x}", *(line for part in parts for line in part), "end"]
     return "".join(line + "\n" for line in lines).encode()

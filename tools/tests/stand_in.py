@@ -1,6 +1,6 @@
 #!/usr/bin/env python3
 """Stands in for `cfg` in tests: the report on an ELF file without jump tables but those that it declares, as docs/REPORT.md
-defines it, worked out by plain passes over what is reached. It refuses a file whose code sections overlap, and one without sections."""
+defines it, with what it says of exceptions and of functions that do not return, worked out by plain passes over what is reached. It refuses a file whose code sections overlap, and one without sections."""
 
 from __future__ import annotations
 
@@ -11,8 +11,11 @@ from typing import Dict, Iterator, List, Set, Tuple
 sys.dont_write_bytecode = True
 sys.path.insert(0, str(Path(__file__).resolve().parent.parent))
 
+from cfgtools.elf import no_return
 from cfgtools.elf.declared_tables import Declared, jump_register
 from cfgtools.elf.elf_file import Memory
+from cfgtools.elf.landings import Landings
+from cfgtools.isa import extensions
 from cfgtools.isa.decoding import UNKNOWN, Insn, decode
 
 EXITS = ("return", "unknown", "branch-out")
@@ -25,6 +28,7 @@ class Graph:
         self.elf, self.returning = elf, returning
         declared = Declared(elf)
         self.tables = {at: declared.targets(one) for at, one in declared.records.items() if jump_register(elf, at) is not None}
+        self.landings, self.staying = Landings(elf), no_return.that_cfg_knows(elf)
         self.functions = {symbol.address for symbol in elf.symbols()} | {elf.entry}
         self.insns: Dict[int, Insn] = {}
         self.leaders: Set[int] = set()
@@ -38,7 +42,7 @@ class Graph:
         found = []
         while at not in self.insns and self.elf.is_code(at):
             word = self.elf.instruction(at)
-            insn = Insn(UNKNOWN, 2) if word is None else decode(word)
+            insn = Insn(UNKNOWN, 2) if word is None or extensions.privileged(word) else decode(word)
             self.insns[at] = insn
             _, ways = self.end(at, insn)
             found += [to for to, kind in ways if kind != "fall" or insn.name[0] == "b"]
@@ -61,15 +65,19 @@ class Graph:
             return ("jump", [(at + insn.imm, "jump")]) if is_code(at + insn.imm) else ("unknown", [])
         if insn.name == "jal":
             callee = at + insn.imm
-            after = [(behind, "after")] if callee in self.returning and is_code(behind) else []
-            return "call", [(callee, "call"), *after]
+            after = [(behind, "after")] if callee in self.returning - self.staying and is_code(behind) else []
+            return "call", [(callee, "call"), *after, *self.landing(behind)]
         if insn.name == "jalr" and self.tables.get(at):
             return "table-open", [(to, "table") for to in sorted(set(self.tables[at]))]
         if insn.name == "jalr" and (insn.rd == 0 or insn.is_stub):
             return ("return" if insn.rs1 == 1 else "unknown"), []
         if insn.name == "jalr":
-            return "icall", [(behind, "after")] if is_code(behind) else []
+            return "icall", ([(behind, "after")] if is_code(behind) else []) + self.landing(behind)
         return ("fall", [(behind, "fall")]) if is_code(behind) else ("stop", [])
+
+    def landing(self, behind: int) -> List[Tuple[int, str]]:
+        pad = self.landings.pad_of(behind)
+        return [] if pad is None else [(pad, "landing")]
 
     def _blocks(self) -> Iterator[Tuple[int, Tuple[int, str, List[Tuple[int, str]]]]]:
         for start in sorted(self.leaders & self.insns.keys()):
@@ -112,7 +120,8 @@ def report(elf: Memory) -> List[str]:
         if symbol.name:
             names[symbol.address] = min(symbol.name, names.get(symbol.address, symbol.name))
     bodies = {entry: graph.body(entry, graph.functions) for entry in sorted(graph.functions)}
-    lines = ["cfg-report 2", f"entry {elf.entry:016x}", f"functions {len(bodies)}"]
+    has_pads = any(kind == "landing" for _, _, ways in graph.blocks.values() for _, kind in ways)
+    lines = [f"cfg-report {3 if has_pads else 2}", f"entry {elf.entry:016x}", f"functions {len(bodies)}"]
     for entry, body in bodies.items():
         status = "may-return" if entry in graph.returning else "no-return"
         lines.append(f"function {entry:016x} {status} {len(body)} {names.get(entry, b'-').decode()}")

@@ -13,18 +13,20 @@ from pathlib import Path
 from typing import Dict, List, Sequence, Set, Tuple
 
 import rows
+from cfgtools.elf import no_return
 from cfgtools.elf.declared_tables import Declared, Record
 from cfgtools.elf.elf_file import Memory
-from cfgtools.elf.frames import Frame, frames, landing_pads
+from cfgtools.elf.frames import Frame, frames
+from cfgtools.elf.landings import Landings
 from cfgtools.entries.reached import INSIDE, START, Reached
 from cfgtools.isa.decoding import UNKNOWN, Insn, decode
 from cfgtools.making import hostile
-from cfgtools.making.hostile import NOP, RETURN, Halves, add, branch, immediate, jump, short_jump, upper
+from cfgtools.making.hostile import NOP, RETURN, Halves, add, branch, immediate, jump, upper
 from cfgtools.reports import cfg_report
 from cfgtools.reports.cfg_report import Block, Edge, End, Heading, Report, ReportError
 import small_elf
-from small_elf import ALLOC, CODE_AT, DATA_AT, INIT_ARRAY, NOBITS, RELA, WRITE, Part, code, file_of, symbols, words
-from test_tools import InFolder, script
+from small_elf import ALLOC, CODE_AT, DATA_AT, INIT_ARRAY, NOBITS, RELA, STAND_IN, WRITE, Part, code, file_of, symbols, words
+from test_tools import InFolder
 
 CFG = rows.TOOLS.parent / "crates" / "cfg" / "out" / "cfg"
 
@@ -137,7 +139,7 @@ class FrameDescriptions(WithFile):
         ):
             with self.subTest(encoding=hex(encoding)):
                 got = Part(".got", flags=ALLOC | WRITE, address=DATA_AT, data=words(start))
-                self.assertEqual(self.read(self.described(encoding, pointer, length), more=[got]), [Frame(start, size, None)])
+                self.assertEqual(self.read(self.described(encoding, pointer, length), more=[got]), [Frame(start, size)])
 
     def test_letters(self) -> None:
         personality = b"\x00" + words(0x10020)
@@ -145,17 +147,17 @@ class FrameDescriptions(WithFile):
                               (b"zR?", b"\x03\x11")):
             first = shared(letters, data)
             section = first + record(struct.pack("<III", len(first) + 4, 0x10004, 8) + b"\0")
-            self.assertEqual(self.read(section), [Frame(0x10004, 8, None)], letters)
+            self.assertEqual(self.read(section), [Frame(0x10004, 8)], letters)
         first = shared(b"eh", words(7))
-        self.assertEqual(self.read(first + record(struct.pack("<I", len(first) + 4) + words(0x10004, 8))), [Frame(0x10004, 8, None)])
+        self.assertEqual(self.read(first + record(struct.pack("<I", len(first) + 4) + words(0x10004, 8))), [Frame(0x10004, 8)])
         first = shared(b"")
-        self.assertEqual(self.read(first + record(struct.pack("<I", len(first) + 4) + words(0x10004, 8))), [Frame(0x10004, 8, None)])
+        self.assertEqual(self.read(first + record(struct.pack("<I", len(first) + 4) + words(0x10004, 8))), [Frame(0x10004, 8)])
 
-    def test_language_data(self) -> None:
+    def test_language_data_is_passed_over(self) -> None:
         first = shared(b"zLR", b"\x03\x03")
         section = first + record(struct.pack("<III", len(first) + 4, 0x10004, 8) + b"\x04" + struct.pack("<I", 0x40010))
         section += record(struct.pack("<III", len(section) + 4, 0x1000C, 8) + b"\x04" + bytes(4))
-        self.assertEqual(self.read(section), [Frame(0x10004, 8, 0x40010), Frame(0x1000C, 8, None)])
+        self.assertEqual(self.read(section), [Frame(0x10004, 8), Frame(0x1000C, 8)])
 
     def test_ends_wide_records_and_debugging_data(self) -> None:
         first = shared(b"zR", b"\x03")
@@ -163,11 +165,11 @@ class FrameDescriptions(WithFile):
         # Two sections that were linked one behind the other, each with an end.
         self.assertEqual(len(self.read((first + one + bytes(4)) * 2 + bytes(4))), 1)
         wide = record(struct.pack("<III", len(first) + 12, 0x10008, 8) + b"\0", wide=True)
-        self.assertEqual(self.read(first + wide), [Frame(0x10008, 8, None)])
+        self.assertEqual(self.read(first + wide), [Frame(0x10008, 8)])
         four = record(struct.pack("<IB", 0xFFFFFFFF, 4) + b"\0\x08\0\x01\x78\x01")
-        self.assertEqual(self.read(four + record(struct.pack("<I", 0) + words(0x10004, 8)), ".debug_frame"), [Frame(0x10004, 8, None)])
+        self.assertEqual(self.read(four + record(struct.pack("<I", 0) + words(0x10004, 8)), ".debug_frame"), [Frame(0x10004, 8)])
         four = record(struct.pack("<QB", 2**64 - 1, 3) + b"\0\x01\x78\x01", wide=True)
-        self.assertEqual(self.read(four + record(struct.pack("<Q", 0) + words(0x10004, 8), wide=True), ".debug_frame"), [Frame(0x10004, 8, None)])
+        self.assertEqual(self.read(four + record(struct.pack("<Q", 0) + words(0x10004, 8), wide=True), ".debug_frame"), [Frame(0x10004, 8)])
 
     def test_broken(self) -> None:
         first = shared(b"zR", b"\x03")
@@ -198,37 +200,81 @@ class FrameDescriptions(WithFile):
         self.assertEqual(sizes[0x10002], 4)
 
 
-class LandingPads(WithFile):
+class NoReturn(WithFile):
+    # main calls `exit`, which returns by its code, and then `g`; what stands after that call is the next function.
+    HALVES = jump(RA, 16) + jump(RA, 16) + RETURN + NOP + RETURN + NOP + RETURN + NOP + RETURN + NOP
+    NAMES = ["main", "after", "exit", "g"]
+
+    def file_of(self, *more: Part) -> str:
+        places = [CODE_AT, CODE_AT + 8, CODE_AT + 16, CODE_AT + 20]
+        return self.elf_file([code(self.HALVES), *symbols(2, self.NAMES, places), *more])
+
+    def staying(self, path: str, *words: str) -> List[int]:
+        self.added(path, *words)
+        return list(no_return.declared(Memory(str(self.folder / "out"))))
+
+    def test_by_name_and_address(self) -> None:
+        path = self.file_of()
+        self.assertEqual(self.staying(path, "--no-return", "g"), [CODE_AT + 20])
+        self.assertIn("no-return: 1 functions, of which 1 may return by the graph", self.said_last)
+        self.assertEqual(self.staying(path, "--no-return", "10014", "--no-return", "exit"), [CODE_AT + 16, CODE_AT + 20])
+        self.refused(path, "--no-return", "nosuch", why="no function of .* has the name nosuch")
+
+    def test_the_list(self) -> None:
+        self.assertEqual(self.staying(self.file_of(), "--no-return"), [CODE_AT + 16])
+        edges = self.run_script("to_json", str(self.folder / "out"), cfg=str(STAND_IN)).stdout
+        self.assertNotIn('"from":"0000000000010000","to":"0000000000010004"', edges)
+
+    def test_a_file_that_declares_some(self) -> None:
+        section = Part(".own", no_return.KIND, 0, 0, words(CODE_AT + 16) + b"abc")
+        path = self.file_of(section)
+        self.assertEqual(self.staying(path, "--no-return"), [CODE_AT + 16])
+        self.assertEqual(self.staying(path, "--no-return", "g"), [CODE_AT + 16, CODE_AT + 20])
+
+    def test_names(self) -> None:
+        for name, wanted in (("abort", True), ("_ZSt20__throw_out_of_rangePKc", True), ("runtime.panicIndex", True), ("runtime.goPanicSliceAlen", True),
+                             ("runtime.panicCheck1", False), ("_ZN4core9panicking9panic_fmt17h0123456789abcdefE", True), ("error", False),
+                             ("_RNvNtCs1234_4core9panicking18panic_bounds_check", True), ("_ZN4core3fmt5write17h0123456789abcdefE", False)):
+            self.assertEqual(no_return.is_likely(name.encode()), wanted, name)
+
+
+class Pads(WithFile):
+    """Where calls land by the exception tables, in the words of docs/REPORT.md."""
+
     # A function at 10000 whose first four instructions call, and which lands at 10020 and at 10024.
+    CALLS = [(0, 4, 0), (4, 8, 0x20), (12, 4, 0x24)]
+
     def data(self, encoding: int, calls: Sequence[Tuple[int, int, int]], start: bytes = b"\xff", types: bytes = b"\xff") -> bytes:
         pack = {1: lambda number: uleb(number), 3: lambda number: struct.pack("<I", number)}[encoding]
         table = b"".join(pack(first) + pack(size) + pack(pad) + b"\0" for first, size, pad in calls)
         return start + types + bytes([encoding]) + uleb(len(table)) + table
 
-    def pads(self, data: bytes) -> List[Tuple[int, int, int]]:
-        elf = self.memory([code(NOP * 64), Part(".gcc_except_table", address=0x40000, data=b"\0\0" + data)])
-        return landing_pads(elf, Frame(0x10000, 64, 0x40002))
+    def parts(self, data: bytes, letters: bytes = b"zLR", values: bytes = b"\x03\x03", version: int = 1) -> List[Part]:
+        first = shared(letters, values, version)
+        section = first + record(struct.pack("<III", len(first) + 4, 0x10000, 64) + b"\x04" + struct.pack("<I", 0x40002))
+        return [code(NOP * 64), Part(".eh_frame", address=0x30000, data=section, flags=ALLOC),
+                Part(".gcc_except_table", address=0x40000, data=b"\0\0" + data, flags=ALLOC)]
+
+    def pads(self, data: bytes, letters: bytes = b"zLR", values: bytes = b"\x03\x03") -> List[Tuple[int, int, int]]:
+        return [(one.begin, one.begin + one.length, one.pad) for one in Landings(self.memory(self.parts(data, letters, values))).ranges()]
 
     def test_reading(self) -> None:
-        calls = [(0, 4, 0), (4, 8, 0x20), (12, 4, 0x24)]
         found = [(0x10004, 0x1000C, 0x10020), (0x1000C, 0x10010, 0x10024)]
         for encoding in (1, 3):
-            self.assertEqual(self.pads(self.data(encoding, calls)), found)
-        self.assertEqual(self.pads(self.data(1, calls, types=b"\x9b" + uleb(300))), found)
+            self.assertEqual(self.pads(self.data(encoding, self.CALLS)), found)
+        self.assertEqual(self.pads(self.data(1, self.CALLS, types=b"\x9b" + uleb(300))), found)
         self.assertEqual(self.pads(self.data(1, [(4, 8, 0x10)], start=b"\x03" + struct.pack("<I", 0x10010))), [(0x10004, 0x1000C, 0x10020)])
-        for data in (self.data(1, calls)[:-2], b"\xff", b"\xff\xff\x01\x7f"):
-            with self.assertRaises(ReportError):
-                self.pads(data)
+        # What is not whole says nothing; the entries before one that is not whole count.
+        self.assertEqual(self.pads(self.data(1, self.CALLS)[:-2]), [])
+        self.assertEqual(self.pads(b"\xff\xff\x01" + uleb(7) + uleb(4) + uleb(8) + uleb(0x20) + b"\0" + uleb(12) + uleb(4) + uleb(0x24)), found[:1])
+        for data in (b"\xff", b"\xff\xff\x01\x7f", b"\xff\xff\x13\x04\x04\x08\x20\0"):
+            self.assertEqual(self.pads(data), [])
+        self.assertEqual(self.pads(self.data(1, self.CALLS), b"zLRX", b"\x03\x03"), [])
 
-    def test_entries_and_what_stands_behind_calls(self) -> None:
-        # main, at 10000, calls `tries`, whose call never returns but lands at 1000c, and goes on behind that call.
-        halves = jump(RA, 8) + RETURN + NOP + jump(RA, 12) + RETURN + NOP + RETURN + NOP + short_jump(0) + NOP
-        first = shared(b"zLR", b"\x03\x03")
-        section = first + record(struct.pack("<III", len(first) + 4, 0x10008, 12) + b"\x04" + struct.pack("<I", 0x40000))
-        parts = [code(halves), *symbols(2, ["main"], [CODE_AT]), Part(".eh_frame", address=0x30000, data=section),
-                 Part(".gcc_except_table", address=0x40000, data=self.data(1, [(0, 4, 8)]))]
-        path = self.elf_file(parts)
-        self.assertEqual(self.added(path, "--landing-pads"), {0x10010: "entry_pad_10010", 0x10004: "entry_behind_10004"})
+    def test_the_pad_of_a_call(self) -> None:
+        found = Landings(self.memory(self.parts(self.data(1, self.CALLS + [(32, 8, 0x1001)]))))
+        for end, pad in ((0x10004, None), (0x10005, 0x10020), (0x1000C, 0x10020), (0x10010, 0x10024), (0x10011, None), (0x10024, None)):
+            self.assertEqual(found.pad_of(end), pad, f"{end:x}")
 
 
 class Marks(WithFile):
@@ -266,27 +312,6 @@ class Marks(WithFile):
                 states = {at: reached.state(at) for at in range(elf.entry, elf.entry + 118, 2)}
                 self.assertEqual({at for at, state in states.items() if state == START}, starts & states.keys())
                 self.assertEqual({at for at, state in states.items() if state == INSIDE}, (inside - starts) & states.keys())
-
-
-class WaysToReturns(unittest.TestCase):
-    def test_they_are_those_of_the_whole_graph(self) -> None:
-        returning = script("add_entries").Returning
-        chosen = random.Random(3)
-        for _ in range(60):
-            places = range(0, 2 * chosen.randrange(2, 30), 2)
-            blocks = [Block(at, at + 2, chosen.choice(["fall"] * 9 + ["return", "stop"])) for at in places]
-            edges = [Edge(block.start, chosen.choice(places), chosen.choice(("jump", "call", "after"))) for block in blocks
-                     for _ in range(chosen.randrange(3)) if block.kind == "fall"]
-            so = {block.start for block in blocks if block.kind == "return"}
-            for _ in places:
-                so.update(edge.source for edge in edges if edge.kind != "call" and edge.to in so)
-            ways = returning(Report([Heading(0), *blocks, *edges, End("graph")]))
-            asked = [*places, 1000]
-            chosen.shuffle(asked)
-            self.assertEqual({at for at in asked if ways.is_so(at)}, so)
-
-
-# ---- what the program keeps in its data
 
 
 class Data(WithFile):
@@ -448,6 +473,12 @@ class Switches(WithFile):
         copied = [section for section in out.sections if section.name == b".cfg.targets"]
         self.assertEqual([(one.address, one.flags, one.size) for one in copied], [(record.base, ALLOC, 32)])
         self.assertTrue(all(one.end <= record.base for one in Memory(path).allocated))
+
+    def test_pointers_come_after_tables(self) -> None:
+        # What would be an entry by a word of data is a case.
+        for bounded in (True, False):
+            self.assertEqual(self.added(self.program(8, bounded=bounded, flags=ALLOC | WRITE), "--switches", "--pointers"), {})
+            self.assertEqual(self.declared()[self.JUMP][1], self.CASES)
 
     def test_relocated_tables_are_copied_with_what_relocations_put_there(self) -> None:
         relocations = b"".join(words(DATA_AT + 8 * number, 3, case) for number, case in enumerate(self.CASES))

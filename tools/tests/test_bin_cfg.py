@@ -12,9 +12,10 @@ import tempfile
 import time
 import unittest
 from pathlib import Path
-from typing import Callable, Dict, List
+from typing import Callable, Dict, List, Tuple
 
 import rows
+from cfgtools.repository import words as taken
 
 TOP = rows.TOOLS.parent
 CRATES = "# a remark: no crate\nhigh: low\nlow:\ncfg may_abort=1: high low clap\ncfg_walk: low\nother: low\n"
@@ -100,7 +101,7 @@ class BinCfg(unittest.TestCase):
         folder = tempfile.TemporaryDirectory()
         self.addCleanup(folder.cleanup)
         self.top = Path(folder.name, "a folder")
-        shutil.copytree(TOP / "bin", self.top / "bin")
+        shutil.copytree(TOP / "bin", self.top / "bin", ignore=shutil.ignore_patterns("times.json"))
         shutil.copytree(rows.TOOLS / "cfgtools", self.top / "tools" / "cfgtools", ignore=shutil.ignore_patterns("__pycache__"))
         for name in ("path", "kit", "tmp", *["keeps"] * self.KEEPS):
             (self.top / name).mkdir()
@@ -157,8 +158,8 @@ class BinCfg(unittest.TestCase):
         self.assertEqual((done.returncode, done.stdout, done.stderr, self.asked()), (3, "ran:d:\n", "", ""))
 
     def test_first_and_later_use(self) -> None:
-        done = self.run_cfg("a", "b c")
-        self.assertEqual((done.returncode, done.stdout), (3, "ran:a:b c\n"))
+        done = self.run_cfg("--report=edges", "b c")
+        self.assertEqual((done.returncode, done.stdout), (3, "ran:--report=edges:b c\n"))
         said = done.stderr.splitlines()
         self.assertEqual(said[0], "bin/cfg: the program is not built yet, so it is proved and built now")
         self.assertRegex(said[1], r"^bin/cfg: crates to prove: 3(, \d+ at a time)?, about a minute\. What is proved is kept$")
@@ -189,8 +190,8 @@ class BinCfg(unittest.TestCase):
         shutil.copytree(self.top / "crates" / "cfg", self.top / "crates" / "cfg_one")
         with (self.top / "crates.txt").open("a") as it:
             it.write("cfg_one: low\n")
-        done = self.run_cfg("a", "--", "--workers")
-        self.assertEqual((done.returncode, done.stdout), (3, "ran:a:--\n"))
+        done = self.run_cfg("--", "--workers")
+        self.assertEqual((done.returncode, done.stdout), (3, "ran:--:--workers\n"))
         self.assertIn("bin/cfg_one: low is proved; 1 left, ", done.stderr)
         self.assertFalse((self.top / "crates" / "cfg" / "out").exists())
         self.assertEqual(self.run_cfg("a").stderr, "")
@@ -337,7 +338,8 @@ class BinCfg(unittest.TestCase):
         for folder in ("one", "two"):
             (self.top / folder).mkdir()
             (self.top / folder / "a.elf").write_text(folder)
-        done = self.run_cfg("--unproved", "--report", "live", "one/a.elf", "two/a.elf", "one/a.elf", "none", cwd=str(self.top))
+        command = [sys.executable, "-B", str(self.top / "bin" / "unproved"), "cfg", "--report", "live", "one/a.elf", "two/a.elf", "one/a.elf", "none"]
+        done = subprocess.run(command, env=self.environment(), cwd=str(self.top), capture_output=True, text=True)
         self.assertEqual(done.returncode, 5)
         said = done.stderr.splitlines()
         self.assertRegex(said[0], "^bin/cfg: unproved: .* proves nothing .* 1 MiB at most$")
@@ -345,11 +347,71 @@ class BinCfg(unittest.TestCase):
         wanted = ["tried:", "--seconds", "600", "--data", f"a.elf={self.top}/one/a.elf", "--data", f"_a.elf={self.top}/two/a.elf",
                   "--", "--report", "live", "a.elf", "_a.elf", "a.elf", "none"]
         self.assertEqual(done.stdout.splitlines(), wanted)
+        self.assertIn("--\na.elf\n", self.run_cfg("--unproved", "one/a.elf", cwd=str(self.top)).stdout)
 
     def test_unproved_without_a_toolchain(self) -> None:
         self.without_toolchain()
         done = self.run_cfg("--unproved", "a")
         self.assertEqual((done.returncode, done.stdout, done.stderr.count("\n")), (70, "", 1))
+
+    WRONG = ("--workers 0 a", "--workers 65 a", "--report x a", "a b", "-x", "--make 3", "--make 4 a", "--make 4 --report edges", "--workers", "--workers 1 --workers 1 a",
+             "", "--help=x", "--mak 4", "--workers=2x a", "-- a b")
+    GOOD = ("--workers 1 a", "a --workers=64", "--make 4", "--make 100000 --workers 2", "-- -a", "--report live a", "-", "--workers 000000002 a")
+
+    def test_words_before_anything_is_built(self) -> None:
+        usage = "cfg: usage: cfg [--workers N] [--report KIND] FILE | cfg [--workers N] --make N\n"
+        for words in self.WRONG[:4]:
+            done = self.run_cfg(*words.split())
+            self.assertEqual((done.returncode, done.stdout, done.stderr), (1, "", usage), words)
+        for name, given, line in (("cfg_walk", ("0", "a"), "cfg_walk: usage: cfg_walk STEPS FILE\n"), ("cfg_walk", ("--unproved", "a"), "cfg_walk: usage: cfg_walk STEPS FILE\n")):
+            done = self.run_cfg(*given, name=name)
+            self.assertEqual((done.returncode, done.stderr), (1, line), given)
+        asked: Tuple[Tuple[str, Tuple[str, ...]], ...] = (("cfg", ("--help",)), ("cfg", ("a", "-h")), ("cfg_walk", ("--help",)), ("cfg", ("--stale", "--help")))
+        for name, those in asked:
+            done = self.run_cfg(*those, name=name)
+            self.assertEqual((done.returncode, done.stdout[:15], done.stderr), (0, f"usage: bin/{name} "[:15], ""))
+        self.assertRegex(self.run_cfg("--version").stdout, "^cfg: sources of commit .*; not built\n$")
+        self.assertEqual(self.asked(), "")
+
+    def test_which_words_are_taken(self) -> None:
+        for words in self.WRONG:
+            self.assertFalse(taken.are_taken("cfg", words.split()), words)
+        for words in self.GOOD:
+            self.assertTrue(taken.are_taken("cfg", words.split()), words)
+        for name, words, wanted in (("cfg_walk", "1000000 a", True), ("cfg_walk", "1000001 a", False), ("cfg_check", "make a", True),
+                                    ("cfg_check", "test a b", True), ("cfg_check", "test a", False), ("cfg_check", "make a b", False)):
+            self.assertEqual(taken.are_taken(name, words.split()), wanted, words)
+        self.assertFalse(taken.are_taken("cfg", ["\udc80"]))
+
+    def test_what_an_error_line_means(self) -> None:
+        self.run_cfg("a")
+        program = self.top / "crates" / "cfg" / "out" / "cfg"
+        other = self.top / "other.elf"
+        other.write_bytes(b"\x7fELF" + bytes(14) + b"\x3e\0" + bytes(60))
+        for said, status, words, meaning in (
+                ("malformed: Interp", 2, ("a",), "this file is dynamically linked: link it with -static or -static-pie"),
+                ("malformed: Machine", 2, (str(other),), "this file is for x86-64, and cfg reads RISC-V: compile it with a cross compiler, such as riscv64-linux-gnu-gcc -static"),
+                ("read fault", 3, ("--report", "live", "/nowhere/a"), "/nowhere/a: No such file or directory"),
+                ("read fault", 3, ("/",), "/ is a folder")):
+            program.write_text(f"#!/bin/sh\necho 'cfg: {said}' >&2; exit {status}\n")
+            done = self.run_cfg("--stale", *words)
+            self.assertEqual((done.returncode, done.stderr), (status, f"cfg: {said}\nbin/cfg: {meaning}\n"))
+
+    def test_what_ends_the_script_ends_the_program(self) -> None:
+        self.run_cfg("a")
+        program = self.top / "crates" / "cfg" / "out" / "cfg"
+        program.write_text(f"#!/bin/sh\necho $$ >'{self.top}/pid'; exec sleep 60\n")
+        with subprocess.Popen(["sh", str(self.top / "bin" / "cfg"), "--stale", "a"], env=self.environment()) as ran:
+            while not (self.top / "pid").exists() or not (self.top / "pid").read_text().endswith("\n"):
+                time.sleep(0.01)
+            ran.send_signal(signal.SIGTERM)
+            self.assertNotEqual(ran.wait(timeout=20), 0)
+        pid = int((self.top / "pid").read_text())
+        for _ in range(200):
+            if not Path(f"/proc/{pid}").exists():
+                break
+            time.sleep(0.02)
+        self.assertFalse(Path(f"/proc/{pid}").exists())
 
     def note(self, *programs: str) -> None:
         done = self.build("--note-newer-than", str(self.top / "gate"), *programs)
@@ -440,7 +502,7 @@ class KeepsNothing(BinCfg):
         self.assertNotIn("rt: waiting", error)
 
     def test_libraries_that_are_built_are_not_asked_for(self) -> None:
-        self.run_cfg("a", name="cfg_walk")
+        self.run_cfg("10", "a", name="cfg_walk")
         self.asked()
         self.assertIn("crates to prove: 2,", self.run_cfg("a").stderr)
         self.assertIn("high all check", self.asked())

@@ -7,15 +7,16 @@ import os
 import struct
 import subprocess
 import unittest
-from typing import List
+from typing import List, Sequence, Tuple
 from unittest import mock
 
 import rows
 import naive_certificates
 import small
 from cfgtools.checks import binutils, certificate as certificates
-from cfgtools.checks.certificate import Certificate, Lead, Part, Return
+from cfgtools.checks.certificate import Certificate, Lead, Part, Program, Return
 from cfgtools.checks.listing import Listing
+from cfgtools.checks.pattern_tables import Tables
 from test_tools import InFolder
 
 # The program, if it is built.
@@ -69,12 +70,12 @@ class Certificates(InFolder):
     def row_elf(self, number: int) -> str:
         return self.file(f"{number}.elf", rows.elf(number))
 
-    def with_tables(self) -> str:
+    def with_tables(self, symbols: Sequence[Tuple[str, int, int]] = (("a", 0x10000, 0), ("b", 0x10028, 0))) -> str:
         """The file of row 15: two functions with a table each; the second one begins inside the first."""
         code = b"".join(int(word, 16).to_bytes(4, "little") for word in rows.ROWS[15].code.split())
         data = struct.pack("<4i", *(to - 0x20000 for to in (0x10020, 0x10020)), *(to - 0x20008 for to in (0x10054, 0x10054)))
         parts = [small.Part(".text", small.CODE, 0x10000, code), small.Part(".rodata", small.READ_ONLY, 0x20000, data)]
-        return self.file("tables.elf", small.elf(parts, [("a", 0x10000, 0), ("b", 0x10028, 0)]))
+        return self.file("tables.elf", small.elf(parts, list(symbols)))
 
     def test_rows_by_hand(self) -> None:
         for number, wanted in ((1, ROW_1), (8, ROW_8)):
@@ -91,7 +92,7 @@ class Certificates(InFolder):
         # With the report of the row.
         cert = self.file("cert", ROW_8.encode())
         self.assertEqual(self.run_main("check_certificate", "--report", self.row(8), self.row_elf(8), cert)[:2],
-                         (0, ["part none: 4 leads and 2 returns, ranks up to 2", "faults: 0", "differences of the report: 0"]))
+                         (0, ["4 leads and 2 returns, ranks up to 2", "faults: 0", "differences of the report: 0"]))
         status, said, _ = self.run_main("check_certificate", "--report", self.row(6), self.row_elf(8), cert)
         self.assertEqual((status, said[2]), (1, "the report has no block 10002 10004 fall"))
 
@@ -101,19 +102,28 @@ class Certificates(InFolder):
     def test_tables_and_their_cuts(self) -> None:
         path = self.with_tables()
         found = naive_certificates.made(path)
-        assert found.cut is not None
         # Without cuts the first table has four entries, two of which are the second one's and lead elsewhere.
-        self.assertEqual(sorted({one.at for one in found.plain.leads} - {one.at for one in found.cut.leads}), [0x1004C])
+        self.assertNotIn(0x1004C, {one.at for one in found.part.leads})
+        tables = Tables(Listing(path))
+        plain = naive_certificates.made_part(Program(Listing(path), tables, {}))
+        self.assertEqual(sorted({one.at for one in plain.leads} - {one.at for one in found.part.leads}), [0x1004C])
         text = certificates.text(found)
         self.assertEqual(self.faults(path, text), [])
-        begin = text.index("part cuts\n")
-        self.assertEqual(self.faults(path, text[:begin] + "end\n"), ["there are 1 cuts, and no part cuts"])
-        twice = text[:begin] + "part cuts\n" + text[len("cfg-cert 1\npart none\n"):begin] + "end\n"
-        self.assertTrue(self.faults(path, twice))
+        self.assertTrue(self.faults(path, certificates.text(Certificate(plain))))
+        # A second part is read, and never valid.
+        for one in (Certificate(plain, found.part), Certificate(found.part, found.part)):
+            self.assertIn("there is a second part", self.faults(path, certificates.text(one)))
+        self.assertEqual(self.faults(self.row_elf(1), ROW_1.replace("end", "part cuts\nend")), ["there is a second part"])
         report = self.file("report", small.report(rows.ROWS[15].functions, rows.ROWS[15].blocks, rows.ROWS[15].edges))
         status, said, _ = self.run_main("check_certificate", "--report", report, path, self.file("cert", text.encode()))
         self.assertEqual((status, said[-2:]), (0, ["faults: 0", "differences of the report: 0"]))
-        self.assertEqual(self.faults(self.row_elf(1), ROW_1.replace("end", "part cuts\nend")), ["there are 0 cuts, and a part cuts"])
+
+    def test_tables_that_nothing_reaches(self) -> None:
+        # The second function has no symbol here.
+        path = self.with_tables([("a", 0x10000, 0)])
+        self.assertEqual(sorted(Tables(Listing(path)).everywhere()), [0x1001C, 0x10048])
+        found = naive_certificates.made(path)
+        self.assertEqual([one.at for one in found.part.leads], [0x10000, 0x10008, 0x10020, 0x10024])
 
     def test_each_item(self) -> None:
         for text, fault in (
@@ -138,7 +148,7 @@ class Certificates(InFolder):
             (ROW_8.replace("lead 0000000000010008", "lead 0000000000010007 0 seed\nlead 0000000000010008"), "lead 10007: no code address"),
         ):
             with self.subTest(fault=fault):
-                self.assertIn("part none: " + fault, self.faults(self.row_elf(8), text))
+                self.assertIn(fault, self.faults(self.row_elf(8), text))
 
     def test_calls(self) -> None:
         # 10000 calls 10008 and goes on to 10004.
@@ -152,7 +162,7 @@ class Certificates(InFolder):
             (" 1 call", " 0 call", "ret 10000: 10008 is not listed to return with a lower rank"),
             (" 1 call", " 1 to 0000000000010008", "ret 10000: 10008 is no successor"),
         ):
-            self.assertIn("part none: " + fault, self.faults(path, text.replace(old, new)))
+            self.assertIn(fault, self.faults(path, text.replace(old, new)))
 
     def test_no_line_can_be_left_out(self) -> None:
         for number in PLAIN_ROWS:
@@ -166,14 +176,16 @@ class Certificates(InFolder):
         path, cert = self.row_elf(8), self.file("cert", ROW_8.encode())
         status, said, _ = self.run_main("why", "--certificate", cert, path, "10008")
         self.assertEqual((status, said), (0, [
-            "why 10008 (behind start) is reached:", "  10000 (start): a seed, the program's entry",
-            "  10008 (behind start): gone on to from the branch not taken at 10004 (behind start)",
-            "why the block at 10008 (behind start) may return:", "  10008 (behind start): a return"]))
+            "why 10008 (after start) is reached:", "  10000 (start): a seed, the program's entry",
+            "  10008 (after start): gone on to from the branch not taken at 10004 (after start)",
+            "why the block at 10008 (after start) may return:", "  10008 (after start): a return"]))
         said = self.run_main("why", "--certificate", cert, path, "10004")[1]
         self.assertEqual(said[1:4], ["  10000 (start): a seed, the program's entry",
-                                     "  10002 (start+0x2): branched to at 10004 (behind start)",
-                                     "  10004 (behind start): two streams of instructions join, one from 10002 and one from 10000"])
-        self.assertEqual(said[-2:], ["  10004 (behind start): goes on to 10008 (behind start)", "  10008 (behind start): a return"])
+                                     "  10002 (start+0x2): branched to at 10004 (after start)",
+                                     "  10004 (after start): two streams of instructions join, one from 10002 and one from 10000"])
+        self.assertEqual(said[-2:], ["  10004 (after start): goes on to 10008 (after start)", "  10008 (after start): a return"])
+        self.assertEqual(self.run_main("why", "--certificate", cert, path, "start")[1][:2],
+                         ["why 10000 (start) is reached:", "  10000 (start): a seed, the program's entry"])
         self.assertEqual(self.run_main("why", "--certificate", cert, path, "10006")[:2], (1, ["10006 is in no block: no leader's chain has it"]))
         # A reason that the certificate does not have.
         spoilt = self.file("spoilt", ROW_8.replace("from 0000000000010000", "from 0000000000010006").encode())

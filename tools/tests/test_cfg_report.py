@@ -11,8 +11,10 @@ import unittest
 from typing import List
 
 import rows
+import small
 from cfgtools.reports import cfg_report
 from cfgtools.reports.cfg_report import Block, Edge, End, Function, Heading, ReportError
+from cfgtools.reports.growing import Growing, differences
 
 
 def load(text: bytes) -> cfg_report.Report:
@@ -54,7 +56,7 @@ class Whole(unittest.TestCase):
 
     def test_one_name_of_two_functions(self) -> None:
         report = load(rows.report(5).replace(b" c\n", b" a\n"))
-        with self.assertRaisesRegex(ReportError, "2 functions are named a: give the address, 10000 or 10004"):
+        with self.assertRaisesRegex(ReportError, "2 functions are named a: give the address: a at 10000, a at 10004"):
             report.function("a")
 
     def test_a_stream_is_not_kept(self) -> None:
@@ -142,7 +144,7 @@ class Broken(unittest.TestCase):
             (b"entry 0000000000010000", b"entry 0000000000010004", 7, "no function starts at the program's entry, 10004"),
             (b"functions 1", b"functions 01", 3, "`01` is no count"),
             (b"functions 1", b"functions 2", 8, "2 lines `function .*` were announced"),
-            (b"may-return 3", b"may-return 4", 8, "4 lines `in BLOCK` were announced, and here, behind 3"),
+            (b"may-return 3", b"may-return 4", 8, "4 lines `in BLOCK` were announced, and here, after 3"),
             (b"may-return 3", b"may-return 2", 7, "here should be a line `blocks COUNT`"),
             (b"may-return 3", b"returns 3", 4, "`returns` is not one of may-return, no-return"),
             (b"3 -", b"3 a\\q", 4, "is no name"),
@@ -151,7 +153,7 @@ class Broken(unittest.TestCase):
             (b"blocks 3", b"blocks 4", 12, "4 lines `block START END KIND` were announced"),
             (b"10004 fall\nblock", b"10004  fall\nblock", 9, "here should be a line"),
             (b"10004 fall\nblock", b"1000G fall\nblock", 9, "no address"),
-            (b"10004 fall\nblock", b"10000 fall\nblock", 9, "in front of itself"),
+            (b"10004 fall\nblock", b"10000 fall\nblock", 9, "before its start"),
             (b"10004 fall\nblock", b"10004 falls\nblock", 9, "`falls` is not one of fall"),
             (b"branch\n", b"branch\r\n", 10, "is not one of"),
             (b"edges 3", b"edges 2", 15, "here should be a line `end`"),
@@ -200,16 +202,44 @@ class Writing(unittest.TestCase):
         self.assertEqual(out.getvalue(), text)
 
 
-class Growing(unittest.TestCase):
+class Landings(unittest.TestCase):
+    """A report with an edge of the kind `landing` is of version 3, and no other is."""
+
+    TEXT = small.report("10000 may-return f: 10000 10004 10008, 1000c may-return g: 1000c",
+                        "10000 10004 call, 10004 10008 return, 10008 1000c return, 1000c 10010 return",
+                        "10000 10004 after, 10000 10008 landing, 10000 1000c call").replace(b"cfg-report 2", b"cfg-report 3")
+
+    def test_version_3(self) -> None:
+        report, out = load(self.TEXT), io.BytesIO()
+        self.assertEqual(list(report.problems()), [])
+        cfg_report.write(report, out)
+        self.assertEqual(out.getvalue(), self.TEXT)
+        growing = Growing()
+        self.assertEqual(growing.read(io.BytesIO(self.TEXT)).edges, report.edges)
+
+    def test_exactly_then(self) -> None:
+        with self.assertRaisesRegex(ReportError, "^line 17: an edge of the kind `landing`, and the first line says version 2"):
+            load(self.TEXT.replace(b"cfg-report 3", b"cfg-report 2"))
+        for kind in ("graph", "functions", "blocks", "edges", "live"):
+            with self.assertRaisesRegex(ReportError, "the first line says version 3, and no edge"):
+                load(rows.report(6, kind).replace(b"cfg-report 2", b"cfg-report 3"))
+
+    def test_an_edge_too_many(self) -> None:
+        twice = self.TEXT.replace(b"edges 3", b"edges 4").replace(b"edge 0000000000010000 000000000001000c call\n",
+                                  b"edge 0000000000010000 000000000001000c call\nedge 0000000000010000 000000000001000c landing\n")
+        self.assertTrue(any("ends with call, and has the edges" in problem for problem in load(twice).problems()))
+
+
+class GrowingFile(unittest.TestCase):
     def test_reports_one_after_the_other(self) -> None:
-        growing = cfg_report.Growing()
+        growing = Growing()
         for number in (6, 17, 13, 10, 33, 10, 16, 41):
             whole, found = load(rows.report(number)), growing.read(io.BytesIO(rows.report(number)))
             self.assertEqual((found.entry, found.blocks, found.edges), (whole.entry, whole.blocks, sorted(whole.edges)), number)
             self.assertEqual([(one.entry, one.may_return) for one in found.functions], [(one.entry, one.may_return) for one in whole.functions])
 
     def test_changes_lead_from_one_report_to_the_next(self) -> None:
-        growing, before = cfg_report.Growing(), load(rows.report(6))
+        growing, before = Growing(), load(rows.report(6))
         growing.read(io.BytesIO(rows.report(6)))
         for number in (17, 13, 10, 33, 33, 16, 41):
             whole, found = load(rows.report(number)), growing.read(io.BytesIO(rows.report(number)))
@@ -232,19 +262,19 @@ class Growing(unittest.TestCase):
                 kept = [place for number, place in enumerate(places) if chosen.random() < 0.99 and not min(gap) <= number < max(gap)]
                 texts.append(sorted({b"at %06x %d" % (place, chosen.random() < 0.01) for place in kept for _ in range(chosen.randrange(1, 3))}))
             before, after = (b"".join(b"\n" + line for line in lines) for lines in texts)
-            more, gone = cfg_report.differences(before, after, len("\nat 000000"))
+            more, gone = differences(before, after, len("\nat 000000"))
             self.assertEqual((sorted(more), sorted(gone)), (sorted(set(texts[1]) - set(texts[0])), sorted(set(texts[0]) - set(texts[1]))))
 
     def test_lines_of_a_text_and_of_none(self) -> None:
-        self.assertEqual(cfg_report.differences(b"", b"\na\nb", 2), ([b"a", b"b"], []))
-        self.assertEqual(cfg_report.differences(b"\na\nb", b"", 2), ([], [b"a", b"b"]))
-        self.assertEqual(cfg_report.differences(b"\nab", b"\nab", 2), ([], []))
-        self.assertEqual(cfg_report.differences(b"\nab\nb", b"\nabc", 2), ([b"abc"], [b"ab", b"b"]))
+        self.assertEqual(differences(b"", b"\na\nb", 2), ([b"a", b"b"], []))
+        self.assertEqual(differences(b"\na\nb", b"", 2), ([], [b"a", b"b"]))
+        self.assertEqual(differences(b"\nab", b"\nab", 2), ([], []))
+        self.assertEqual(differences(b"\nab\nb", b"\nabc", 2), ([b"abc"], [b"ab", b"b"]))
 
     def test_what_is_wrong_is_said(self) -> None:
         for text, why in ((rows.report(6)[:-4], "cut off"), (rows.report(6, "edges"), "kind graph is needed"), (b"", "empty")):
             with self.assertRaisesRegex(ReportError, why):
-                cfg_report.Growing().read(io.BytesIO(text))
+                Growing().read(io.BytesIO(text))
 
 
 if __name__ == "__main__":

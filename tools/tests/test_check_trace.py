@@ -103,6 +103,23 @@ class CheckTrace(InFolder):
             "Zbb); calls g, which does not return, at 10008",
             "2 outliers"])
 
+    def test_what_is_thrown_lands_right_behind_a_call(self) -> None:
+        code, _, blocks, edges = self.RULED_OUT
+        self.path = self.file("elf", small.elf([small.Part(".text", small.CODE, 0x10000, code)], [("main", 0x10000, 8)]))
+        report = small.report("10000 may-return main: 10000 10004, 10008 no-return f: 10008, 10010 no-return g: 10010",
+                              blocks.replace(", ", ", 10004 10008 return, ", 1), f"10000 10004 landing, {edges}")
+        self.report = self.file("report", report.replace(b"cfg-report 2", b"cfg-report 3"))
+        self.assertEqual(self.checked(0x10000, 0x10008, 0x10010, 0x10014, 0x10004, 0x30000)[0], 0)
+
+    def test_landings(self) -> None:
+        # What g throws lands after the call in main, by a return from g.
+        code, _, blocks, edges = self.RULED_OUT
+        functions = "10000 may-return main: 10000 10004, 10008 no-return f: 10008, 10010 no-return g: 10010"
+        self.path = self.file("elf", small.elf([small.Part(".text", small.CODE, 0x10000, code)], [("main", 0x10000, 8), ("f", 0x10008, 8), ("g", 0x10010, 8)]))
+        self.report = self.file("report", small.report(functions, "10000 10004 call, 10004 10008 return" + blocks[16:], "10000 10004 landing, " + edges))
+        self.assertEqual(self.checked(0x10000, 0x10008, 0x10010, 0x10014, 0x10004)[0], 0)
+        self.assertEqual(self.checked(0x10000, 0x10008, 0x10010, 0x10014, 0x1000C)[0], 1)
+
     def test_a_call_through_a_register_of_what_does_not_return(self) -> None:
         # jalr a5; ret; and at 10008 the same g.
         code = small.code("000780E7 00008067", "0AB56533 00008067")

@@ -182,7 +182,7 @@ class Told(WithFile):
         self.assertEqual(said[0], "table 20000 of the jump at 10000 in main: table-open, declared, 3 entries of 8 bytes")
         self.assertEqual(said[-2:], ["record of the jump at 10010 in main+0x10, which does not count: no block ends there",
                                      "record of the jump at 10014 in main+0x14, which does not count: its entries have 7 bytes, and not 4 or 8"])
-        self.assertIn("a table that the file declares: nothing proves where it ends (3 ways on)", "\n".join(self.said_with("unresolved", path)))
+        self.assertIn("a table that the file declares: nothing proves where it ends (3 successors)", "\n".join(self.said_with("unresolved", path)))
 
         self.assertIn("    declared: tables of 3 jumps, of which 2 have an entry that leads to code", self.said_with("summary", "--elf", path, path))
 
@@ -201,6 +201,7 @@ class FromOutside(WithFile):
 
     def test_the_same_is_read(self) -> None:
         from cfgtools.checks import listing, pattern_tables
+        from cfgtools.elf import table_patterns
         found = [Record(FIRST, DATA_AT, 0, 2, 8), Record(SECOND, DATA_AT + 8, 0, 2**32 - 1, 8), Record(FIRST, DATA_AT, 0, 1, 8)]
         wrong = [Record(0x10014, DATA_AT, 0, 1, 8), Record(0x10016, DATA_AT + 4, 0, 1, 8)]
         path = self.elf_file([code(TEXT), Part(".rodata", address=DATA_AT, data=ENTRIES), section(*found), section(*wrong)])
@@ -212,7 +213,7 @@ class FromOutside(WithFile):
         assert first is not None and second is not None
         self.assertEqual((first.targets, first.bound, first.is_open, first.is_declared), (TARGETS[:2], 2, True, True))
         self.assertEqual((second.targets, second.bound), (TARGETS[1:], 65536))
-        self.assertEqual(pattern_tables.cuts({FIRST: first, SECOND: second}), {FIRST: 1})
+        self.assertEqual(table_patterns.cuts({FIRST: first, SECOND: second}), {FIRST: 1})
 
     def test_certificates(self) -> None:
         from cfgtools.checks import certificate, listing
@@ -221,7 +222,7 @@ class FromOutside(WithFile):
         path = self.elf_file([code(TEXT), Part(".rodata", address=DATA_AT, data=ENTRIES), section(*found)])
         made, listed_file = naive_certificates.made(path), listing.Listing(path)
         self.assertEqual(list(certificate.faults(listed_file, made)), [])
-        blocks, edges = certificate.graph(*certificate.last_part(listed_file, made))
+        blocks, edges = certificate.graph(certificate.cut_program(listed_file), made.part)
         self.assertIn((FIRST, FIRST + 4, "table-open"), blocks)
         self.assertEqual({(edge.to, edge.kind) for edge in edges}, {(target, "table") for target in TARGETS})
 

@@ -59,5 +59,32 @@ class Unreached(InFolder):
         self.assertEqual(self.said("diff_reports", "--elf", *files, report, report)[0], "0 functions lost, 0 added, 0 changed, 1 changed in bytes alone, 0 the same")
 
 
+class WithoutNames(InFolder):
+    # _start calls one function, which has moved by 40 bytes in the second build, and then jumps to another one.
+    BLOCKS = "10000 10004 call, 10004 10008 jump, 10010 10014 branch, 10014 10018 return, {a} {b} return"
+    EDGES = "10000 10004 after, 10000 {a} call, 10004 10010 tail, 10010 10010 taken, 10010 10014 fall"
+    FUNCTIONS = "10000 may-return _start: 10000 10004, 10010 may-return -: 10010 10014, {a} may-return -: {a}"
+
+    def build(self, name: str, start: str, end: str) -> str:
+        return self.file(name, small.report(*(text.format(a=start, b=end) for text in (self.FUNCTIONS, self.BLOCKS, self.EDGES))))
+
+    def test_one_that_moved(self) -> None:
+        old, new = self.build("old", "10020", "10024"), self.build("new", "10048", "1004c")
+        said = self.said("diff_reports", old, new)
+        self.assertEqual([line for line in said if line.startswith(("lost", "added", "changed"))], [])
+        self.assertIn("0 functions lost, 0 added, 0 changed, 0 changed in bytes alone", said[-2])
+
+    def test_one_that_changed_where_it_is(self) -> None:
+        old, new = self.build("old", "10020", "10024"), self.build("new", "10020", "1002c")
+        self.assertIn("0 functions lost, 0 added, 0 changed, 1 changed in bytes alone", self.said("diff_reports", old, new)[-2])
+
+    def test_one_more(self) -> None:
+        old = self.build("old", "10020", "10024")
+        more = [text.format(a="10048", b="1004c") for text in (self.FUNCTIONS, self.BLOCKS, self.EDGES)]
+        new = self.file("new", small.report(more[0] + ", 10050 may-return -: 10050", more[1] + ", 10050 10052 return", more[2]))
+        said = self.said("diff_reports", old, new, status=1)
+        self.assertEqual([line for line in said if line.startswith(("lost", "added", "changed"))], ["added 10050: 1 block, may-return"])
+
+
 if __name__ == "__main__":
     unittest.main()

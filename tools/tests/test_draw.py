@@ -5,6 +5,7 @@ from __future__ import annotations
 import unittest
 
 import small
+from cfgtools.shown import picture
 from test_tools import InFolder
 
 
@@ -51,9 +52,14 @@ class Parts(InFolder):
                               "10000 10004 after, 10000 10008 call")
         self.assertIn('URL="a=2fb.svg"', "\n".join(self.said("draw", self.file("slash", report), "f")))
 
+    def test_long_lines(self) -> None:
+        self.assertEqual((picture.cut("a" * 72), picture.cut("a" * 73)), ("a" * 72, "a" * 70 + ".."))
+        self.assertEqual(picture.hover(["short", "b" * 80, "c" * 90]), [f'tooltip="{"b" * 80}\n{"c" * 90}"'])
+        self.assertEqual(picture.hover(["short"]), [])
+
     def test_said_before(self) -> None:
         path, out = self.file("report", long_chain(500)), str(self.folder / "a.dot")
-        status, said, error = self.run_main("draw", path, "f", "-o", out)
+        status, said, error = self.run_main("draw", path, "f", "--all-blocks", "-o", out)
         self.assertEqual((status, said), (0, []))
         self.assertRegex(error, r"^draw: a picture of 500 blocks and 499 edges, for which dot takes .*: --around ADDRESS --depth N draws a part")
         self.assertEqual(self.run_main("draw", path, "f", "--around", "10000", "-o", out)[2], "")

@@ -12,13 +12,15 @@ import small
 import small_elf
 from cfgtools.checks import binutils, listing
 from cfgtools.checks.listing import Listing
-from cfgtools.checks.pattern_tables import Table, Tables
+from cfgtools.checks.pattern_tables import Tables
+from cfgtools.elf.table_patterns import Table
 from cfgtools.elf import architecture
 from cfgtools.elf.elf_file import Elf, Memory
 from cfgtools.isa import decoding, extensions
 from cfgtools.making.hostile import RETURN
 from small_elf import Part, code
 from test_add_entries import WithFile
+from test_tools import ends_first
 from test_tools import InFolder, script
 
 # Each extension with words of it, as an assembler writes them (LLVM 19).
@@ -41,11 +43,17 @@ zabha: 00b6052f amoadd.b a0,a1,(a2)|e0b6152f amomaxu.h a0,a1,(a2)|0eb6052f amosw
 zimop: 81c5c573 mop.r.0 a0,a1|cdf5c573 mop.r.31 a0,a1|cec5c573 mop.rr.7 a0,a1,a2
 v: 022180d7 vadd.vv v1,v2,v3|022540d7 vadd.vx v1,v2,a0|022550d7 vfadd.vf v1,v2,fa0|42102557 vmv.x.s a0,v1|42182557 vcpop.m a0,v1|4218a557 vfirst.m a0,v1|0c05f557 vsetvli a0,a1,e8,m1,ta,ma|cc027557 vsetivli a0,4,e8,m1,ta,ma|80c5f557 vsetvl a0,a1,a2|02050087 vle8.v v1,(a0)|0ab56087 vlse32.v v1,(a0),a1|06257087 vluxei64.v v1,(a0),v2|020550a7 vse16.v v1,(a0)|0ac570a7 vsse64.v v1,(a0),a2|5e01b0d7 vmv.v.i v1,3|962560d7 vmul.vx v1,v2,a0
 zcb: 81e8 c.lbu a0,3(a1)|85a8 c.lhu a0,2(a1)|85e8 c.lh a0,2(a1)|89c8 c.sb a0,1(a1)|8da8 c.sh a0,2(a1)|9d61 c.zext.b a0|9d65 c.sext.b a0|9d69 c.zext.h a0|9d6d c.sext.h a0|9d71 c.zext.w a0|9d75 c.not a0|9d4d c.mul a0,a1
+zknd: 3ac58533 aes64ds a0,a1,a2|3ec58533 aes64dsm a0,a1,a2|30059513 aes64im a0,a1|31059513 aes64ks1i a0,a1,0|31a59513 aes64ks1i a0,a1,10|7ec58533 aes64ks2 a0,a1,a2
+zkne: 32c58533 aes64es a0,a1,a2|36c58533 aes64esm a0,a1,a2
+zknh: 10059513 sha256sum0 a0,a1|10159513 sha256sum1 a0,a1|10259513 sha256sig0 a0,a1|10359513 sha256sig1 a0,a1|10459513 sha512sum0 a0,a1|10559513 sha512sum1 a0,a1|10659513 sha512sig0 a0,a1|10759513 sha512sig1 a0,a1
+zksh: 10859513 sm3p0 a0,a1|10959513 sm3p1 a0,a1
+zksed: 70c58533 sm4ed a0,a1,a2,1|f4c58533 sm4ks a0,a1,a2,3
+zicfiss: 48b6252f ssamoswap.w a0,a1,(a2)|4eb6352f ssamoswap.d.aqrl a0,a1,(a2)
 zcmop: 6081 c.mop.1|6281 c.mop.5|6781 c.mop.15
 """
 ASSEMBLER = ("llvm-mc-19", "llvm-mc")
 FEATURES = {"zcb": "+c,+zcb,+zbb,+zba,+m", "zcmop": "+c,+zimop,+zcmop", "zabha": "+a,+zabha,+experimental-zabha",
-            "zacas": "+a,+experimental-zacas", "zfa": "+d,+zfa", "zfh": "+d,+zfh", "zfbfmin": "+d,+zfbfmin"}
+            "zacas": "+a,+experimental-zacas", "zfa": "+d,+zfa", "zfh": "+d,+zfh", "zfbfmin": "+d,+zfbfmin", "zicfiss": "+a,+experimental-zicfiss"}
 
 
 def groups() -> "List[tuple[str, List[List[str]]]]":
@@ -101,7 +109,7 @@ class Rows(unittest.TestCase):
         ):
             one = extensions.decode(bytes.fromhex(digits)[::-1], 0, names)
             assert one is not None
-            self.assertEqual((set(one.read), one.written, one.pair), (read, written, pair), one.text)
+            self.assertEqual((set(one.read), one.written, one.others), (read, written, (pair,) if pair else ()), one.text)
             line = listing.of_named(binutils.Line(4, int(digits, 16), ".4byte", []), names)
             assert line is not None
             self.assertEqual(script("compare_live").effects_of(line.mnemonic, line.operands),
@@ -118,13 +126,60 @@ class Rows(unittest.TestCase):
         self.assertIsNone(extensions.told(0x0000707F))
 
 
+class Taken(unittest.TestCase):
+    """What a file names may take the encodings of F and D away."""
+
+    def expect(self, text: str, names: str, digits: str, read: str, written: str) -> None:
+        one = extensions.decode(bytes.fromhex(digits)[::-1], 0, frozenset(names.split()))
+        assert one is not None, text
+        found = [one.written, *one.others] if one.written is not None else []
+        self.assertEqual(({f"x{r}" for r in one.read if r}, {f"x{r}" for r in found}), (set(read.split()), set(written.split())), text)
+
+    def test_floats_in_integer_registers(self) -> None:
+        for digits, text, read, written in (
+            ("6ac5f543", "fmadd.d x10,x11,x12,x13", "x11 x12 x13", "x10"), ("d02372d3", "fcvt.s.l x5,x6", "x6", "x5"),
+            ("a23100d3", "fle.d x1,x2,x3", "x2 x3", "x1"), ("e2059553", "fclass.d x10,x11", "x11", "x10"), ("043170d3", "fadd.h x1,x2,x3", "x2 x3", "x1"),
+            ("022552d7", "vfadd.vf v5,v2,x10", "x10", ""), ("421012d7", "vfmv.f.s x5,v1", "", "x5"),
+        ):
+            self.expect(text, "zfinx zhinx v", digits, read, written)
+        for digits in ("0005b507", "00a5b027", "e2050553", "f2050553", "2108", "a108", "2502", "a02a"):
+            self.assertIsNone(extensions.decode(bytes.fromhex(digits)[::-1], 0, frozenset(("zfinx",))), digits)
+        self.assertIsNone(extensions.decode(bytes.fromhex("043170d3")[::-1], 0, frozenset(("zfinx", "zhinxmin"))))
+        self.expect("fcvt.s.h x1,x2", "zfinx zhinxmin", "402100d3", "x2", "x1")
+
+    def test_pushes_and_pops(self) -> None:
+        saved = "x8 x9 x18 x19 x20 x21 x22 x23 x24 x25"
+        for digits, text, read, written in (
+            ("b852", "cm.push {x1,x8},-16", "x1 x2 x8", "x2"), ("bae2", "cm.pop {x1,x8-x9,x18-x25},112", "x2", f"x1 x2 {saved}"),
+            ("bef2", "cm.popret {x1,x8-x9,x18-x27},112", "x2", f"x1 x2 {saved} x26 x27"), ("bc42", "cm.popretz {x1},16", "x2", "x1 x2 x10"),
+            ("afa2", "cm.mvsa01 x23,x8", "x10 x11", "x8 x23"), ("affe", "cm.mva01s x23,x23", "x23", "x10 x11"),
+            ("a07e", "cm.jt 31", "", ""), ("a082", "cm.jalt 32", "", "x1"),
+        ):
+            self.expect(text, "zcmp zcmt", digits, read, written)
+            one = extensions.decode(bytes.fromhex(digits)[::-1], 0, frozenset(("zcmp", "zcmt")))
+            self.assertEqual(one is not None and one.is_straight, text[:6] not in ("cm.pop", "cm.jt ", "cm.jal") or text.startswith("cm.pop "), text)
+        for digits in ("b832", "aca6", "2108", "a502"):
+            self.assertIsNone(extensions.decode(bytes.fromhex(digits)[::-1], 0, frozenset(("zcmp", "zcmt"))), digits)
+
+    def test_words_of_a_vendor(self) -> None:
+        for digits, name in (("f8b6450b", "vendor"), ("44c5c50b", "th.lrw"), ("04c5950b", "th.addsl")):
+            one = extensions.decode(bytes.fromhex(digits)[::-1], 0, frozenset(("xthead",)))
+            assert one is not None
+            self.assertEqual((one.name, set(one.read), one.written), (name, {10, 11, 12}, None))
+
+
 class Architecture(unittest.TestCase):
     def test_names(self) -> None:
         for text, wanted in (
             ("rv64i2p1_m2p0_a2p1_f2p2_d2p2_c2p0_zicsr2p0_zba1p0_zbb1p0_v1p0", "i m a f d c zicsr zba zbb v"),
-            ("rv64gczba", "g c z b a zba zbb zbs"), ("RV64GC_ZBS", "g c zbs"), ("rv64gc_b", "g c b zba zbb zbs"),
-            ("rv64gc_zve32x1p0_zvl128b1p0", "g c zve32x zvl128b v"), ("rv64i2_zbb", "zbb"), ("rv64imac_zba2", "i m a c zba2"), ("rv32gc_zbb", ""),
-            ("rv64i2p1c2p0", "i c"), ("rv64_zbb", "zbb"), ("rv64gc_xtheadba1p0", "g c xtheadba"), ("", ""),
+            ("rv64gczba_zbb", "g c zba zbb"), ("rv64gczbazbb", "g c zbazbb"), ("RV64GC_ZBS", "g c zbs"), ("rv64gc_b", "g c b zba zbb zbs"),
+            ("RV64I2_m2b1zba1_Zbkc1p0", "i m b zba zbb zbs zbkc"), ("rv64i2p", "i p"), ("rv64i2pb", "i p b zba zbb zbs"),
+            ("rv64zba", ""), ("rv64c_zba", ""), ("rv64_i_zba", ""), ("rva23u64", ""), ("rv32i_zba", ""), ("", ""), ("rv64gc__zbs_", "g c zbs"),
+            ("rv64gc_b1-zbc_zbs", "g c zbs"), ("rv64gc_1b_zbs", "g c zbs"), ("rv64gc-_zbs", "zbs"), ("rv64i_zkb1p", "i zkb1p"),
+            ("rv64i_zbs1p0p1", "i zbs1p"), ("rv64i_zvl128b1p0", "i zvl128b"), ("rv64i_z1", "i z"), ("rv64imafdcsu_zba", "i m a f d c su zba"),
+            ("rv64gc_zve32x1p0_zvl128b1p0", "g c zve32x zvl128b v"), ("rv64gc_xtheadba1p0", "g c xtheadba xthead"),
+            ("rv64i_zk", "i zk zbkb zbkc zbkx zkne zknd zknh"), ("rv64i_zks", "i zks zbkb zbkc zbkx zksed zksh"),
+            ("rv64imac_zce", "i m a c zce zcb zcmp zcmt"), ("rv64i_zdinx_zfh_zfa", "i zdinx zfinx"),
         ):
             self.assertEqual(architecture.names(text), frozenset(wanted.split()), text)
 
@@ -165,7 +220,7 @@ class Files(WithFile):
 
     def test_a_stop_and_what_to_do(self) -> None:
         report = self.file("report", small.report("10000 no-return -: 10000", "10000 10002 stop"))
-        said = self.said("unresolved", "--last", "0", self.elf_file([code(self.MAX + RETURN)]), report)
+        said = ends_first(self.said("unresolved", "--last", "0", self.elf_file([code(self.MAX + RETURN)]), report))
         self.assertIn("10000 stop in 10000: an instruction that cfg does not decode, of the extension Zbb (0ab56533 max)"
                       "; try add_entries with --arch rv64gc_zbb", said[0])
         path = self.elf_file([code(self.MAX + RETURN)])

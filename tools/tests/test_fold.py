@@ -6,29 +6,29 @@ import unittest
 
 import rows
 import small
-from cfgtools.reports.cfg_report import Function
-from cfgtools.reports.changed_graph import folded, is_guess
+from cfgtools.reports.changed_graph import folded
+from cfgtools.reports.guesses import is_guess
 from test_cfg_report import load
 from test_tools import InFolder
 
 # f ends with a switch whose cases are entries, the second of which runs into g; a gap stands behind g, and one entry is called.
 REPORT = small.report(
-    "10000 may-return f: 10000, 10008 may-return case_f_0: 10008, 1000c may-return case_f_1: 1000c, 10010 may-return g: 10010 10014, "
-    "10018 may-return entry_gap_10018: 10018, 1001c may-return entry_behind_1001c: 1001c",
+    "10000 may-return f: 10000, 10008 may-return behind_10008: 10008, 1000c may-return behind_1000c: 1000c, 10010 may-return g: 10010 10014, "
+    "10018 may-return entry_gap_10018: 10018, 1001c may-return behind_1001c: 1001c",
     "10000 10008 unknown, 10008 1000c return, 1000c 10010 jump, 10010 10014 call, 10014 10018 return, 10018 1001c return, 1001c 10020 return",
     "1000c 10010 tail, 10010 10014 after, 10010 1001c call")
 
 
 class Guesses(unittest.TestCase):
     def test_names(self) -> None:
-        for name, wanted in ((b"case_f_0", True), (b"entry_gap_10000", True), (b"entry_gap_10004", False), (b"entry_eh_10000", False),
-                             (b"entry_pad_10000", True), (b"entry_behind_10000", True), (b"entry_ptr_10000", False), (b"case_study", False), (None, False)):
-            self.assertEqual(is_guess(Function(0x10000, True, name, ())), wanted, name)
+        for name, wanted in ((b"behind_10000", True), (b"entry_gap_10000", True), (b"entry_gap_10004", False), (b"entry_eh_10000", False),
+                             (b"behind_f", False), (b"entry_ptr_10000", False), (None, False)):
+            self.assertEqual(is_guess(name, 0x10000), wanted, name)
 
     def test_bodies(self) -> None:
         found = folded(load(REPORT))
         self.assertEqual([(one.name, [f"{start:x}" for start in one.blocks]) for one in found.functions], [
-            (b"f", ["10000", "10008", "1000c"]), (b"g", ["10010", "10014", "10018"]), (b"entry_behind_1001c", ["1001c"])])
+            (b"f", ["10000", "10008", "1000c"]), (b"g", ["10010", "10014", "10018"]), (b"behind_1001c", ["1001c"])])
         self.assertEqual(len(found.blocks), 7)
         self.assertEqual([edge.kind for edge in found.edges], ["tail", "after", "call"])
 
@@ -51,10 +51,10 @@ class Guesses(unittest.TestCase):
 class Scripts(InFolder):
     def test_each(self) -> None:
         path = self.file("report", REPORT)
-        self.assertIn("10008 is in case_f_0", self.said("query", "where", path, "10008")[0])
+        self.assertIn("10008 is in behind_10008", self.said("query", "where", path, "10008")[0])
         self.assertIn("10008 is in f at 10000", self.said("query", "where", "--fold", path, "10008")[0])
         self.assertIn('label="f, 3 blocks', "\n".join(self.said("draw", "--fold", path, "f")))
-        self.assertFalse(any("case_f" in line for line in self.said("call_graph", "--fold", path)))
+        self.assertFalse(any("behind_1000" in line for line in self.said("call_graph", "--fold", path)))
 
 
 if __name__ == "__main__":

@@ -11,9 +11,10 @@ import sys
 import tempfile
 import unittest
 from pathlib import Path
-from typing import List
+from typing import List, Set
 
 import rows
+import test_tools
 from cfgtools.elf.elf_file import Elf
 from cfgtools.making import hostile
 
@@ -139,6 +140,26 @@ class Fuzz(unittest.TestCase):
         command = [sys.executable, "-B", str(rows.MAINTAIN / "fuzz")]
         done = subprocess.run(command, env=dict(os.environ, CFG="/nowhere/cfg"), capture_output=True)
         self.assertEqual((done.returncode, done.stderr), (2, b"fuzz: /nowhere/cfg: No such file or directory\n"))
+
+
+class Corpus(unittest.TestCase):
+    """The files of tools/tests/corpus, which a fuzzer kept since each of them took `cfg` where those before it had not been."""
+
+    def test_answers(self) -> None:
+        path = rows.TOOLS.parent / "crates" / "cfg" / "out" / "cfg"
+        if not os.access(path, os.X_OK):
+            self.skipTest("cfg is not built")
+        fuzz = test_tools.script("fuzz")
+        program = fuzz.Program("cfg", str(path), 0)
+        statuses: Set[str] = set()
+        files = sorted((rows.TOOLS / "tests" / "corpus").iterdir())
+        for file in files:
+            with self.subTest(file.name):
+                trial = fuzz.fares(program, str(file), file.read_bytes(), [1, 4])
+                self.assertIsNone(trial.wrong)
+                statuses.add(trial.status)
+        self.assertEqual(len(files), 60)
+        self.assertTrue({"0", "2 Entry", "2 SectionRange", "2 SymbolTable", "2 SymbolName"} <= statuses, statuses)
 
 
 # A program that asks for memory three times, and answers want of memory by its status, or does not.

@@ -3,6 +3,7 @@
 from __future__ import annotations
 
 import contextlib
+import json
 import os
 import re
 import shutil
@@ -77,6 +78,12 @@ class GateTimes(unittest.TestCase):
         text = "before\n<!-- gate -->\nold\n<!-- end -->\nafter\n"
         self.assertEqual(self.gate.put_into(text, ["new"]), "before\n<!-- gate -->\n\nnew\n\n<!-- end -->\nafter\n")
         self.assertIsNone(self.gate.put_into("no mark\n", ["new"]))
+
+    def test_the_times_as_data(self) -> None:
+        seen = [self.gate.Seen(*it) for it in [("b", "check", 30.2), ("b", "tests", 90.0), ("a", "check", 60.0), ("a", "check", 1.0), ("a", "edits", 0.1)]]
+        self.assertEqual(json.loads(self.gate.data(seen)), {"a": {"check": 61}, "b": {"check": 30, "tests": 90}})
+        with open(rows.TOOLS.parent / "bin" / "times.json", encoding="utf-8") as file:
+            self.assertTrue(all(set(it) <= set(self.gate.COLUMNS) for it in json.load(file).values()))
 
     def test_the_line_of_the_sum(self) -> None:
         seen = [self.gate.Seen("a", "check", 3600.0), self.gate.Seen("b", "edits", 60.0)]
@@ -256,21 +263,25 @@ RT_CI = """#!/bin/sh
 case $1 in
     version) echo "kit 1" ;;
     ci)
-        mkdir crates/cfg/out
-        printf '#!/bin/sh\\necho ran\\n' >crates/cfg/out/cfg
-        chmod 755 crates/cfg/out/cfg
+        for it in $LEAVES; do
+            mkdir crates/$it/out
+            printf '#!/bin/sh\\necho ran\\n' >crates/$it/out/$it
+            chmod 755 crates/$it/out/$it
+        done
         echo "1 passed, 0 failed"
         exit "$STATUS" ;;
     *) exit 9 ;;
 esac
 """
+# The programs of the product, which the gate has to leave.
+PRODUCT = "cfg cfg_one cfg_walk cfg_check"
 OWN_TEST = "import unittest\n\nclass One(unittest.TestCase):\n    def test_one(self):\n        self.assertTrue({})\n"
 
 
 class CiRun(unittest.TestCase):
     """.ci/run, with a command instead of rt."""
 
-    def run_ci(self, status: int, passes: bool) -> "subprocess.CompletedProcess[str]":
+    def run_ci(self, status: int, passes: bool, leaves: str = PRODUCT, path: str = os.environ["PATH"]) -> "subprocess.CompletedProcess[str]":
         folder = tempfile.TemporaryDirectory()
         self.addCleanup(folder.cleanup)
         self.top = Path(folder.name)
@@ -279,14 +290,14 @@ class CiRun(unittest.TestCase):
         (self.top / "tools" / "tests").mkdir(parents=True)
         shutil.copytree(rows.TOOLS / "cfgtools", self.top / "tools" / "cfgtools", ignore=shutil.ignore_patterns("__pycache__"))
         (self.top / "tools" / "tests" / "test_one.py").write_text(OWN_TEST.format(passes))
-        for name in ("cfg", "cfg_one", "cfg_walk", "cfg_check"):
+        for name in PRODUCT.split():
             (self.top / "crates" / name / "src").mkdir(parents=True)
             (self.top / "crates" / name / "src" / "main.rt").write_text("")
         (self.top / "crates.txt").write_text("cfg:\ncfg_one:\ncfg_walk:\ncfg_check:\n")
         (self.top / "path").mkdir()
         (self.top / "path" / "rt").write_text(RT_CI)
         (self.top / "path" / "rt").chmod(0o755)
-        self.environment = dict(os.environ, PATH=f"{self.top / 'path'}{os.pathsep}{os.environ['PATH']}", STATUS=str(status))
+        self.environment = dict(os.environ, PATH=f"{self.top / 'path'}{os.pathsep}{path}", STATUS=str(status), LEAVES=leaves)
         return subprocess.run([str(self.top / ".ci" / "run")], cwd="/", env=self.environment, capture_output=True, text=True)
 
     def test_it_ends_as_the_gate_or_the_tests_do(self) -> None:
@@ -300,9 +311,25 @@ class CiRun(unittest.TestCase):
         done = self.run_ci(0, True)
         left_out = [line for line in done.stderr.splitlines() if line.startswith("the gate left no program ")]
         names = [line.split()[5].rstrip(":") for line in left_out]
-        self.assertEqual(names, ["cfg_one", "cfg_walk", "cfg_check", "dump_instructions", "dump_files", "dump_threads"])
+        self.assertEqual(names, ["dump_instructions", "dump_files", "dump_threads"])
         ran = subprocess.run([str(self.top / "bin" / "cfg")], env=self.environment, capture_output=True, text=True)
         self.assertEqual((ran.returncode, ran.stdout, ran.stderr), (0, "ran\n", ""))
+
+    def test_a_program_of_the_product_that_is_missing_fails(self) -> None:
+        for status, wanted in ((0, 1), (2, 2)):
+            with self.subTest(status=status):
+                done = self.run_ci(status, True, leaves="cfg cfg_one cfg_check")
+                self.assertEqual(done.returncode, wanted)
+                said = "the gate left no program cfg_walk, which the tests of tools/ run"
+                self.assertEqual(done.stdout.splitlines(), ["1 passed, 0 failed", said])
+
+    def test_it_fails_without_python(self) -> None:
+        with tempfile.TemporaryDirectory() as folder:
+            for name in ("bash", "dirname", "mktemp", "rm", "sleep", "mkdir", "chmod", "sh"):
+                os.symlink(str(shutil.which(name)), os.path.join(folder, name))
+            done = self.run_ci(0, True, path=folder)
+        self.assertEqual(done.returncode, 1)
+        self.assertEqual(done.stdout.splitlines()[-1], "there is no python3, which the tests of tools/ need")
 
 
 if __name__ == "__main__":

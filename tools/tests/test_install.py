@@ -59,7 +59,7 @@ class Install(unittest.TestCase):
     def assert_scripts_run(self) -> None:
         """Each script that is installed finds its modules, as does a reader of one's own."""
         scripts = sorted((self.prefix / "bin").glob("cfg-*"))
-        self.assertEqual(len(scripts), 16)
+        self.assertEqual(len(scripts), 19)
         for script in scripts:
             said = subprocess.run([script, "--help"], cwd="/", capture_output=True, text=True, check=False)
             self.assertEqual((said.returncode, said.stderr), (0, ""), script.name)

@@ -3,14 +3,19 @@
 from __future__ import annotations
 
 import json
+import os
+import re
 import shutil
+import subprocess
 import sys
 import unittest
 from pathlib import Path
 
 import rows
 import small
+import stand_in
 from cfgtools.checks import listing
+from cfgtools.elf.elf_file import Memory
 from cfgtools.isa import registers
 from cfgtools.reports.cfg_report import Function, Heading, Live, Lives, ReportError
 from test_cfg_report import load
@@ -67,6 +72,31 @@ class Page(unittest.TestCase):
         for digit in range(8):
             names = [registers.NAMES[r] for r in range(31 - 4 * digit, 27 - 4 * digit, -1)]
             self.assertIn(f"| {digit + 1} | {' '.join(names).replace(' zero', ', and 0')} |", page)
+
+
+NEEDED = ("riscv64-unknown-elf-gcc", "riscv64-unknown-elf-objdump", "qemu-riscv64")
+
+
+@unittest.skipUnless(all(map(shutil.which, NEEDED)), "no compiler for RISC-V, or no qemu")
+class Counter(InFolder):
+    """The counter that docs/LIVE.md inserts."""
+
+    def test_counted(self) -> None:
+        page = (rows.TOOLS.parent / "docs" / "LIVE.md").read_text(encoding="utf-8").partition("### A counter")[2]
+        code, commands, counter = (re.findall(rf"```{kind}\n(.*?)```", page, re.DOTALL)[0] for kind in ("c", "sh", "python"))
+        self.folder.joinpath("count.c").write_text(code)
+        environment = dict(os.environ, PYTHONPATH=str(rows.TOOLS))
+
+        def done(*words: str) -> int:
+            return subprocess.run(words, cwd=self.folder, env=environment).returncode
+
+        self.assertEqual(done(*commands.splitlines()[0].split()), 0)
+        elf, graph, live = (str(self.folder / name) for name in ("program.elf", "program.report", "program.live"))
+        Path(graph).write_text("\n".join([*stand_in.report(Memory(elf)), ""]))
+        Path(live).write_text("\n".join([*self.said("maintain/compare_live", "--report", graph, "--print", elf), ""]))
+        self.assertEqual(done(sys.executable, "-B", "-c", counter), 0)
+        self.folder.joinpath("counted.elf").chmod(0o755)
+        self.assertEqual((done("qemu-riscv64", "program.elf"), done("qemu-riscv64", "counted.elf")), (0, 9))
 
 
 class Readers(InFolder):

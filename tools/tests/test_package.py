@@ -207,6 +207,15 @@ class Package(InFolder):
         self.assertEqual((done.returncode, done.stdout), (1, ""))
         self.assertEqual(done.stderr.splitlines()[-1], "bin/package: cfg_walk does not print its stored run")
 
+    def test_a_program_that_ends_with_another_status(self) -> None:
+        (self.top / "crates" / "cfg_walk" / "status").write_text("6\n")
+        self.commit()
+        self.put_older(self.top / "crates" / "cfg_walk" / "status")
+        self.note()
+        done = self.package()
+        self.assertEqual((done.returncode, done.stdout), (1, ""))
+        self.assertEqual(done.stderr.splitlines()[-1], "bin/package: cfg_walk ends its stored run with status 0")
+
     def put_older(self, file: Path) -> None:
         old = os.path.getmtime(self.folder / "since") - 10
         os.utime(file, (old, old))

@@ -15,7 +15,7 @@ from unittest import mock
 import small
 from cfgtools.reports import progress as progress_module
 from cfgtools.reports.body import Body
-from test_tools import InFolder
+from test_tools import InFolder, ends_first
 
 
 class Query(InFolder):
@@ -98,7 +98,8 @@ class Edges(InFolder):
         status, said, error = self.run_main("query", "callees", path, "f", "--edges", edges)
         self.assertEqual(said[:2], ["g at 10010, call from the block at 10000", "h at 10014, tail from the block at 10004"])
         self.assertIn("1 places are in no block, and edges to or from them are left out: 20000", error)
-        self.assertEqual(self.said("query", "reach", path, "f", "h"), ["no way from f to h is known; 1 functions on the way call or jump through a register"])
+        self.assertEqual(self.said("query", "reach", path, "f", "h"), ["no way from f to h is known; 1 functions on the way call or jump through a register: "
+                         "f (tools/guess_calls guesses where)"])
         known = self.file("known", b"10000 10010 call\n10004 10018\n")
         items = [json.loads(line) for line in self.said("to_json", path, "--edges", known)]
         self.assertIn({"record": "edge", "from": "0000000000010004", "to": "0000000000010018", "kind": "jump"}, items)
@@ -113,8 +114,8 @@ class Edges(InFolder):
     def test_open_ends(self) -> None:
         report = self.file("report", small.report("10000 may-return f: 10000 10004", "10000 10004 icall, 10004 10008 return", "10000 10004 after"))
         elf = self.file("elf", small.elf([small.Part(".text", small.CODE, 0x10000, small.code("000580E7 00008067"))], [("f", 0x10000, 8)]))
-        said = self.said("unresolved", "--last", "0", elf, report, "--edges", self.file("edges", b"10000 10000\n"))
-        self.assertEqual(said[0], "10000 icall in f: through an argument of the function (a1); known otherwise: 1 ways on")
+        said = ends_first(self.said("unresolved", "--last", "0", elf, report, "--edges", self.file("edges", b"10000 10000\n")))
+        self.assertEqual(said[0], "10000 icall in f: through an argument of the function (a1); known otherwise: 1 successors")
 
     def test_into_a_block(self) -> None:
         path = self.file("report", small.report("10000 may-return f: 10000, 10010 may-return g: 10010", "10000 10004 unknown, 10010 10020 return"))

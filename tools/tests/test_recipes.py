@@ -87,6 +87,7 @@ class Blocks(unittest.TestCase):
         for name in ("program.elf", "program.debug", "old.elf"):
             built(PROGRAM, name)
         built(PROGRAM.replace("return 0;", "return 1;"), "new.elf")
+        self.run_block("bin/cfg program.elf > program.report")
         (self.folder / "script").write_text("\n")
         tree = self.folder / "tree"
         for place in ("a/b_c", "a_b/c"):

@@ -2,16 +2,16 @@
 
 from __future__ import annotations
 
-import struct
 import unittest
 from typing import List
 
 import small
 import small_elf
-from cfgtools.making.hostile import NOP, RETURN, jump, short_jump
+from cfgtools.elf import no_return
+from cfgtools.making.hostile import NOP, RETURN, jump
 from small import CODE, Part
-from small_elf import ALLOC, CODE_AT
-from test_add_entries import LandingPads, WithFile, record, shared, symbols
+from small_elf import CODE_AT
+from test_add_entries import WithFile, symbols
 from test_tools import InFolder
 
 RET, CALL_4, CALL_8 = "00008067", "004000EF", "008000EF"
@@ -68,7 +68,7 @@ class Doubts(InFolder):
         self.assertIn("f at 10000: MAY RETURN AFTER ALL, through runtime.morestack_noctxt: it is Go's morestack, which comes back by ways of its own", said[0])
         self.assertEqual(self.said("query", "behind", *self.words, "runtime.morestack_noctxt"), ["behind_10004 10004"])
         text = "\n".join(self.said("unresolved", self.words[1], self.words[2]))
-        self.assertIn(f"    tools/query behind {self.words[1]} 10008 > behind.list\n    tools/add_entries {self.words[1]} -o more.elf --list behind.list", text)
+        self.assertIn(f"    tools/add_entries {self.words[1]} -o more.elf --after", text)
 
     def test_each_way_of_go(self) -> None:
         code = small.code(CALL_8, RET, "0000006F", "004000EF", "0000006F")
@@ -78,7 +78,7 @@ class Doubts(InFolder):
                           [("f", 0x10000, 8), ("runtime.mcall", 0x10008, 4), ("g", 0x1000C, 4), ("runtime.morestack.abi0", 0x10010, 4)])
         self.assertIn("it is Go's mcall, which comes back by ways of its own", "\n".join(said))
         text = "\n".join(self.said("unresolved", self.words[1], self.words[2]))
-        self.assertIn(f"behind {self.words[1]} 10008 > behind.list\n    tools/query behind {self.words[1]} 10010 >> behind.list\n    tools/add_entries", text)
+        self.assertEqual(text.count(f"tools/add_entries {self.words[1]} -o more.elf --after"), 1)
 
     def test_behind_wfi(self) -> None:
         self.ends("10500073")
@@ -94,27 +94,18 @@ class Doubts(InFolder):
         self.assertEqual(said, ["f at 10000: loops for ever at 10004"])
 
 
-class Catches(WithFile):
-    def file_with(self, action: int) -> str:
-        # main calls `tries`, whose call never returns, and lands at 10010 with this action.
-        halves = jump(1, 8) + RETURN + NOP + jump(1, 12) + RETURN + NOP + RETURN + NOP + short_jump(0) + NOP
-        data = LandingPads.data(LandingPads(), 1, [(0, 4, 8)])[:-1] + bytes([action])
-        first = shared(b"zLR", b"\x03\x03")
-        section = first + record(struct.pack("<III", len(first) + 4, 0x10008, 12) + b"\x04" + struct.pack("<I", 0x40000))
-        return self.elf_file([small_elf.code(halves), *symbols(2, ["main", "tries"], [CODE_AT, CODE_AT + 8]),
-                              small_elf.Part(".eh_frame", address=0x30000, data=section, flags=ALLOC),
-                              small_elf.Part(".gcc_except_table", address=0x40000, data=data, flags=ALLOC)])
+class ByName(WithFile):
+    # main calls `longjmp`, whose code returns.
+    def test_a_call_that_does_not_come_back(self) -> None:
+        path = self.elf_file([small_elf.code(jump(1, 8) + RETURN + NOP + RETURN + NOP), *symbols(2, ["main", "longjmp"], [CODE_AT, CODE_AT + 8])])
+        said = self.run_script("query", "no-return", path, cfg=str(small_elf.STAND_IN)).stdout
+        self.assertEqual(said, "main at 10000: calls longjmp, which by its name does not come back, at 10000\n")
 
-    def asked(self, question: str, path: str) -> str:
-        return self.run_script("query", question, path, cfg=str(small_elf.STAND_IN)).stdout
-
-    def test_what_is_caught(self) -> None:
-        path = self.file_with(1)
-        self.assertIn("main at 10000: MAY RETURN AFTER ALL, through tries: what the call before 1000c throws is caught, at 10010", self.asked("no-return", path))
-        self.assertEqual(self.asked("behind", path), "behind_1000c 1000c\n")
-
-    def test_what_only_cleans_up(self) -> None:
-        self.assertNotIn("AFTER ALL", self.asked("no-return", self.file_with(0)))
+    def test_one_that_the_file_declares(self) -> None:
+        section = small_elf.Part(".cfg.no_return", no_return.KIND, 0, 0, small_elf.words(CODE_AT + 8))
+        path = self.elf_file([small_elf.code(jump(1, 8) + RETURN + NOP + RETURN + NOP), *symbols(2, ["main", "leave"], [CODE_AT, CODE_AT + 8]), section])
+        said = self.run_script("query", "no-return", path, cfg=str(small_elf.STAND_IN)).stdout
+        self.assertEqual(said, "main at 10000: calls leave, which does not return, as the file declares, at 10000\n")
 
 
 if __name__ == "__main__":

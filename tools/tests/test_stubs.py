@@ -22,6 +22,7 @@ from cfgtools.making.hostile import NOP, RETURN, immediate, jump, upper
 from cfgtools.reports.cfg_report import load
 from small_elf import ALLOC, CODE_AT, DATA_AT, RELA, SYMTAB, STRTAB, WRITE, Part, code, words
 from test_add_entries import WithFile
+from test_tools import ends_first
 
 X6, X28 = 6, 28
 STUB_AT, RESOLVER, TARGET = CODE_AT + 8, CODE_AT + 0x18, CODE_AT + 0x1A
@@ -92,9 +93,9 @@ class Files(WithFile):
 
     def test_reason(self) -> None:
         done = self.run_script("unresolved", "--last", "0", self.elf_file(parts()), cfg=str(rows.TOOLS / "tests" / "stand_in.py"))
-        self.assertEqual(done.stdout.splitlines()[0], (
+        self.assertEqual(ends_first(done.stdout.splitlines())[0], (
             f"{STUB_AT + 8:x} unknown in the stub of chosen+0x8: to an indirect function: through a word that its resolver answers when the program starts "
-            f"({DATA_AT:x} in .got, by behind main at {RESOLVER:x}); try add_entries with --stubs, for what answers where it leads; and --trace, for that place"))
+            f"({DATA_AT:x} in .got, by after main at {RESOLVER:x}); try add_entries with --stubs, for what answers where it leads; and --trace, for that place"))
 
     @unittest.skipIf(binutils.missing(binutils.READELF, binutils.OBJDUMP), "binutils are not installed")
     def test_listing(self) -> None:

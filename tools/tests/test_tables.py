@@ -73,6 +73,19 @@ class Open(InFolder):
         items = [json.loads(line) for line in self.said("to_json", "--sure", path) if '"function"' in line]
         self.assertEqual(items[0]["blocks"], ["0000000000010000", "0000000000010018"])
 
+    def test_symbols_that_were_added_inside_end_nothing(self) -> None:
+        # As tools/add_entries does: at each case an entry without a size.
+        parts = [Part(".text", CODE, 0x10000, TEXT), Part(".rodata", READ_ONLY, 0x20000, TABLE)]
+        added = [("entry_ptr_10018", 0x10018, 0), ("entry_gap_1001c", 0x1001C, 0)]
+        elf = self.file("more.elf", small.elf(parts, [("f", 0x10000, 0x20), *added, ("g", 0x10020, 4)]))
+        functions = "10000 may-return f: 10000, 10018 may-return entry_ptr_10018: 10018, 1001c may-return entry_gap_1001c: 1001c, 10020 may-return g: 10020"
+        path = self.file("more", small.report(functions, BLOCKS, EDGES))
+        for words in (("--elf", elf), ()):
+            edges = [json.loads(line) for line in self.said("to_json", *words, path) if '"edge"' in line]
+            self.assertEqual([edge.get("unsure") for edge in edges], [None, None, True], words)
+        self.assertEqual(len([line for line in self.said("to_json", "--sure", "--fold", "--elf", elf, path) if '"edge"' in line]), 2)
+        self.assertIn("    10018 entry_ptr_10018: 0, 2", self.said("check_report", "--tables", "--elf", elf, path))
+
     def test_numbers_in_pictures(self) -> None:
         drawn = "\n".join(self.said("draw", "--elf", self.elf_path, self.path, "f"))
         self.assertIn('b10000 -> b10018 [color=deeppink, style=solid, label="0, 2", fontcolor=deeppink]', drawn)

@@ -109,6 +109,12 @@ class InFolder(unittest.TestCase):
         return done.stdout.splitlines()
 
 
+def ends_first(said: List[str]) -> List[str]:
+    """What unresolved says, from the first open end on, and behind it the totals."""
+    begin = next((place for place in range(1, len(said)) if not said[place].startswith("    ")), len(said))
+    return [*said[begin:], *said[:begin]]
+
+
 class Errors(InFolder):
     def refused(self, name: str, *words: str, why: str, cfg: Optional[str] = None) -> None:
         """The script says why in one line, and ends with status 2."""
@@ -142,6 +148,18 @@ class Errors(InFolder):
             for why, path in files.items():
                 with self.subTest(name=name, why=why):
                     self.refused(name, *self.with_report(name, path), why=why)
+
+    def test_a_program_that_is_not_heard_to_its_end(self) -> None:
+        # More than a pipe holds is printed, and the script stops at the first block.
+        count = 4000
+        blocks = ", ".join(f"{at:x} {at + 4:x} return" for at in range(0x10000, 0x10000 + 4 * count, 4))
+        functions = ", ".join(f"{at:x} may-return -: {at:x}" for at in range(0x10000, 0x10000 + 4 * count, 4))
+        said = self.file("answer", small.report(functions, blocks))
+        program = self.file("cfg", f"#!/bin/sh\ntrap '' PIPE\ncat '{said}' 2>&- || echo 'cfg: write fault' >&2\nsleep 1\n".encode())
+        os.chmod(program, 0o755)
+        done = self.run_process("draw", self.elf(1), "nosuch", cfg=program)
+        self.assertEqual((done.returncode, len(done.stderr.splitlines())), (2, 1), done.stderr)
+        self.assertIn("no function has the name", done.stderr)
 
     def test_reports_of_another_kind(self) -> None:
         for name in ("draw", "call_graph", "diff_reports", "unresolved", "query", "coverage"):
@@ -220,7 +238,7 @@ class Summary(InFolder):
     def test_code(self) -> None:
         said = self.said("summary", "--elf", self.elf(15), self.row(15))
         self.assertEqual(said[-2:], ["code 88 bytes, reached 84 (95.5 %), in 1 ranges not reached 4",
-                                     "    not reached: 1004c to 10050, 4 bytes, from behind start"])
+                                     "    not reached: 1004c to 10050, 4 bytes, from after start"])
 
     def test_standard_input_and_elf(self) -> None:
         done = self.run_script("summary", "-", given=rows.report(6))
@@ -316,26 +334,27 @@ class Differences(InFolder):
 class Unresolved(InFolder):
     def test_reasons(self) -> None:
         for number, lines in (
-            (0, ["10006 unknown in behind start: a return that is read as paired with the four bytes before it, which are no"
+            (0, ["10006 unknown in after start: a return that is read as paired with the four bytes before it, which are no"
                  " instruction (auipc ra,0x18, so to 28002, where no code is)"]),
-            (1, ["0 of 1 blocks (0.0 %)", "code 4 bytes, not reached 0 in 0 ranges, by functions:"]),
-            (11, ["10004 icall in behind start: to where no code is (110000)", "1000c unknown in behind start: to where no code is (110008)"]),
+            (1, ["code 4 bytes, not reached 0 in 0 ranges", "0 of 1 blocks (0.0 %) end where a successor is unknown or may be false"]),
+            (11, ["10004 icall in after start: to where no code is (110000)", "1000c unknown in after start: to where no code is (110008)"]),
             (12, ["10000 branch-out in start: a branch to where no code is (10040)"]),
-            (16, ["0 of 1 blocks (0.0 %)", "    1 stop: ebreak or unimp, which are meant"]),
         ):
             with self.subTest(row=number):
-                self.assertEqual(self.said("unresolved", "--last", "0", self.elf(number), self.row(number))[:len(lines)], lines)
-        said = self.said("unresolved", "--last", "1", self.elf(15), self.row(15))
-        self.assertRegex(said[0], r"^1001c table-cut in behind start: fewer entries .* \| jr a5$")
-        said = self.said("unresolved", "--last", "1", self.elf(32), self.row(32))
-        self.assertRegex(said[0], r"^10014 table-open in behind start: a table without a bound test: .* \| jr a5$")
+                self.assertEqual(ends_first(self.said("unresolved", "--last", "0", self.elf(number), self.row(number)))[:len(lines)], lines)
+        self.assertEqual(self.said("unresolved", self.elf(16), self.row(16))[:2], [
+            "0 of 1 blocks (0.0 %) end where a successor is unknown or may be false", "    1  stop  ebreak or unimp, which are meant"])
+        said = ends_first(self.said("unresolved", "--last", "1", self.elf(15), self.row(15)))
+        self.assertRegex(said[0], r"^1001c table-cut in after start: fewer entries .* \| jr a5$")
+        said = ends_first(self.said("unresolved", "--last", "1", self.elf(32), self.row(32)))
+        self.assertRegex(said[0], r"^10014 table-open in after start: a table without a bound test: .* \| jr a5$")
 
 
 class Elfs(InFolder):
     def test_reading(self) -> None:
         elf = Elf(self.elf(6))
         self.assertEqual([(code.start, code.end) for code in elf.code], [(0x10000, 0x10010)])
-        self.assertEqual([elf.place(at) for at in (0xFFFE, 0x10000, 0x10002, 0x10004)], ["fffe", "start", "start+0x2", "behind start"])
+        self.assertEqual([elf.place(at) for at in (0xFFFE, 0x10000, 0x10002, 0x10004)], ["fffe", "start", "start+0x2", "after start"])
         self.assertEqual([elf.is_code(at) for at in (0xFFFE, 0x10000, 0x10001, 0x1000E, 0x10010)], [False, True, False, True, False])
 
     def test_gaps(self) -> None:

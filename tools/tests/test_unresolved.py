@@ -7,7 +7,7 @@ from typing import Sequence
 
 import small
 from small import CODE, READ_ONLY, WRITABLE, Part
-from test_tools import InFolder
+from test_tools import InFolder, ends_first
 
 # lui a4,0x20; slli a0,a0,3; add a0,a0,a4; ld a5,0(a0); then jr a5, or jalr a5.
 ADDRESS, INDEX, JUMP, CALL = "00020737", "00351513 00E50533 00053783", "00078067", "000780E7"
@@ -22,7 +22,7 @@ class Files(InFolder):
     def unresolved(self, code: bytes, report: bytes, parts: Sequence[Part] = (), size: int = 0) -> "list[str]":
         symbols = [("f", 0x10000, size or len(code))]
         elf = small.elf([Part(".text", CODE, 0x10000, code), *parts], symbols)
-        return self.said("unresolved", "--last", "0", self.file("elf", elf), self.file("report", report))
+        return ends_first(self.said("unresolved", "--last", "0", self.file("elf", elf), self.file("report", report)))
 
 
 class Reasons(Files):
@@ -50,6 +50,20 @@ class Reasons(Files):
                 said = self.of_table(code, part)
                 told = f"{at:x} unknown in f+{at - 0x10000:#x}: {why}" + lost.format(len(code) + 8)
                 self.assertEqual(said[:len(told)], told)
+
+    def test_a_bound_test_of_a_copy(self) -> None:
+        # sext.w a4,a0; li a5,1; bltu a5,a4 to the last ret; slli a5,a0,32; lui a4; srli a0,a5,30; add a0,a0,a4; lw a5,0(a0); add a5,a5,a4; jr a5
+        code = small.code("0005071B", "00100793", "02E7E463", "02051793", ADDRESS, "01E7D513", "00E50533", "00052783", "00E787B3", JUMP, RET, RET, RET)
+        table = Part(".rodata", READ_ONLY, 0x20000, small.words(0x10028 - 0x20000, 0x1002C - 0x20000))
+        functions = "10000 may-return f: 10000 1000c 10028 1002c 10030"
+        blocks = "10000 1000c branch, 1000c 10028 table-open, 10028 1002c return, 1002c 10030 return, 10030 10034 return"
+        report = small.report(functions, blocks, "10000 1000c fall, 10000 10030 taken, 1000c 10028 table, 1000c 1002c table")
+        told = "a table whose bound test stands in none of the patterns by which cfg finds the end of one"
+        self.assertEqual(self.unresolved(code, report, [table])[0], f"10024 table-open in f+0x24: {told} (2 successors; bltu a5,a4,10030 at 10008 "
+                         "lets 2 values on, of a copy that addiw a4,a0,0 at 10000 makes)")
+        # (the test of another register is none)
+        other = code[:8] + small.code("02B7E463") + code[12:]
+        self.assertIn("table-open in f+0x24: a table without a bound test: where it ends is not known (2 successors)", self.unresolved(other, report, [table])[0])
 
     def test_address_before_a_branch(self) -> None:
         # lui a4; beqz a1 to the ret; the rest of the calculation; jr a5; ret
@@ -98,9 +112,9 @@ class Lost(Files):
         elf = self.file("elf", small.elf(parts, [("f", 0x10000, 0x28), ("g", 0x28 + 0x10000, 8)]))
         report = self.file("report", small.report("10000 may-return f: 10000, 10028 may-return g: 10028",
                                                   "10000 10014 unknown, 10028 1002c return"))
-        said = self.said("unresolved", elf, report)
+        said = ends_first(self.said("unresolved", elf, report))
         self.assertIn("; not reached: 20 of 40 bytes of f; try add_entries with --switches, which declares its table: 2 cases | ", said[0])
-        self.assertEqual(said[-4:], [
+        self.assertEqual(said[1:5], [
             "code 52 bytes, not reached 28 in 2 ranges, by functions:", "    20 of 40 bytes of f at 10000, by the jump at 10010",
             "    4 of 8 bytes of g at 10028, by no jump of it that may lead there", "    4 bytes in 1 ranges that belong to no function symbol"])
         summary = self.said("summary", "--elf", elf, report)
@@ -114,14 +128,34 @@ class Lost(Files):
         elf = self.file("elf", small.elf(parts, [("f", 0x10000, 0x18), ("g", 0x10018, 0x20)]))
         report = self.file("report", small.report("10000 may-return f: 10000, 10018 may-return g: 10018",
                                                   "10000 10014 unknown, 10018 1002c unknown"))
-        self.assertEqual([line.split(" ")[0] for line in self.said("unresolved", elf, report)[:2]], ["10028", "10010"])
+        self.assertEqual([line.split(" ")[0] for line in ends_first(self.said("unresolved", elf, report))[:2]], ["10028", "10010"])
 
     def test_behind_a_call_that_does_not_return(self) -> None:
         # f: call of g; ret. g: jump to itself.
         elf = self.file("elf", small.elf([Part(".text", CODE, 0x10000, small.code("008000EF", RET, "0000006F"))], [("f", 0x10000, 8), ("g", 0x10008, 4)]))
         report = self.file("report", small.report("10000 no-return f: 10000, 10008 no-return g: 10008",
                                                   "10000 10004 call, 10008 1000c jump", "10000 10008 call, 10008 10008 jump"))
-        self.assertIn("    4 of 8 bytes of f at 10000, behind calls that do not return, the first of g at 10000", self.said("unresolved", elf, report))
+        self.assertIn("    4 of 8 bytes of f at 10000, after calls that do not return, the first of g at 10000", self.said("unresolved", elf, report))
+
+
+class Many(InFolder):
+    # Thirty functions: jr a5, and one that is called through a0.
+    def files(self) -> "tuple[str, str]":
+        count = 30
+        code = small.code(*["00078067"] * count, "000500E7", RET)
+        functions = ", ".join(f"{at:x} may-return f{at:x}: {at:x}" for at in range(0x10000, 0x10000 + 4 * count, 4)) + ", 10078 may-return g: 10078 1007c"
+        blocks = ", ".join(f"{at:x} {at + 4:x} unknown" for at in range(0x10000, 0x10000 + 4 * count, 4)) + ", 10078 1007c icall, 1007c 10080 return"
+        elf = small.elf([Part(".text", CODE, 0x10000, code)], [(f"f{at:x}", at, 4) for at in range(0x10000, 0x10000 + 4 * count, 4)] + [("g", 0x10078, 8)])
+        return self.file("elf", elf), self.file("report", small.report(functions, blocks, "10078 1007c after"))
+
+    def test_totals_first_and_twenty_lines(self) -> None:
+        said = self.said("unresolved", *self.files())
+        self.assertEqual(said[:3], ["31 of 32 blocks (96.9 %) end where a successor is unknown or may be false",
+                                    "    30  unknown  through an argument of the function", "     1  icall    through an argument of the function"])
+        # One of each cause comes first.
+        self.assertEqual([line.split(" ")[0] for line in said[3:6]], ["10000", "10078", "10004"])
+        self.assertEqual((said[23], said[24].split(" ")[0]), ("and 11 more (--all shows all)", "code"))
+        self.assertEqual(len([line for line in self.said("unresolved", "--all", *self.files()) if line.startswith("100")]), 31)
 
 
 class OtherFiles(InFolder):

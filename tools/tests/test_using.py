@@ -27,7 +27,7 @@ def blocks(language: str) -> List[str]:
 class Recipes(unittest.TestCase):
     # What each recipe says of row 17, whose function at 10000 is called _start here, by a word of its code.
     SAID: Dict[str, List[str]] = {
-        "open_ends": ["3 of 4 blocks, at 0 of them a way on is unknown"],
+        "open_ends": ["3 of 4 blocks, at 0 of them a successor is unknown"],
         "registers.free": ["10000: none", "10004: none", "10008: none"],
     }
 
@@ -55,11 +55,14 @@ class Calls(unittest.TestCase):
     PAGE = (rows.TOOLS.parent / "docs" / "PYTHON.md").read_text(encoding="utf-8")
 
     def test_example(self) -> None:
-        code, = re.findall(r"^```python\n(.*?)^```$", self.PAGE, re.DOTALL | re.MULTILINE)
+        first, code = re.findall(r"^```python\n(.*?)^```$", self.PAGE, re.DOTALL | re.MULTILINE)
         with tempfile.TemporaryDirectory() as folder:
             text = rows.report(17).replace(b"3 -\n", b"3 _start\n").replace(b"1000c return", b"1000c unknown")
             Path(folder, "program.report").write_bytes(text)
             environment = dict(os.environ, PYTHONPATH=str(rows.TOOLS))
+            done = subprocess.run([sys.executable, "-B", "-c", first], cwd=folder, env=environment, capture_output=True, text=True)
+            self.assertEqual((done.returncode, done.stderr), (0, ""))
+            self.assertIn("<graph of program.report: 2 functions, 4 blocks, 4 edges>", done.stdout)
             done = subprocess.run([sys.executable, "-B", "-c", code], cwd=folder, env=environment, capture_output=True, text=True)
             self.assertEqual((done.returncode, done.stderr), (0, ""))
             self.assertEqual(done.stdout.splitlines(), ["_start at 10000, tail from the block at 10008", "g at 1000c"])
@@ -74,9 +77,12 @@ class Calls(unittest.TestCase):
 class Sources(unittest.TestCase):
     def test_each_source_of_entries_is_in_the_table(self) -> None:
         done = subprocess.run([sys.executable, "-B", str(rows.TOOLS / "add_entries"), "--help"], capture_output=True, text=True)
-        options = set(re.findall(r"^  (--[a-z-]+)", done.stdout, re.MULTILINE)) - {"--keep-overlaps"}
-        self.assertEqual(options, set(re.findall(r"^\| `(--[a-z-]+)(?: [A-Z0-9]+)?` \|", PAGE, re.MULTILINE)))
-        self.assertIn("--keep-overlaps", PAGE)
+        page = (rows.TOOLS.parent / "docs" / "ENTRIES.md").read_text(encoding="utf-8")
+        options = set(re.findall(r"^  (--[a-z-]+)", done.stdout, re.MULTILINE))
+        listed = set(re.findall(r"^\| `(--[a-z-]+)(?: [A-Z0-9]+)?` \|", page, re.MULTILINE))
+        self.assertLessEqual(listed, options)
+        self.assertEqual([option for option in sorted(options) if f"`{option}" not in page], [])
+        self.assertEqual(options - listed, {"--keep-overlaps", "--switches", "--tables", "--no-return", "--arch"})
 
 
 class JsonLines(unittest.TestCase):

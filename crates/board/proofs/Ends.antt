@@ -12,11 +12,11 @@ use mathlib.Core.Option.{some, some-injective, some-ne-none}
 use lib.ListN.{get_elem?}
 use Rattle.atomic_table.specs.Table.{opening, Final, Seen}
 use Rattle.atomic_table.proofs.Lists.{at_map, at_longer, at_last}
-use Rattle.turn_slots.specs.Share.{IsWhole}
-use Rattle.turn_slots.specs.declared.view.View.{View as TurnView}
-use Rattle.turn_slots.specs.TurnsId.{turn_word}
-use Rattle.turn_slots.specs.Rule as turns
-use Rattle.turn_slots.proofs.Steps as turn_steps
+use Rattle.board.specs.Locks.Share.{IsWhole}
+use Rattle.board.specs.Locks.TurnView.{TurnView}
+use Rattle.board.specs.Locks.Words.{turn_word}
+use Rattle.board.specs.Locks.Rule as turns
+use Rattle.board.proofs.Locks.Steps as turn_steps
 use Rattle.cfg_model.specs.Program.Instructions.{InstructionMap}
 use Rattle.cfg_model.specs.Builder.Fact.{Fact, Holds}
 use Rattle.cfg_model.specs.Builder.Kept as states

@@ -12,10 +12,10 @@ use mathlib.Core.Option.{some, none}
 use lib.ListN.{get_elem?}
 use Rattle.atomic_table.specs.Table.{State, Me, Act, step, keeps, Valid, stepped, carried_after, Allows}
 use Rattle.atomic_table.proofs.Lists.{set_again, exchanged}
-use Rattle.turn_slots.specs.declared.view.View.{View as TurnView}
-use Rattle.turn_slots.specs.TurnsId.{turn_word}
-use Rattle.turn_slots.specs.Rule as turns
-use Rattle.turn_slots.proofs.Touches.{sound_of, stands, alone}
+use Rattle.board.specs.Locks.TurnView.{TurnView}
+use Rattle.board.specs.Locks.Words.{turn_word}
+use Rattle.board.specs.Locks.Rule as turns
+use Rattle.board.proofs.Locks.Touches.{sound_of, stands, alone}
 use Rattle.cfg_model.specs.Program.Instructions.{InstructionMap, IsLawful}
 use Rattle.cfg_model.specs.Builder.Event.{Event, Steps}
 use Rattle.cfg_model.specs.Builder.Fact.{Fact, Holds}

@@ -9,13 +9,13 @@ use mathlib.Core.Option.{some, none}
 use lib.ListN.{get_elem?}
 use Rattle.atomic_table.specs.Table.{State, Me, step, takes, gives, stepped, rest, Allows, Splits, Joins}
 use Rattle.atomic_table.proofs.Lists.{set_else, set_here, at_snoc, at_map}
-use Rattle.turn_slots.specs.Share.{IsAboveZero}
-use Rattle.turn_slots.specs.declared.view.View.{View as TurnView}
-use Rattle.turn_slots.specs.TurnsId.{turn_word}
-use Rattle.turn_slots.specs.Rule as turns
-use Rattle.turn_slots.specs.Plays as turn_plays
-use Rattle.turn_slots.proofs.Steps as turn_steps
-use Rattle.turn_slots.proofs.Marks.{same_slot}
+use Rattle.board.specs.Locks.Share.{IsAboveZero}
+use Rattle.board.specs.Locks.TurnView.{TurnView}
+use Rattle.board.specs.Locks.Words.{turn_word}
+use Rattle.board.specs.Locks.Rule as turns
+use Rattle.board.specs.Locks.Plays as turn_plays
+use Rattle.board.proofs.Locks.Steps as turn_steps
+use Rattle.board.proofs.Locks.Marks.{same_slot}
 use Rattle.cfg_model.specs.Program.Instructions.{InstructionMap}
 use Rattle.cfg_model.specs.Builder.Fact.{Fact, Holds}
 use Rattle.cfg_model.specs.Builder.Shard.{only}

@@ -8,9 +8,9 @@ use mathlib.Core.Option.{some}
 use lib.ListN.{get_elem?}
 use Rattle.atomic_table.specs.Table.{State}
 use Rattle.atomic_table.proofs.Lists.{at_set, at_map}
-use Rattle.turn_slots.specs.declared.view.View.{View as TurnView}
-use Rattle.turn_slots.specs.TurnsId.{turn_word}
-use Rattle.turn_slots.specs.Rule as turns
+use Rattle.board.specs.Locks.TurnView.{TurnView}
+use Rattle.board.specs.Locks.Words.{turn_word}
+use Rattle.board.specs.Locks.Rule as turns
 use Rattle.cfg_model.specs.Program.Instructions.{InstructionMap}
 use Rattle.cfg_model.specs.Builder.Fact.{Fact, Holds}
 use Rattle.cfg_model.specs.Builder.Shard.{only}

@@ -1,17 +1,16 @@
 -- Proofs of the laws of a board.
-use Rattle.std.proofs.Common.{◌≡◌, ◌≢◌, ⊎_elim, ℕ, zero, suc, List, [], ◌∷◌, map, get_or, false, eqb, Option, Some, None, refl, sym, ap, ◌∙◌, subst}
+use Rattle.std.proofs.Common.{◌≡◌, ◌≢◌, ⊎_elim, ℕ, zero, suc, List, [], ◌∷◌, map, get_or, Bool, true, false, eqb, Option, Some, None, refl, sym, ap, ◌∙◌, subst}
 use Rattle.std.proofs.lemmas.Bool.{cases_eq}
 use mathlib.Core.Option.{some, some-injective, some-ne-none}
 use lib.ListN.{get_elem?}
 use Rattle.atomic_table.specs.Table.{Me, State}
-use Rattle.turn_slots.specs.Share.{Share, AddUpToOne}
-use Rattle.turn_slots.specs.declared.view.View.{View as TurnView}
-use Rattle.turn_slots.proofs.Touches.{sound_of, alone}
-use Rattle.turn_slots.proofs.TurnProofs.{in_each_case}
+use Rattle.board.specs.Locks.Share.{Share, AddUpToOne}
+use Rattle.board.specs.Locks.TurnView.{TurnView}
+use Rattle.board.proofs.Locks.Touches.{sound_of, alone}
 use Rattle.cfg_model.specs.Program.Instructions.{InstructionMap}
 use Rattle.board.specs.declared.view.View.{View}
 use Rattle.board.specs.declared.piece.Piece.{Piece}
-use Rattle.std.specs.Prelude.{IsSome}
+use Rattle.std.specs.Prelude.{IsSome, MatchBool}
 use Rattle.board.specs.Slots.{slot_of}
 use Rattle.board.specs.Seat.{Notes, SeatState, Values, HoldsNothing, HoldsShard, with_shard, without_shard}
 use Rattle.board.specs.Calls.{HeldShard}
@@ -22,6 +21,11 @@ use Rattle.board.proofs.Keeping.{fits, turn_read, turn_at}
 use Rattle.board.proofs.Steps.{marked}
 use Rattle.board.proofs.Ends.{nothing_held}
 use Rattle.board.proofs.Rounds.{set_twice, set_none, no_value}
+
+-- what follows from either case of a test
+in_each_case : {A B C D : Type 0} → (A → C) → (B → D) → (b : Bool) → MatchBool b A B → MatchBool b C D
+in_each_case f g true x = f x
+in_each_case f g false x = g x
 
 -- a seat as the laws of turns see it is one of the board
 seat_of : (views : List View) (id : ℕ) (u : TurnView) → get_elem? (map turn_of views) id ≡ some u → (v : View) × (get_elem? views id ≡ some v) × (turn_of v ≡ u)

@@ -1,3 +1,4 @@
+pub mod Locks
 pub mod Places
 pub mod Parts
 pub mod Keeping

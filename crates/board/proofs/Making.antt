@@ -3,7 +3,7 @@ use Rattle.std.proofs.Common.{◌≡◌, ℕ, List, [], ◌∷◌, get_or, set, 
 use Rattle.std.specs.Option.{option_map}
 use Rattle.std.proofs.lemmas.List.{set-get_or}
 use Rattle.atomic_table.specs.Table.{Me}
-use Rattle.turn_slots.specs.Share.{Share, IsAboveZero}
+use Rattle.board.specs.Locks.Share.{Share, IsAboveZero}
 use Rattle.cfg_model.specs.Program.Instructions.{InstructionMap}
 use Rattle.cfg_model.specs.Builder.Event.{Event, Steps}
 use Rattle.cfg_model.specs.Builder.Reason.{Reason}

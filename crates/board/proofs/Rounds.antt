@@ -6,7 +6,7 @@ use Rattle.std.proofs.lemmas.List.{get_or-set_same}
 use mathlib.Core.Logic.{inl, inr}
 use Rattle.atomic_table.specs.Table.{Me}
 use Rattle.atomic_table.specs.declared.shared.Seat.{Seat}
-use Rattle.turn_slots.specs.Share.{IsAboveZero}
+use Rattle.board.specs.Locks.Share.{IsAboveZero}
 use Rattle.cfg_model.specs.Program.Instructions.{InstructionMap}
 use Rattle.cfg_model.specs.Builder.Event.{Event}
 use Rattle.cfg_model.specs.Builder.Fact.{Fact, Holds, IsSoundFact}

@@ -3,7 +3,7 @@ use Rattle.std.proofs.Common.{◌≡◌, ℕ, ◌*◌, ◌^◌, ◌<◌, List, l
 use Rattle.std.proofs.lemmas.Nat.{pow_pos}
 use Rattle.std.proofs.Math.Nat.{mul-pos}
 use Rattle.atomic_table.specs.declared.shared.Seat.{Seat}
-use Rattle.turn_slots.specs.Share.{Share, both, IsAboveZero}
+use Rattle.board.specs.Locks.Share.{Share, both, IsAboveZero}
 use Rattle.cfg_model.specs.Program.Instructions.{InstructionMap}
 use Rattle.cfg_model.specs.Builder.Fact.{IsSoundFact}
 use Rattle.board.specs.declared.view.View.{View}

@@ -9,12 +9,12 @@ use mathlib.Core.Option.{some, none}
 use lib.ListN.{get_elem?}
 use Rattle.atomic_table.specs.Table.{State, Me, Act, step, keeps, takes, Valid, stepped, carried_after, Allows}
 use Rattle.atomic_table.proofs.Lists.{exchanged}
-use Rattle.turn_slots.specs.Share.{IsWhole, IsAboveZero}
-use Rattle.turn_slots.specs.declared.view.View.{View as TurnView}
-use Rattle.turn_slots.specs.TurnsId.{turn_word}
-use Rattle.turn_slots.specs.Rule as turns
-use Rattle.turn_slots.specs.Plays as turn_plays
-use Rattle.turn_slots.proofs.Steps as turn_steps
+use Rattle.board.specs.Locks.Share.{IsWhole, IsAboveZero}
+use Rattle.board.specs.Locks.TurnView.{TurnView}
+use Rattle.board.specs.Locks.Words.{turn_word}
+use Rattle.board.specs.Locks.Rule as turns
+use Rattle.board.specs.Locks.Plays as turn_plays
+use Rattle.board.proofs.Locks.Steps as turn_steps
 use Rattle.cfg_model.specs.Program.Instructions.{InstructionMap}
 use Rattle.cfg_model.specs.Builder.Shard.{only}
 use Rattle.board.specs.declared.view.View.{View}

@@ -4,8 +4,8 @@ use Rattle.std.specs.Prelude.{slice_index, slice_index_or, Option, Some, None}
 use mathlib.Core.Option.{some}
 use lib.ListN.{get_elem?}
 use Rattle.atomic_table.specs.Table.{Me, State, Step}
-use Rattle.turn_slots.specs.Share.{AddUpToOne}
-use Rattle.turn_slots.specs.TurnsId.{turn_word}
+use Rattle.board.specs.Locks.Share.{AddUpToOne}
+use Rattle.board.specs.Locks.Words.{turn_word}
 use Rattle.cfg_model.specs.Program.Instructions.{InstructionMap}
 use Rattle.cfg_model.specs.Builder.Fact.{Fact, Holds}
 use Rattle.cfg_model.specs.Builder.Kept as states

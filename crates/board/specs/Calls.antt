@@ -3,7 +3,7 @@ use Rattle.std.specs.Prelude.{◌≡◌, ◌↔◌, ◌<◌, ℕ, List, Result, 
 use Rattle.std.specs.Prelude.{Some, None, slice_index_or, refl}
 use Rattle.std.specs.FinMap as maps
 use Rattle.std.specs.Coded.{Coded, code_by, coded×}
-use Rattle.turn_slots.specs.Share.{IsWhole}
+use Rattle.board.specs.Locks.Share.{IsWhole}
 use Rattle.cfg_model.specs.Program.Instructions.{InstructionMap}
 use Rattle.cfg_model.specs.declared.state.Waiter.{Waiter}
 use Rattle.cfg_model.specs.Builder.Event.{Event, Steps, new_entry}

@@ -4,8 +4,8 @@ use Rattle.std.specs.Prelude.{◌≡◌, ℕ, ◌+◌, ◌∷◌, ◌==◌, Matc
 use Rattle.std.specs.Prelude.{slice_index_or, slice_set, Option, Some, None}
 use Rattle.std.specs.Option.{option_map}
 use Rattle.atomic_table.specs.Table.{Me, Step, rest}
-use Rattle.turn_slots.specs.Share.{nothing, IsWhole}
-use Rattle.turn_slots.specs.TurnsId.{turn_word}
+use Rattle.board.specs.Locks.Share.{nothing, IsWhole}
+use Rattle.board.specs.Locks.Words.{turn_word}
 use Rattle.cfg_model.specs.Program.Instructions.{InstructionMap}
 use Rattle.cfg_model.specs.Builder.Fact.{Fact, Holds}
 use Rattle.cfg_model.specs.Builder.Kept.{IsKept}

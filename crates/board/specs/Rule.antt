@@ -5,8 +5,8 @@ use Rattle.std.specs.Prelude.{Some, None, is_some, slice_index_or}
 use mathlib.Core.Option.{some}
 use lib.ListN.{get_elem?}
 use Rattle.atomic_table.specs.Table.{State}
-use Rattle.turn_slots.specs.declared.view.View.{View as TurnView}
-use Rattle.turn_slots.specs.Rule as turns
+use Rattle.board.specs.Locks.TurnView.{TurnView}
+use Rattle.board.specs.Locks.Rule as turns
 use Rattle.cfg_model.specs.Program.Instructions.{InstructionMap}
 use Rattle.cfg_model.specs.Builder.Fact.{Fact, Holds}
 use Rattle.cfg_model.specs.Builder.Kept as states

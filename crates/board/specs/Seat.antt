@@ -4,7 +4,7 @@ use Rattle.std.specs.Prelude.{IsSome, slice_set, slice_index, slice_index_or, re
 use Rattle.std.specs.Option.{option_map_or}
 use Rattle.std.specs.Coded.{Coded, code_by, coded×, coded_ℕ, coded_list, coded_option}
 use Rattle.atomic_table.specs.Seated.{table_id_coded}
-use Rattle.turn_slots.specs.Share.{Share, whole, half, both, share_coded}
+use Rattle.board.specs.Locks.Share.{Share, whole, half, both, share_coded}
 use Rattle.cfg_model.specs.Program.Instructions.{InstructionMap}
 use Rattle.cfg_model.specs.Builder.Codes.{coded_state}
 use Rattle.cfg_model.specs.Builder.Fact.{Fact, Holds}

@@ -1,6 +1,6 @@
 //! Holding a shard for a while.
 ghost use Rattle.std.specs.Prelude.{◌≡◌, ◌↔◌, ◌<◌, Some, IfOk, IfErr};
-ghost use Rattle.turn_slots.specs.Share.{IsWhole};
+ghost use Rattle.board.specs.Locks.Share.{IsWhole};
 ghost use Rattle.board.specs.Slots.{shard_at, slot_of};
 ghost use Rattle.board.specs.Seat.{HoldsShard, lost_of, with_shard, without_shard};
 ghost use Rattle.board.specs.Calls.{AnswersBusy, IsBusyShard, IsHeldBy, IsPartOfKept, KnowsTruth};

@@ -1,6 +1,6 @@
 //! What one thread makes changes with.
 ghost use Rattle.std.specs.Prelude.{◌≡◌};
-ghost use Rattle.turn_slots.specs.Share.{IsAboveZero};
+ghost use Rattle.board.specs.Locks.Share.{IsAboveZero};
 ghost use Rattle.core_state.specs.Place.{Remembers};
 ghost use Rattle.board.specs.Seat.{HoldsNothing, Knows, with_half, newcomer, with_both};
 ghost use Rattle.board.specs.Calls.{KnowsTruth};

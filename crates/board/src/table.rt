@@ -1,7 +1,7 @@
 //! The board that threads share.
 ghost use Rattle.std.specs.Prelude.{◌≡◌, ◌≤◌, ◌<◌, ℕ, [], vec_len, vec_capacity, IfOk, replicate};
 ghost use Rattle.std.specs.Mem.Slots.{slots_items, slots_len, IsFull};
-ghost use Rattle.turn_slots.specs.Share.{IsWhole};
+ghost use Rattle.board.specs.Locks.Share.{IsWhole};
 ghost use Rattle.cfg_model.specs.Program.Reach.{AreSeeds};
 ghost use Rattle.cfg_model.specs.Builder.Fact.{Fact, Holds};
 ghost use Rattle.cfg_model.specs.Builder.Kept.{IsKept};

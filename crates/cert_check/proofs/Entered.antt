@@ -6,6 +6,7 @@ use Rattle.cfg_model.specs.declared.graph.Edge.{Edge}
 use Rattle.cfg_model.specs.declared.graph.EdgeKind.{EdgeKind}
 use Rattle.cfg_model.specs.Program.Instructions.{InstructionMap, IsLawful}
 use Rattle.cfg_model.specs.Program.Chain.{GoesOnTo}
+use Rattle.cfg_model.specs.Program.Successors.{Calls}
 use Rattle.cfg_model.specs.Graph.Edge.{LeadsTo}
 use Rattle.cfg_model.proofs.Graphs.OneBlock.{straight_once}
 use Rattle.cert_text.specs.declared.lines.LeadLine.{LeadLine}
@@ -53,6 +54,7 @@ straight_to (LeadsTo.call h) goes = cc
 straight_to (LeadsTo.after_indirect h) goes = cc
 straight_to (LeadsTo.after_call h back) goes = cc
 straight_to (LeadsTo.table h c) goes = cc
+straight_to (LeadsTo.landing calls c) goes = absurd (subst Calls goes calls)
 
 module _ (map : InstructionMap) (number : ℕ → ℕ) (part : Part) (blocks : Blocks) (edges : List Edge) (lawful : IsLawful map) (leads : AreLeads map part.leads)
     (are : AreBlocks map number part.leads blocks) (ways : AreWays map part.leads part.returns edges) where

@@ -8,5 +8,4 @@ pub mod Searched
 pub mod Decided
 pub mod Outlined
 pub mod Entered
-pub mod TablesFound
 pub mod Checked

@@ -22,6 +22,7 @@ use Rattle.cert_text.specs.declared.lines.LeadLine.{LeadLine}
 use Rattle.cert_laws.specs.Lines.{IsLead, IsReturn}
 use Rattle.cert_laws.specs.Ways.{EndsIn, LeadsOn}
 use Rattle.cert_ends.specs.Places.{IsPlace}
+use Rattle.cfg_model.proofs.Program.Landing.{landing_follows, may_land}
 use Rattle.cert_ends.proofs.Placed.{lead_at, no_lead, one_address, place_at, place_of_lead}
 use Rattle.cert_check.specs.declared.blocks.Run.{Run}
 use Rattle.cert_check.specs.Inner.Blocks.{AreRuns, IsRun}
@@ -38,9 +39,10 @@ led_on map Among (LeadsTo.not_taken {k = k} {to = to} {taken = taken} h) ends = 
 led_on map Among (LeadsTo.taken {k = k} {to = to} {fall = fall} h) ends = by_successor map Among k to (Branch (Some to) fall) h (Contains-append_left (to ∷ []) (option_to_list fall) to (head_in to []))
 led_on map Among (LeadsTo.jump {k = k} {to = to} h) ends = by_successor map Among k to (Jump to) h (head_in to [])
 led_on map Among (LeadsTo.call {k = k} {to = to} {fall = fall} h) ends = LeadsOn.sent (IsTarget.called h)
-led_on map Among (LeadsTo.after_indirect {k = k} {to = to} h) ends = by_successor map Among k to (IndirectCall (Some to)) h (head_in to [])
+led_on map Among (LeadsTo.after_indirect {k = k} {to = to} h) ends = by_successor map Among k to (IndirectCall (Some to)) h (Contains-append_left (to ∷ []) (targets_at map k) to (head_in to []))
 led_on map Among (LeadsTo.after_call {k = k} {target = target} {to = to} h back) ends = LeadsOn.past_call h back
 led_on map Among (LeadsTo.table {k = k} {to = to} {entries = entries} {full = full} {is_open = is_open} h c) ends = by_successor map Among k to (Table entries full is_open) h c
+led_on map Among (LeadsTo.landing {k = k} {to = to} calls c) ends = LeadsOn.sent (IsTarget.onward (landing_follows map k to calls c))
 
 -- and back
 pub record SomeWay (map : InstructionMap) (Among : ℕ → Type 0) (k to : ℕ) : Type 0 where
@@ -68,8 +70,11 @@ of_successor map Among k to (Some (Jump target)) e c = elim (in_cases target [] 
   | inl same ↦ record { kind = kinds.Jump; leads_to = LeadsTo.jump (e ∙ ap (λ z. Some (Jump z)) same) }
   | inr none ↦ absurd (none_in to none)
 ]
-of_successor map Among k to (Some (Call target fall)) e c = absurd (none_in to c)
-of_successor map Among k to (Some (IndirectCall fall)) e c = record { kind = kinds.After; leads_to = LeadsTo.after_indirect (e ∙ ap (λ (o : Option ℕ). Some (IndirectCall o)) (some_of fall to c)) }
+of_successor map Among k to (Some (Call target fall)) e c = record { kind = kinds.Landing; leads_to = LeadsTo.landing (may_land map k (Call target fall) e tt) c }
+of_successor map Among k to (Some (IndirectCall fall)) e c = elim (Contains-append_cases (option_to_list fall) (targets_at map k) to c) [
+  | inl falls ↦ record { kind = kinds.After; leads_to = LeadsTo.after_indirect (e ∙ ap (λ (o : Option ℕ). Some (IndirectCall o)) (some_of fall to falls)) }
+  | inr lands ↦ record { kind = kinds.Landing; leads_to = LeadsTo.landing (may_land map k (IndirectCall fall) e tt) lands }
+]
 of_successor map Among k to (Some (Table entries full is_open)) e c = record { kind = kinds.Table; leads_to = LeadsTo.table e c }
 of_successor map Among k to (Some Return) e c = absurd (none_in to c)
 of_successor map Among k to (Some Unknown) e c = absurd (none_in to c)

@@ -4,4 +4,3 @@ pub mod Ways
 pub mod Reasons
 pub mod Right
 pub mod Outlined
-pub mod File

@@ -15,8 +15,6 @@
 //! Of a file:
 //!
 //! - [`check`]: whether a certificate of a file is valid, and then the graph of the file.
-//! - `tables`: the jump tables that its first part reaches, and how they cut one another.
-//! - `last_part`: the graph that its last part tells.
 //! - `error`: why there is no graph.
 #![tactic(auto)]
 
@@ -28,16 +26,14 @@ mod error;
 pub mod graph;
 mod jumps;
 pub mod known;
-mod last_part;
 mod leads;
 mod outline;
 mod owners;
 pub mod part;
-mod tables;
 
 pub use cfg_model::Memory;
 pub use checker::check;
 pub use error::CheckError;
 pub use graph::{graph_of_outline, graph_of_part};
 pub use known::{are_in_code, seeds_lead};
-pub use part::{outline_of_part, part_is_valid};
+pub use part::outline_of_part;

@@ -27,26 +27,9 @@ use cfg_model::{Chains, Edge, Edges, Memory, Outline};
 use numbered::Numbered;
 use std::alloc::Global;
 
-/// Whether a part of a certificate is valid for the program `code`, whose seeds are these: each line
-/// has a reason by lines of lower rank, and no line is missing. Nothing is asked of the part or the
-/// seeds. [`Memory`], time and memory as of [`outline_of_part`].
-pub fn part_is_valid<C: Numbered>(
-    alloc: Global,
-    code: &C,
-    seeds: &[u64],
-    part: &Part,
-) -> Result<bool, Memory>
-    ensures { IfOk result (λ b. IsTrue b ↔ IsValid (C.map code.now) seeds.now part.now) }
-{
-    match outline_of_part(alloc, code, seeds, part)? {
-        Some(_) => Ok(true),
-        None => Ok(false),
-    }
-}
-
 /// The blocks and edges of the program `code`, whose seeds are these, if the part of a certificate is
-/// valid for it; `None` exactly if it is not. Nothing is asked of the part or the seeds. [`Memory`]
-/// if memory ran out.
+/// valid for it: each line has a reason by lines of lower rank, and no line is missing. `None` exactly
+/// if it is not. Nothing is asked of the part or the seeds. [`Memory`] if memory ran out.
 ///
 /// Time: O(bytes of code + n · log n), where n counts the lines, the seeds, and the addresses that
 /// the ends of the leaders' chains name or have in their jump tables. Each address of code is walked

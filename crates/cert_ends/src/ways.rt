@@ -26,14 +26,13 @@ pub fn find_successors<C: Chains>(
         Flow::Straight { next } => put(Some(next), None, successors),
         Flow::Branch { taken, fall } => put(taken, fall, successors),
         Flow::Jump { target } => put(Some(target), None, successors),
-        Flow::IndirectCall { fall } => put(None, fall, successors),
+        Flow::IndirectCall { fall } => put(fall, code.landing(k), successors),
+        Flow::Call { .. } => put(None, code.landing(k), successors),
         Flow::Table { .. } => {
             *successors = code.targets(k)?;
             Ok(())
         }
-        Flow::Call { .. } | Flow::Return | Flow::Unknown | Flow::Stop => put(
-            None, None, successors,
-        ),
+        Flow::Return | Flow::Unknown | Flow::Stop => put(None, None, successors),
     }
 }
 

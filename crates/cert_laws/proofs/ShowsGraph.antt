@@ -15,6 +15,7 @@ use Rattle.cfg_model.specs.Graph.Block.{RunsTo}
 use Rattle.cfg_model.specs.Builder.Waits.{IsTarget}
 use Rattle.cfg_model.specs.Builder.Fact.{IsReachedTerminator}
 use Rattle.cfg_model.proofs.Program.Listed.{none_in, in_cases, head_in}
+use Rattle.cfg_model.proofs.Program.Landing.{landing_follows, may_land}
 use Rattle.cfg_model.proofs.Program.Along.{next_is_successor, returns_along}
 use Rattle.cfg_model.proofs.Program.ChainFacts.{chain_up, chain_on, one_next, goes_up}
 use Rattle.cfg_model.proofs.Program.ChainEnds.{goes_towards, one_end}
@@ -87,12 +88,12 @@ sent_to map k to (Branch taken fall) e c = by_flow map k to (Branch taken fall) 
 sent_to map k to (Jump target) e c = by_flow map k to (Jump target) e tt c
 sent_to map k to (Call target fall) e c = record {
   ends = call_ends map k target fall e;
-  target = elim (in_cases target [] to c) [
+  target = elim (in_cases target (targets_at map k) to c) [
     | inl same ↦ subst (λ z. IsTarget map k z) same (IsTarget.called e)
-    | inr none ↦ absurd (none_in to none)
+    | inr lands ↦ IsTarget.onward (landing_follows map k to (may_land map k (Call target fall) e tt) lands)
   ];
 }
-sent_to map k to (IndirectCall fall) e c = absurd (none_in to c)
+sent_to map k to (IndirectCall fall) e c = by_flow map k to (IndirectCall fall) e tt (Contains-append_right (option_to_list fall) (targets_at map k) to c)
 sent_to map k to (Table entries full is_open) e c = by_flow map k to (Table entries full is_open) e tt c
 sent_to map k to Return e c = absurd (none_in to c)
 sent_to map k to Unknown e c = absurd (none_in to c)
@@ -109,7 +110,7 @@ falls_to map k to (Straight next) e f = absurd (no_fall to f)
 falls_to map k to (Branch taken fall) e f = by_flow map k to (Branch taken fall) e tt (Contains-append_right (option_to_list taken) (option_to_list fall) to (in_list fall to f))
 falls_to map k to (Jump target) e f = absurd (no_fall to f)
 falls_to map k to (Call target fall) e f = absurd (no_fall to f)
-falls_to map k to (IndirectCall fall) e f = by_flow map k to (IndirectCall fall) e tt (in_list fall to f)
+falls_to map k to (IndirectCall fall) e f = by_flow map k to (IndirectCall fall) e tt (Contains-append_left (option_to_list fall) (targets_at map k) to (in_list fall to f))
 falls_to map k to (Table entries full is_open) e f = absurd (no_fall to f)
 falls_to map k to Return e f = absurd (no_fall to f)
 falls_to map k to Unknown e f = absurd (no_fall to f)
@@ -321,13 +322,6 @@ module _ (map : InstructionMap) (seeds : List ℕ) (part : Part) (lawful : IsLaw
       let over = covered reached.reached in
       let found = return_complete back over.0 over.1 over.2 in
       subst (IsReturn part.returns) (one_end map over.0 found.end k found.ends (record { reaches = over.2; ends = reached.ends })) found.among
-
-  -- a terminator is reached exactly if it is the end of a listed leader
-  pub reached_ends : (k : ℕ) → IsTerminator map k → IsListedEnd map part.leads k ↔ Reached map seeds k
-  reached_ends k ends = (
-    λ h. reached_along (lead_sound h.lead h.listed).reached h.ends.reaches,
-    λ r. let over = covered r in end_at over.0 k over.1 over.2 ends,
-  )
 
   shows : ShowsLines map seeds part
   shows = record {

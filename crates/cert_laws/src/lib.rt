@@ -7,21 +7,16 @@
 //! - `specs/Valid`: a valid part.
 //! - `specs/Shown`: what a part shows: the leaders and the terminators that return.
 //! - `specs/Told`: the blocks and edges that the lines of a part tell.
-//! - `specs/Certificate`: a valid certificate of one or two parts, if the program has jump tables, and
-//!   what it shows besides: the table cuts.
 //!
 //! Of a file, whose program, jump tables and seeds these are:
 //!
 //! - `specs/FileCertificate`: a valid certificate of a file.
-//! - `specs/FileShown`: what is shown: the cuts of the file's jump tables, and the leaders and returns
-//!   of its program under them.
+//! - `specs/FileShown`: what is shown: the leaders and returns of its program under the cuts of its
+//!   jump tables.
 //!
 //! - [`laws`]: a valid part and a valid certificate show these, whoever made them.
 #![tactic(auto)]
 
 pub mod laws;
 
-pub use laws::{
-    a_valid_certificate_shows_the_file, a_valid_certificate_shows_the_program,
-    a_valid_part_shows_the_graph,
-};
+pub use laws::{a_valid_certificate_shows_the_file, a_valid_part_shows_the_graph};

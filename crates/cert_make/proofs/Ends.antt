@@ -12,6 +12,7 @@ use Rattle.cfg_model.specs.Graph.Leader.{targets_by, fall_by}
 use Rattle.std.proofs.lemmas.List.Elements.{Contains-append_left, Contains-append_right}
 use Rattle.cfg_model.proofs.Program.Listed.{none_in, in_cases, head_in}
 use Rattle.cfg_model.proofs.Program.Known.{successor_from_flow}
+use Rattle.cfg_model.proofs.Program.Landing.{landing_follows, may_land}
 
 -- a flow that leaves the function ends the chain
 pub leaves_ends : (o : Option Flow) → LeavesFunction o → EndsChain o
@@ -85,11 +86,11 @@ target_is map k a (Straight next) is among = absurd (none_in a among)
 target_is map k a (Branch taken fall) is among = IsTarget.onward (successor_from_flow map k (Branch taken fall) is a (Contains-append_left (option_to_list taken) (option_to_list fall) a among))
 target_is map k a (Jump target) is among = IsTarget.onward (successor_from_flow map k (Jump target) is a among)
 target_is map k a (Call target fall) is among =
-    elim (in_cases target [] a among) [
+    elim (in_cases target (targets_at map k) a among) [
       | inl same ↦ IsTarget.called (subst (λ (x : ℕ). IsCall map k x fall) same is)
-      | inr none ↦ absurd (none_in a none)
+      | inr lands ↦ IsTarget.onward (landing_follows map k a (may_land map k (Call target fall) is tt) lands)
     ]
-target_is map k a (IndirectCall fall) is among = absurd (none_in a among)
+target_is map k a (IndirectCall fall) is among = IsTarget.onward (landing_follows map k a (may_land map k (IndirectCall fall) is tt) among)
 target_is map k a (Table entries full is_open) is among = IsTarget.onward (successor_from_flow map k (Table entries full is_open) is a among)
 target_is map k a Return is among = absurd (none_in a among)
 target_is map k a Unknown is among = absurd (none_in a among)
@@ -103,7 +104,7 @@ fall_is map k a (Straight next) is falls = absurd cc
 fall_is map k a (Branch taken fall) is falls = IsTarget.onward (successor_from_flow map k (Branch taken fall) is a (Contains-append_right (option_to_list taken) (option_to_list fall) a (there fall a falls)))
 fall_is map k a (Jump target) is falls = absurd cc
 fall_is map k a (Call target fall) is falls = absurd cc
-fall_is map k a (IndirectCall fall) is falls = IsTarget.onward (successor_from_flow map k (IndirectCall fall) is a (there fall a falls))
+fall_is map k a (IndirectCall fall) is falls = IsTarget.onward (successor_from_flow map k (IndirectCall fall) is a (Contains-append_left (option_to_list fall) (targets_at map k) a (there fall a falls)))
 fall_is map k a (Table entries full is_open) is falls = absurd cc
 fall_is map k a Return is falls = absurd cc
 fall_is map k a Unknown is falls = absurd cc

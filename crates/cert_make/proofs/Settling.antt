@@ -7,17 +7,16 @@ use Rattle.cert_text.specs.declared.lines.ReturnWhy.{ReturnWhy}
 use Rattle.cert_text.specs.declared.lines.ReturnWhy.TheVariants.{Itself, To, CallBoth}
 use Rattle.cfg_model.specs.declared.flow.Flow.{Flow}
 use Rattle.cfg_model.specs.declared.flow.Flow.TheVariants.{Call}
-use Rattle.cfg_model.specs.Program.Instructions.{InstructionMap, targets_at}
+use Rattle.cfg_model.specs.Program.Instructions.{InstructionMap, flow_at}
 use Rattle.cfg_model.specs.Program.Chain.{IsTerminatorOf}
-use Rattle.cfg_model.specs.Program.Successors.{successors_of, successors_of_flow, IsSuccessor, IsCall, LeavesFunction, ReturnsByItself}
+use Rattle.cfg_model.specs.Program.Successors.{successors_of, IsCall, ReturnsByItself}
 use Rattle.cfg_model.proofs.Program.ChainEnds.{one_end}
-use Rattle.cfg_model.proofs.Program.Listed.{none_in}
 use Rattle.outline_funcs.proofs.Search.{one_by_key}
 use Rattle.cert_laws.specs.Lines.{IsReturn, IsReturnBelow}
 use Rattle.cert_ends.specs.Places.{ReturnsRise}
 use Rattle.cert_make.specs.Reason.{ReturnsFor}
 use Rattle.cert_make.specs.First.{ReturnWhyBefore}
-use Rattle.cert_make.specs.Inner.Returns.{EndIsBelow, EndHasRank, EndHasNone, ComesAfter, HasNoReason, IsNotAfter, IsNearest, IsSettledReturn}
+use Rattle.cert_make.specs.Inner.Returns.{CallHasNone, CallHasRank, EndIsBelow, EndHasRank, EndHasNone, ComesAfter, HasNoReason, IsNotAfter, IsNearest, IsSettledReturn}
 
 -- ---- the rank at the end of a chain
 
@@ -62,69 +61,69 @@ settled_by_itself map lines k leaves = record {
 
 -- ---- a call
 
-no_leave : (map : InstructionMap) (k target : ℕ) (fall : Option ℕ) → IsCall map k target fall → ReturnsByItself map k → ⊥
-no_leave map k target fall call leaves = subst LeavesFunction call leaves
-
-no_way : (map : InstructionMap) (k target : ℕ) (fall : Option ℕ) → IsCall map k target fall → (a : ℕ) → IsSuccessor map k a → ⊥
-no_way map k target fall call a way = none_in a (subst (λ (o : Option Flow). Contains (successors_of_flow (targets_at map k) o) a) call way)
-
 same_target : (map : InstructionMap) (k target other : ℕ) (fall more : Option ℕ) → IsCall map k target fall → IsCall map k other more → other ≡ target
 same_target map k target other fall more one two = let e : Some (Call other more) ≡ Some (Call target fall) = sym two ∙ one in cc
 
 same_fall : (map : InstructionMap) (k target other fall more : ℕ) → IsCall map k target (Some fall) → IsCall map k other (Some more) → more ≡ fall
 same_fall map k target other fall more one two = let e : Some (Call other (Some more)) ≡ Some (Call target (Some fall)) = sym two ∙ one in cc
 
--- a call has no reason if it does not come back
-pub no_fall : (map : InstructionMap) (lines : List ReturnLine) (k target : ℕ) → IsCall map k target None → HasNoReason map lines k
-no_fall map lines k target call rank Itself reason = no_leave map k target None call reason
-no_fall map lines k target call rank (To to) reason = no_way map k target None call to reason.0
-no_fall map lines k target call rank CallBoth reason = let e : Some (Call reason.0 (Some reason.1)) ≡ Some (Call target None) = sym reason.2 ∙ call in cc
+-- what is no call, and a call that does not come back
+pub no_call : (map : InstructionMap) (lines : List ReturnLine) (k : ℕ) (flow : Flow) → flow_at map k ≡ Some flow → ((target : ℕ) (fall : Option ℕ) → flow ≡ Call target fall → ⊥) → CallHasNone map lines k
+no_call map lines k flow at none other reason = none reason.0 (Some reason.1) (same flow (Call reason.0 (Some reason.1)) (sym at ∙ reason.2))
+  where
+    same : (f g : Flow) → Some f ≡ Some g → f ≡ g
+    same f g e = cc
+
+pub no_fall : (map : InstructionMap) (lines : List ReturnLine) (k target : ℕ) → IsCall map k target None → CallHasNone map lines k
+no_fall map lines k target call other reason = let e : Some (Call reason.0 (Some reason.1)) ≡ Some (Call target None) = sym reason.2 ∙ call in cc
 
 module _ (map : InstructionMap) (lines : List ReturnLine) (k target fall : ℕ) (call : IsCall map k target (Some fall)) where
-  no_reason : ((rank : ℕ) → EndIsBelow map lines rank target → EndIsBelow map lines rank fall → ⊥) → HasNoReason map lines k
-  no_reason none rank Itself reason = no_leave map k target (Some fall) call reason
-  no_reason none rank (To to) reason = no_way map k target (Some fall) call to reason.0
-  no_reason none rank CallBoth reason =
+  ways_below : (rank : ℕ) → ReturnsFor map (IsReturnBelow lines rank) k CallBoth → EndIsBelow map lines rank target × EndIsBelow map lines rank fall
+  ways_below rank reason =
       let to : reason.0 ≡ target = same_target map k target reason.0 (Some fall) (Some reason.1) call reason.2 in
       let back : reason.1 ≡ fall = same_fall map k target reason.0 fall reason.1 call reason.2 in
-      none rank (subst (EndIsBelow map lines rank) to reason.3) (subst (EndIsBelow map lines rank) back reason.4)
+      (subst (EndIsBelow map lines rank) to reason.3, subst (EndIsBelow map lines rank) back reason.4)
 
-  pub no_target : EndHasNone map lines target → HasNoReason map lines k
-  no_target none = no_reason (λ rank one other. none rank one)
+  pub no_target : EndHasNone map lines target → CallHasNone map lines k
+  no_target none other reason = none other (ways_below other reason).0
 
-  pub no_return_after : EndHasNone map lines fall → HasNoReason map lines k
-  no_return_after none = no_reason (λ rank one other. none rank other)
+  pub no_return_after : EndHasNone map lines fall → CallHasNone map lines k
+  no_return_after none other reason = none other (ways_below other reason).1
 
-module _ (map : InstructionMap) (lines : List ReturnLine) (k target fall one other : ℕ)
-    (call : IsCall map k target (Some fall)) (first : EndHasRank map lines one target) (second : EndHasRank map lines other fall) where
-  both_above : (rank : ℕ) (why : ReturnWhy) → ReturnsFor map (IsReturnBelow lines rank) k why → (why ≡ CallBoth) × (one < rank) × (other < rank)
-  both_above rank Itself reason = absurd (no_leave map k target (Some fall) call reason)
-  both_above rank (To to) reason = absurd (no_way map k target (Some fall) call to reason.0)
-  both_above rank CallBoth reason =
-      let to : reason.0 ≡ target = same_target map k target reason.0 (Some fall) (Some reason.1) call reason.2 in
-      let back : reason.1 ≡ fall = same_fall map k target reason.0 fall reason.1 call reason.2 in
-      (refl, (first rank).0 (subst (EndIsBelow map lines rank) to reason.3), (second rank).0 (subst (EndIsBelow map lines rank) back reason.4))
+  pub call_rank : (one other most : ℕ) → EndHasRank map lines one target → EndHasRank map lines other fall → one ≤ most → other ≤ most
+      → ((more : ℕ) → one < more → other < more → most < more) → CallHasRank map lines most k
+  call_rank one other most first second over also least more = (
+    λ reason. let ways = ways_below more reason in least more ((first more).0 ways.0) ((second more).0 ways.1),
+    λ lt. (target, fall, call, (first more).1 (omega arith), (second more).1 (omega arith)),
+  )
 
-  none_before_both : (rank : ℕ) (why : ReturnWhy) → ReturnsFor map (IsReturnBelow lines rank) k why → ReturnWhyBefore why CallBoth → ⊥
-  none_before_both rank Itself reason before = absurd (no_leave map k target (Some fall) call reason)
-  none_before_both rank (To to) reason before = absurd (no_way map k target (Some fall) call to reason.0)
-  none_before_both rank CallBoth reason before = before
+-- ---- one that does not return by itself
 
-  pub settled_by_call : (rank : ℕ) → one < rank → other < rank → ((more : ℕ) → one < more → other < more → rank ≤ more) → IsSettledReturn map lines (line_of k rank CallBoth)
-  settled_by_call rank above also least = record {
-    why = record { fits = (target, fall, call, (first rank).1 above, (second rank).1 also); first = none_before_both rank };
-    least = λ more why lt reason. let both = both_above more why reason in let le : rank ≤ more = least more both.1 both.2 in omega arith;
+module _ (map : InstructionMap) (lines : List ReturnLine) (k rank : ℕ) (stays : ReturnsByItself map k → ⊥) (both : CallHasRank map lines rank k)
+    (later : (more to : ℕ) → ReturnsFor map (IsReturnBelow lines more) k (To to) → rank + 1 < more) where
+  both_above : (more : ℕ) (why : ReturnWhy) → ReturnsFor map (IsReturnBelow lines more) k why → rank < more
+  both_above more Itself reason = absurd (stays reason)
+  both_above more (To to) reason = let after : rank + 1 < more = later more to reason in omega arith
+  both_above more CallBoth reason = (both more).0 reason
+
+  none_before_both : (why : ReturnWhy) → ReturnsFor map (IsReturnBelow lines (rank + 1)) k why → ReturnWhyBefore why CallBoth → ⊥
+  none_before_both Itself reason before = stays reason
+  none_before_both (To to) reason before = let after : rank + 1 < rank + 1 = later (rank + 1) to reason in omega arith
+  none_before_both CallBoth reason before = before
+
+  settled_by_both : IsSettledReturn map lines (line_of k (rank + 1) CallBoth)
+  settled_by_both = record {
+    why = record { fits = (both (rank + 1)).1 (omega arith); first = none_before_both };
+    least = λ more why lt reason. let above : rank < more = both_above more why reason in omega arith;
   }
 
--- ---- one with successors
-
 module _ (map : InstructionMap) (lines : List ReturnLine) (k rank to : ℕ)
-    (stays : ReturnsByItself map k → ⊥) (no_call : (target : ℕ) (fall : Option ℕ) → IsCall map k target fall → ⊥)
+    (stays : ReturnsByItself map k → ⊥) (later : (more : ℕ) → ReturnsFor map (IsReturnBelow lines more) k CallBoth → rank < more)
     (near : IsNearest map lines (successors_of map k) rank to) where
   to_above : (more : ℕ) (why : ReturnWhy) → ReturnsFor map (IsReturnBelow lines more) k why → rank < more
   to_above more Itself reason = absurd (stays reason)
   to_above more (To other) reason = (All-contains (ComesAfter map lines rank to) (successors_of map k) other near.first reason.0 more reason.1).0
-  to_above more CallBoth reason = absurd (no_call reason.0 (Some reason.1) reason.2)
+  to_above more CallBoth reason = later more reason
 
   none_before_to : (why : ReturnWhy) → ReturnsFor map (IsReturnBelow lines (rank + 1)) k why → ReturnWhyBefore why (To to) → ⊥
   none_before_to Itself reason before = absurd (stays reason)
@@ -133,18 +132,33 @@ module _ (map : InstructionMap) (lines : List ReturnLine) (k rank to : ℕ)
       omega arith
   none_before_to CallBoth reason before = before
 
-  pub settled_by_way : IsSettledReturn map lines (line_of k (rank + 1) (To to))
+  settled_by_way : IsSettledReturn map lines (line_of k (rank + 1) (To to))
   settled_by_way = record {
     why = record { fits = (near.listed, (near.has (rank + 1)).1 (omega arith)); first = none_before_to };
     least = λ more why lt reason. let above : rank < more = to_above more why reason in omega arith;
   }
 
--- one of which no successor returns has no reason
-pub no_successor : (map : InstructionMap) (lines : List ReturnLine) (k : ℕ) (xs : List ℕ) → xs ≡ successors_of map k → (ReturnsByItself map k → ⊥) → ((target : ℕ) (fall : Option ℕ) → IsCall map k target fall → ⊥) → All (EndHasNone map lines) xs → HasNoReason map lines k
-no_successor map lines k xs are stays no_call none rank Itself reason = stays reason
-no_successor map lines k xs are stays no_call none rank (To to) reason =
+-- one that returns neither by a successor nor as a call has no reason
+pub no_successor : (map : InstructionMap) (lines : List ReturnLine) (k : ℕ) (xs : List ℕ) → xs ≡ successors_of map k → (ReturnsByItself map k → ⊥) → CallHasNone map lines k → All (EndHasNone map lines) xs → HasNoReason map lines k
+no_successor map lines k xs are stays none_both none rank Itself reason = stays reason
+no_successor map lines k xs are stays none_both none rank (To to) reason =
     All-contains (EndHasNone map lines) xs to none (subst (λ (ys : List ℕ). Contains ys to) (sym are) reason.0) rank reason.1
-no_successor map lines k xs are stays no_call none rank CallBoth reason = no_call reason.0 (Some reason.1) reason.2
+no_successor map lines k xs are stays none_both none rank CallBoth reason = none_both rank reason
+
+-- a call of which no successor returns, or none with a lower rank
+pub both_alone : (map : InstructionMap) (lines : List ReturnLine) (k rank : ℕ) (xs : List ℕ) → xs ≡ successors_of map k → (ReturnsByItself map k → ⊥) → CallHasRank map lines rank k → All (EndHasNone map lines) xs
+    → IsSettledReturn map lines (line_of k (rank + 1) CallBoth)
+both_alone map lines k rank xs are stays both none =
+    settled_by_both map lines k rank stays both
+    (λ more to reason. absurd (All-contains (EndHasNone map lines) xs to none (subst (λ (ys : List ℕ). Contains ys to) (sym are) reason.0) more reason.1))
+
+pub both_nearer : (map : InstructionMap) (lines : List ReturnLine) (k rank more to : ℕ) (xs : List ℕ) → xs ≡ successors_of map k → (ReturnsByItself map k → ⊥) → CallHasRank map lines rank k → IsNearest map lines xs more to → rank < more
+    → IsSettledReturn map lines (line_of k (rank + 1) CallBoth)
+both_nearer map lines k rank more to xs are stays both near lower =
+    settled_by_both map lines k rank stays both
+    (λ other way reason.
+    let after : more < other = (All-contains (ComesAfter map lines more to) xs way near.first (subst (λ (ys : List ℕ). Contains ys way) (sym are) reason.0) other reason.1).0 in
+    omega arith)
 
 -- ---- the nearest of some addresses
 
@@ -198,7 +212,18 @@ nearest_old map lines xs x rank old to near has nearer = record {
   first = All-push (ComesAfter map lines old to) xs x near.first (after_nearer map lines old to rank x x nearer (after_itself map lines rank x has));
 }
 
-pub settled_by_first : (map : InstructionMap) (lines : List ReturnLine) (k rank more to : ℕ) (xs : List ℕ) → xs ≡ successors_of map k → (ReturnsByItself map k → ⊥) → ((target : ℕ) (fall : Option ℕ) → IsCall map k target fall → ⊥) → IsNearest map lines xs rank to → more ≡ rank + 1 → IsSettledReturn map lines (line_of k more (To to))
-settled_by_first map lines k rank more to xs are stays no_call near is =
-    let there : IsNearest map lines (successors_of map k) rank to = subst (λ (ys : List ℕ). IsNearest map lines ys rank to) are near in
-    subst (λ (r : ℕ). IsSettledReturn map lines (line_of k r (To to))) (sym is) (settled_by_way map lines k rank to stays no_call there)
+settled_by_nearest : (map : InstructionMap) (lines : List ReturnLine) (k rank to : ℕ) (xs : List ℕ) → xs ≡ successors_of map k → (ReturnsByItself map k → ⊥)
+    → ((more : ℕ) → ReturnsFor map (IsReturnBelow lines more) k CallBoth → rank < more) → IsNearest map lines xs rank to → IsSettledReturn map lines (line_of k (rank + 1) (To to))
+settled_by_nearest map lines k rank to xs are stays later near =
+    settled_by_way map lines k rank to stays later (subst (λ (ys : List ℕ). IsNearest map lines ys rank to) are near)
+
+-- one that is no call, or does not return as one
+pub way_alone : (map : InstructionMap) (lines : List ReturnLine) (k rank to : ℕ) (xs : List ℕ) → xs ≡ successors_of map k → (ReturnsByItself map k → ⊥) → CallHasNone map lines k → IsNearest map lines xs rank to
+    → IsSettledReturn map lines (line_of k (rank + 1) (To to))
+way_alone map lines k rank to xs are stays none near = settled_by_nearest map lines k rank to xs are stays (λ more reason. absurd (none more reason)) near
+
+-- a call that returns by a successor of no greater rank
+pub way_first : (map : InstructionMap) (lines : List ReturnLine) (k rank to most : ℕ) (xs : List ℕ) → xs ≡ successors_of map k → (ReturnsByItself map k → ⊥) → CallHasRank map lines most k → IsNearest map lines xs rank to → rank ≤ most
+    → IsSettledReturn map lines (line_of k (rank + 1) (To to))
+way_first map lines k rank to most xs are stays both near low =
+    settled_by_nearest map lines k rank to xs are stays (λ more reason. let above : most < more = (both more).0 reason in omega arith) near

@@ -65,7 +65,7 @@ pub(crate) fn return_ranks<C: Numbered>(
     Ok(levels)
 }
 
-/// Lets the terminator at this place wait for two if it is a call.
+/// Lets the terminator at this place wait for two ways if it is a call.
 fn wait_twice(flow: Flow, place: usize, left: &mut Vec<u8>) {
     if let Flow::Call { .. } = flow {
         if let Some(left) = left.get_mut(place) {
@@ -75,18 +75,20 @@ fn wait_twice(flow: Flow, place: usize, left: &mut Vec<u8>) {
 }
 
 /// Puts the addresses by which the instruction at `k`, whose flow this is, may return in place of
-/// the items of `ways`: its successors, or both ways of a call.
+/// the items of `ways`: its successors, and both ways of a call. A call waits for two of them, so its
+/// landing pad is there twice.
 fn find_ways<C: Numbered>(code: &C, k: u64, flow: Flow, ways: &mut Vec<u64>) -> Result<(), Memory>
     requires { flow_at (C.map code.now) k ≡ Some flow }
 {
     find_successors(code, k, flow, ways)?;
-    if let Flow::Call {
-        target,
-        fall: Some(fall),
-    } = flow
-    {
-        ways.push(target)?;
-        ways.push(fall)?;
+    if let Flow::Call { target, fall } = flow {
+        if let Some(pad) = ways.first().copied() {
+            ways.push(pad)?;
+        }
+        if let Some(fall) = fall {
+            ways.push(target)?;
+            ways.push(fall)?;
+        }
     }
     Ok(())
 }

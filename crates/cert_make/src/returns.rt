@@ -15,7 +15,8 @@ ghost use Rattle.cfg_model.specs.Program.Successors.{IsCall, LeavesFunction, suc
 ghost use Rattle.cert_ends.specs.Places.{AreNumbered, ReturnsRise};
 ghost use Rattle.cert_text.specs.declared.lines.ReturnLine.{ReturnLine};
 ghost use Rattle.cert_make.specs.Canonical.{IsReturnLine, ListsLines, ReturnsReached};
-ghost use Rattle.cert_make.specs.Inner.Returns.{EndHasRank, EndHasNone, IsNearest, IsNotAfter};
+ghost use Rattle.cert_make.specs.Inner.Returns.{CallHasNone, CallHasRank, EndHasRank};
+ghost use Rattle.cert_make.specs.Inner.Returns.{EndHasNone, IsNearest, IsNotAfter};
 ghost use Rattle.cert_make.specs.Inner.Returns.{IsSettledReturn, IsSettledFor, AreSettledBy};
 ghost use Rattle.cert_make.specs.Inner.Returns.{AreFlows, HasNoReason, HaveSameRanks, IsNextReturn};
 ghost use Rattle.cert_make.specs.Inner.Returns.{ListAllReturns};
@@ -222,40 +223,95 @@ fn settle<C: Numbered>(
             why: ReturnWhy::Itself,
         }));
     }
-    if let Flow::Call { target, fall } = flow {
-        return Ok(by_call(code, returns, k, target, fall));
-    }
     find_successors(code, k, flow, successors)?;
-    Ok(by_successors(code, returns, k, successors.as_slice()))
+    match both_ways(code, returns, k, flow) {
+        Some(rank) => Ok(Some(by_call(code, returns, k, successors.as_slice(), rank))),
+        None => Ok(by_successors(code, returns, k, successors.as_slice())),
+    }
 }
 
-/// The line of a call; `None` exactly if its target or its fall does not return by these lines.
-fn by_call<C: Numbered>(
+/// The greater of the ranks of both ways of the terminator at `k`: that of the target and that of the
+/// fall, if it is a call and both return by these lines.
+fn both_ways<C: Numbered>(
+    code: &C,
+    returns: &NumberedReturns<'_>,
+    k: u64,
+    flow: Flow,
+) -> Option<u64>
+    requires lawful { IsLawful (C.map code.now) }
+    requires flow { flow_at (C.map code.now) k ≡ Some flow }
+    requires numbered { AreNumbered (C.map code.now) (C.number code.now) returns.now }
+    requires ranks { All (λ (l : ReturnLine). l.rank < 2 ^ 64 - 1) returns.now.lines.now }
+    ensures exact { MatchOption result (CallHasNone (C.map code.now) returns.now.lines.now k)
+        (λ rank. CallHasRank (C.map code.now) returns.now.lines.now rank k) }
+    ensures low { IfSome result (λ rank. rank < 2 ^ 64 - 1) }
+{
+    match flow {
+        Flow::Call { target, fall } => call_rank(code, returns, k, target, fall),
+        _ => None,
+    }
+}
+
+/// The greater of the ranks of the target and of the fall of a call, if both return by these lines.
+fn call_rank<C: Numbered>(
     code: &C,
     returns: &NumberedReturns<'_>,
     k: u64,
     target: u64,
     fall: Option<u64>,
-) -> Option<ReturnLine>
+) -> Option<u64>
     requires call { IsCall (C.map code.now) k target fall }
     requires lawful { IsLawful (C.map code.now) }
     requires numbered { AreNumbered (C.map code.now) (C.number code.now) returns.now }
     requires ranks { All (λ (l : ReturnLine). l.rank < 2 ^ 64 - 1) returns.now.lines.now }
-    ensures { MatchOption result (HasNoReason (C.map code.now) returns.now.lines.now k)
-        (IsSettledFor (C.map code.now) returns.now.lines.now k) }
+    ensures exact { MatchOption result (CallHasNone (C.map code.now) returns.now.lines.now k)
+        (λ rank. CallHasRank (C.map code.now) returns.now.lines.now rank k) }
+    ensures low { IfSome result (λ rank. rank < 2 ^ 64 - 1) }
 {
     let fall = fall?;
     let one = rank_at(code, returns, target)?;
     let other = rank_at(code, returns, fall)?;
-    Some(ReturnLine {
-        at: k,
-        rank: one.max(other) + 1,
-        why: ReturnWhy::CallBoth,
-    })
+    Some(one.max(other))
 }
 
-/// The line of a terminator by its successors; `None` exactly if none of them returns by these
-/// lines.
+/// The line of a call that returns through both its ways, of which this is the greater rank; or by its
+/// landing pad, if that has no greater one.
+fn by_call<C: Numbered>(
+    code: &C,
+    returns: &NumberedReturns<'_>,
+    k: u64,
+    successors: &[u64],
+    rank: u64,
+) -> ReturnLine
+    requires successors { successors.now ≡ successors_of (C.map code.now) k }
+    requires stays { ¬ LeavesFunction (flow_at (C.map code.now) k) }
+    requires stand { All (λ a. IsSome (C.map code.now a)) successors.now }
+    requires numbered { AreNumbered (C.map code.now) (C.number code.now) returns.now }
+    requires both { CallHasRank (C.map code.now) returns.now.lines.now rank k }
+    requires low { rank < 2 ^ 64 - 1 }
+    ensures { IsSettledFor (C.map code.now) returns.now.lines.now k result }
+{
+    match nearest(code, returns, successors) {
+        Some(way) => {
+            if way.rank <= rank {
+                line_of(k, way.rank + 1, ReturnWhy::To { target: way.to })
+            } else {
+                line_of(k, rank + 1, ReturnWhy::CallBoth)
+            }
+        }
+        None => line_of(k, rank + 1, ReturnWhy::CallBoth),
+    }
+}
+
+/// The line of the terminator at `k` with this rank and this reason.
+fn line_of(k: u64, rank: u64, why: ReturnWhy) -> ReturnLine
+    ensures { result ≡ record { at = k; rank = rank; why = why } }
+{
+    ReturnLine { at: k, rank, why }
+}
+
+/// The line of a terminator that does not return as a call, by its successors; `None` exactly if none
+/// of them returns by these lines.
 fn by_successors<C: Numbered>(
     code: &C,
     returns: &NumberedReturns<'_>,
@@ -264,7 +320,7 @@ fn by_successors<C: Numbered>(
 ) -> Option<ReturnLine>
     requires successors { successors.now ≡ successors_of (C.map code.now) k }
     requires stays { ¬ LeavesFunction (flow_at (C.map code.now) k) }
-    requires no_call { (target : ℕ) (fall : _) → ¬ IsCall (C.map code.now) k target fall }
+    requires no_call { CallHasNone (C.map code.now) returns.now.lines.now k }
     requires stand { All (λ a. IsSome (C.map code.now a)) successors.now }
     requires numbered { AreNumbered (C.map code.now) (C.number code.now) returns.now }
     requires ranks { All (λ (l : ReturnLine). l.rank < 2 ^ 64 - 1) returns.now.lines.now }

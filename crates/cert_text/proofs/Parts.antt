@@ -108,37 +108,37 @@ abbrev pub heading : List ℕ
 heading = codes "cfg-cert 1\npart none\n"
 
 abbrev pub certificate_of : Part → Option Part → Certificate
-certificate_of plain cut = record { plain = plain; cut = cut }
+certificate_of plain cut = record { part = plain; second = cut }
 
-text_parts : (c : Certificate) → certificate_text c ≡ heading ++ (part_text c.plain ++ (cut_text c.cut ++ codes "end\n"))
+text_parts : (c : Certificate) → certificate_text c ≡ heading ++ (part_text c.part ++ (cut_text c.second ++ codes "end\n"))
 text_parts c =
-    append_assoc (heading ++ part_text c.plain) (cut_text c.cut) (codes "end\n")
-    ∙ append_assoc heading (part_text c.plain) (cut_text c.cut ++ codes "end\n")
+    append_assoc (heading ++ part_text c.part) (cut_text c.second) (codes "end\n")
+    ∙ append_assoc heading (part_text c.part) (cut_text c.second ++ codes "end\n")
 
 pub text_found : (bytes rest between end : List ℕ) (plain : Part) (cut : Option Part) → after heading bytes ≡ Some rest → IsPart rest plain between → IsCut between cut end → end ≡ codes "end\n" → IsTextOf bytes (certificate_of plain cut)
 text_found bytes rest between end plain cut first part second finish =
     let tail : between ≡ cut_text cut ++ codes "end\n" = second.text ∙ ap (λ (x : List ℕ). cut_text cut ++ x) finish in
     record {
       text = after_takes heading bytes rest first ∙ ap (λ (x : List ℕ). heading ++ x) (part.text ∙ ap (λ (x : List ℕ). part_text plain ++ x) tail) ∙ sym (text_parts (certificate_of plain cut));
-      rises = record { plain = part.rises; cut = second.rises };
-      fits = record { plain = part.fits; cut = second.fits };
+      rises = record { part = part.rises; second = second.rises };
+      fits = record { part = part.fits; second = second.fits };
     }
 
-pub certificate_same : (plain : Part) (cut : Option Part) (c : Certificate) → plain ≡ c.plain → cut ≡ c.cut → certificate_of plain cut ≡ c
+pub certificate_same : (plain : Part) (cut : Option Part) (c : Certificate) → plain ≡ c.part → cut ≡ c.second → certificate_of plain cut ≡ c
 certificate_same plain cut c one other =
-    ap (λ (p : Part). certificate_of p cut) one ∙ ap (λ (x : Option Part). certificate_of c.plain x) other
+    ap (λ (p : Part). certificate_of p cut) one ∙ ap (λ (x : Option Part). certificate_of c.part x) other
 
 -- the heading of a text stands, and its first part after it
-pub text_begins : (bytes : List ℕ) (c : Certificate) → IsTextOf bytes c → after heading bytes ≡ Some (part_text c.plain ++ (cut_text c.cut ++ codes "end\n"))
-text_begins bytes c of = ap (after heading) (of.text ∙ text_parts c) ∙ after_again heading (part_text c.plain ++ (cut_text c.cut ++ codes "end\n"))
+pub text_begins : (bytes : List ℕ) (c : Certificate) → IsTextOf bytes c → after heading bytes ≡ Some (part_text c.part ++ (cut_text c.second ++ codes "end\n"))
+text_begins bytes c of = ap (after heading) (of.text ∙ text_parts c) ∙ after_again heading (part_text c.part ++ (cut_text c.second ++ codes "end\n"))
 
-pub text_plain : (bytes rest : List ℕ) (c : Certificate) → after heading bytes ≡ Some rest → IsTextOf bytes c → IsPart rest c.plain (cut_text c.cut ++ codes "end\n")
+pub text_plain : (bytes rest : List ℕ) (c : Certificate) → after heading bytes ≡ Some rest → IsTextOf bytes c → IsPart rest c.part (cut_text c.second ++ codes "end\n")
 text_plain bytes rest c first of =
-    let same : part_text c.plain ++ (cut_text c.cut ++ codes "end\n") ≡ rest = some_is (part_text c.plain ++ (cut_text c.cut ++ codes "end\n")) rest (sym (text_begins bytes c of) ∙ first) in
-    record { text = sym same; rises = of.rises.plain; fits = of.fits.plain }
+    let same : part_text c.part ++ (cut_text c.second ++ codes "end\n") ≡ rest = some_is (part_text c.part ++ (cut_text c.second ++ codes "end\n")) rest (sym (text_begins bytes c of) ∙ first) in
+    record { text = sym same; rises = of.rises.part; fits = of.fits.part }
 
-pub text_cut : (bytes : List ℕ) (c : Certificate) (between : List ℕ) → IsTextOf bytes c → between ≡ cut_text c.cut ++ codes "end\n" → IsCut between c.cut (codes "end\n")
-text_cut bytes c between of text = record { text = text; rises = of.rises.cut; fits = of.fits.cut }
+pub text_cut : (bytes : List ℕ) (c : Certificate) (between : List ℕ) → IsTextOf bytes c → between ≡ cut_text c.second ++ codes "end\n" → IsCut between c.second (codes "end\n")
+text_cut bytes c between of text = record { text = text; rises = of.rises.second; fits = of.fits.second }
 
 pub no_heading : (bytes : List ℕ) (c : Certificate) → after heading bytes ≡ None → IsTextOf bytes c → ⊥
 no_heading bytes c missing of = let stands = text_begins bytes c of in cc
@@ -169,8 +169,8 @@ cuts_same bytes (Some p) (Some q) one other =
 
 pub certificates_same : (bytes : List ℕ) (c d : Certificate) → IsTextOf bytes c → IsTextOf bytes d → c ≡ d
 certificates_same bytes c d one other =
-    let rest = part_text c.plain ++ (cut_text c.cut ++ codes "end\n") in
+    let rest = part_text c.part ++ (cut_text c.second ++ codes "end\n") in
     let first = text_begins bytes c one in
-    let plain = parts_same rest c.plain d.plain (cut_text c.cut ++ codes "end\n") (cut_text d.cut ++ codes "end\n") (text_plain bytes rest c first one) (cut_stops c.cut) (text_plain bytes rest d first other) (cut_stops d.cut) in
-    let cut = cuts_same (cut_text c.cut ++ codes "end\n") c.cut d.cut (text_cut bytes c (cut_text c.cut ++ codes "end\n") one refl) (text_cut bytes d (cut_text c.cut ++ codes "end\n") other plain.1) in
-    ap (λ (p : Part). certificate_of p c.cut) plain.0 ∙ ap (λ (x : Option Part). certificate_of d.plain x) cut
+    let plain = parts_same rest c.part d.part (cut_text c.second ++ codes "end\n") (cut_text d.second ++ codes "end\n") (text_plain bytes rest c first one) (cut_stops c.second) (text_plain bytes rest d first other) (cut_stops d.second) in
+    let cut = cuts_same (cut_text c.second ++ codes "end\n") c.second d.second (text_cut bytes c (cut_text c.second ++ codes "end\n") one refl) (text_cut bytes d (cut_text c.second ++ codes "end\n") other plain.1) in
+    ap (λ (p : Part). certificate_of p c.second) plain.0 ∙ ap (λ (x : Option Part). certificate_of d.part x) cut

@@ -15,17 +15,17 @@ one_return = record {
   leads = record { at = 0x10000; rank = 0; why = Seed } ∷ [];
 }
 
-one_return_text : certificate_text (record { plain = one_return; cut = None }) ≡ codes "cfg-cert 1\npart none\nret 0000000000010000 0 self\nlead 0000000000010000 0 seed\nend\n"
+one_return_text : certificate_text (record { part = one_return; second = None }) ≡ codes "cfg-cert 1\npart none\nret 0000000000010000 0 self\nlead 0000000000010000 0 seed\nend\n"
 unfolding hex_digits digits
 one_return_text = refl
 
 -- the same part twice
-two_parts_text : certificate_text (record { plain = one_return; cut = Some one_return }) ≡ codes "cfg-cert 1\npart none\nret 0000000000010000 0 self\nlead 0000000000010000 0 seed\npart cuts\nret 0000000000010000 0 self\nlead 0000000000010000 0 seed\nend\n"
+two_parts_text : certificate_text (record { part = one_return; second = Some one_return }) ≡ codes "cfg-cert 1\npart none\nret 0000000000010000 0 self\nlead 0000000000010000 0 seed\npart cuts\nret 0000000000010000 0 self\nlead 0000000000010000 0 seed\nend\n"
 unfolding hex_digits digits
 two_parts_text = refl
 
 -- no lines at all
-no_lines_text : certificate_text (record { plain = record { returns = []; leads = [] }; cut = None }) ≡ codes "cfg-cert 1\npart none\nend\n"
+no_lines_text : certificate_text (record { part = record { returns = []; leads = [] }; second = None }) ≡ codes "cfg-cert 1\npart none\nend\n"
 no_lines_text = refl
 
 -- the other forms of lines

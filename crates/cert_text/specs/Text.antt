@@ -25,8 +25,8 @@ cut_text (Some part) = codes "part cuts\n" ++ part_text part
 abbrev pub certificate_text : Certificate → List ℕ
 certificate_text c =
     codes "cfg-cert 1\n"
-    ++ codes "part none\n" ++ part_text c.plain
-    ++ cut_text c.cut
+    ++ codes "part none\n" ++ part_text c.part
+    ++ cut_text c.second
     ++ codes "end\n"
 
 -- A number of 64 bits.
@@ -60,8 +60,8 @@ pub record PartRises (part : Part) : Type 0 where
   pub leads : IsStrictlyIncreasing (map (λ l. l.at) part.leads)
 
 pub record Rises (c : Certificate) : Type 0 where
-  pub plain : PartRises c.plain
-  pub cut : IfSome c.cut PartRises
+  pub part : PartRises c.part
+  pub second : IfSome c.second PartRises
 
 -- The numbers of a part are 64-bit numbers.
 pub record PartFits (part : Part) : Type 0 where
@@ -69,8 +69,8 @@ pub record PartFits (part : Part) : Type 0 where
   pub leads : AllByRecursion LeadFits part.leads
 
 pub record Fits (c : Certificate) : Type 0 where
-  pub plain : PartFits c.plain
-  pub cut : IfSome c.cut PartFits
+  pub part : PartFits c.part
+  pub second : IfSome c.second PartFits
 
 -- These bytes are the text of this certificate, a text in which the lists rise and the numbers have
 -- 64 bits.

@@ -1,4 +1,4 @@
-//! A part of a certificate, and a certificate of one or two parts.
+//! A part of a certificate, and a certificate.
 
 use crate::lines::{LeadLines, ReturnLines};
 
@@ -13,12 +13,11 @@ pub struct Part {
 
 /// A certificate of a file: what its graph follows from.
 ///
-/// Jump tables that overlap are cut. A file with such tables has a second part, for the graph
-/// under the cuts.
+/// A text may have a second part. It is read, but no certificate that has one is valid.
 #[derive(Drop)]
 pub struct Certificate {
-    /// The part without table cuts.
-    pub plain: Part,
-    /// The part under the table cuts, if there are any.
-    pub cut: Option<Part>,
+    /// The part that the graph follows from.
+    pub part: Part,
+    /// A second part, under the heading `part cuts`.
+    pub second: Option<Part>,
 }

@@ -3,7 +3,7 @@
 //! A certificate says why each leader is one, and why each terminator returns.
 //!
 //! - [`lines`]: the lines of a certificate, each with its rank and its reason, and their lists.
-//! - [`certificate`]: a part of a certificate, and a certificate of one or two parts.
+//! - [`certificate`]: a part of a certificate, and a certificate.
 //! - [`print`](printing): the text of a certificate.
 //! - [`parse`](parsing): the certificate of a text. [`field`] reads a field, [`reading`] a line,
 //!   [`listing`] a list of lines.

@@ -70,10 +70,10 @@ pub fn parse(alloc: Global, bytes: &[u8]) -> Result<Certificate, TextError>
     let Some(rest) = after(bytes, b"cfg-cert 1\npart none\n") else {
         return Err(TextError::NoText);
     };
-    let (plain, rest) = part_at(alloc, rest)?;
-    let (cut, rest) = cut_at(alloc, rest)?;
+    let (part, rest) = part_at(alloc, rest)?;
+    let (second, rest) = cut_at(alloc, rest)?;
     if is_last_line(rest) {
-        Ok(Certificate { plain, cut })
+        Ok(Certificate { part, second })
     } else {
         Err(TextError::NoText)
     }

@@ -113,8 +113,8 @@ pub fn print(alloc: Global, certificate: &Certificate) -> Result<Vec<u8>, Memory
 {
     let mut out = Vec::new(alloc);
     out.extend_from_slice(b"cfg-cert 1\npart none\n")?;
-    push_part(&mut out, &certificate.plain)?;
-    if let Some(part) = &certificate.cut {
+    push_part(&mut out, &certificate.part)?;
+    if let Some(part) = &certificate.second {
         out.extend_from_slice(b"part cuts\n")?;
         push_part(&mut out, part)?;
     }

@@ -1,4 +1,3 @@
 pub mod Listed
 pub mod SeedsOfFile
 pub mod FileLaws
-pub mod Parts

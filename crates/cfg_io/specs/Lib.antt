@@ -4,6 +4,4 @@ pub mod Told
 pub mod Script
 pub mod MemInput
 pub mod MemSink
-pub mod SafeInput
-pub mod CountSink
 pub mod Inner

@@ -5,12 +5,10 @@
 //! say that a failure came from outside and was not made up. [`read_whole`] and [`write_whole`] go
 //! on until all is read or written, or a call fails.
 //!
-//! [`MemInput`] and [`MemSink`] are in memory and fail at given calls. [`SafeInput`] and
-//! [`CountSink`] never fail, so no call over them has a fault to answer. [`FileInput`] and
-//! [`StdSink`] stand on std's files and writers.
+//! [`MemInput`] and [`MemSink`] are in memory and fail at given calls. [`FileInput`] and [`StdSink`]
+//! stand on std's files and writers.
 #![tactic(auto)]
 
-mod count_sink;
 mod failed;
 mod file_input;
 mod giving;
@@ -18,20 +16,17 @@ mod input;
 mod mem_input;
 mod mem_sink;
 mod reading;
-mod safe_input;
 mod script;
 mod sink;
 mod std_sink;
 mod writing;
 
-pub use count_sink::CountSink;
 pub use failed::Failed;
 pub use file_input::FileInput;
 pub use input::Input;
 pub use mem_input::MemInput;
 pub use mem_sink::MemSink;
 pub use reading::{MAX_LIMIT, ReadEnd, read_whole};
-pub use safe_input::SafeInput;
 pub use sink::Sink;
 pub use std::alloc::AllocError as Memory;
 pub use std_sink::StdSink;

@@ -2,6 +2,7 @@
 pub mod Listed
 pub mod Code
 pub mod Known
+pub mod Landing
 pub mod ChainFacts
 pub mod ChainEnds
 pub mod ChainSteps

@@ -45,14 +45,15 @@ pub enum Flow {
     Stop,
 }
 
-/// A program: a finite map from the addresses of its instructions to their length, their flow and,
-/// for a table jump, the kept targets. The map is lawful: see `specs/Program/Instructions.antt`.
+/// A program: a finite map from the addresses of its instructions to their length, their flow and
+/// their kept targets: those of a table jump, and the landing pad of a call. The map is lawful: see
+/// `specs/Program/Instructions.antt`.
 pub trait Chains: Sync {
-    ghost use Rattle.std.specs.Prelude.{◌≡◌, ◌<◌, ◌↔◌, IsTrue, IsSome, Some, IfOk};
-    ghost use Rattle.std.specs.Prelude.{slice_get, length};
+    ghost use Rattle.std.specs.Prelude.{◌≡◌, ◌↔◌, IsTrue, IsSome, Some, IfOk, option_to_list};
     ghost use Rattle.cfg_model.specs.Program.Instructions.{InstructionMap, IsLawful};
     ghost use Rattle.cfg_model.specs.Program.Instructions.{flow_at, length_at, targets_at};
     ghost use Rattle.cfg_model.specs.Program.Chain.{IsTerminatorOf};
+    ghost use Rattle.cfg_model.specs.Program.Successors.{MayLand};
 
     /// The instructions, by address.
     ghost map: { Self → InstructionMap };
@@ -74,17 +75,17 @@ pub trait Chains: Sync {
         ensures length { length_at (map self.now) a ≡ Some result }
         ensures lawful { IsLawful (map self.now) };
 
-    /// Kept target number `i`, from 0, of the table jump at `a`.
-    fn target(&self, a: u64, i: u32) -> u64
-        requires { i < length (targets_at (map self.now) a) }
-        ensures target { slice_get (targets_at (map self.now) a) i ≡ Some result }
-        ensures lawful { IsLawful (map self.now) };
-
-    /// The kept targets of the table jump at `a`, in the order of the table; none of any other
-    /// instruction. [`Memory`] if memory ran out.
+    /// The kept targets of the instruction at `a`: of a table jump those of the table, in its order;
+    /// of a call its landing pad, if it has one; else none. [`Memory`] if memory ran out.
     fn targets(&self, a: u64) -> Result<Vec<u64>, Memory>
         requires { IsSome (map self.now a) }
         ensures targets { IfOk result (λ v. v.items ≡ targets_at (map self.now) a) }
+        ensures lawful { IsLawful (map self.now) };
+
+    /// The landing pad of the call at `a`, if it has one: its only kept target.
+    fn landing(&self, a: u64) -> Option<u64>
+        requires { MayLand (map self.now) a }
+        ensures landing { targets_at (map self.now) a ≡ option_to_list result }
         ensures lawful { IsLawful (map self.now) };
 
     /// The terminator of the chain of `a`, its last address.

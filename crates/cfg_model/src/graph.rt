@@ -51,6 +51,8 @@ pub enum EdgeKind {
     After,
     /// A jump through a table.
     Table,
+    /// From a call to its landing pad: the callee throws an exception that lands there.
+    Landing,
 }
 
 /// A basic block: the instructions from `start` up to, and without, `end`.

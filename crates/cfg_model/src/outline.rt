@@ -8,6 +8,7 @@ ghost use Rattle.cfg_model.specs.Graph.Graph.{EdgeBefore};
 ghost use Rattle.cfg_model.specs.Graph.Listing.{Gains};
 ghost use Rattle.cfg_model.specs.Inner.Ways.{edge_to, IsEdgeTo};
 ghost use Rattle.cfg_model.specs.Program.Instructions.{IsLawful, flow_at, targets_at};
+ghost use Rattle.cfg_model.specs.Program.Successors.{MayLand};
 
 use crate::Memory;
 use crate::flow::{Chains, Flow};
@@ -103,8 +104,14 @@ pub fn add_edges_by<C: Chains>(
         Flow::Straight { next } => add_edge(s, EdgeKind::Fall, next, edges),
         Flow::Branch { taken, fall } => add_branch(s, taken, fall, edges),
         Flow::Jump { target } => add_edge(s, EdgeKind::Jump, target, edges),
-        Flow::Call { target, fall } => add_call(s, target, fall, returns, edges),
-        Flow::IndirectCall { fall } => add_some(s, EdgeKind::After, fall, edges),
+        Flow::Call { target, fall } => {
+            add_call(s, target, fall, returns, edges)?;
+            add_landing(code, s, k, edges)
+        }
+        Flow::IndirectCall { fall } => {
+            add_some(s, EdgeKind::After, fall, edges)?;
+            add_landing(code, s, k, edges)
+        }
         Flow::Table { .. } => add_table(code, s, k, edges),
         Flow::Return | Flow::Unknown | Flow::Stop => Ok(()),
     }
@@ -161,6 +168,16 @@ fn add_call(
     } else {
         Ok(())
     }
+}
+
+/// Of a call at `k`: its landing pad, if it has one.
+fn add_landing<C: Chains>(code: &C, from: u64, k: u64, edges: &mut Vec<Edge>) -> Result<(), Memory>
+    requires { MayLand (C.map code.now) k }
+    ensures { OnOk result (Gains edges.old.items edges.new.items (λ edge. (to : ℕ)
+        × Contains (targets_at (C.map code.now) k) to
+        × (edge ≡ edge_to from EdgeKind.Landing to))) }
+{
+    add_some(from, EdgeKind::Landing, code.landing(k), edges)
 }
 
 /// Of a table jump at `k`: its kept targets.

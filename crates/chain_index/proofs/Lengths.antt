@@ -27,6 +27,7 @@ own_length (raw.Jump target) m n is = absurd (none-some n is)
 own_length (raw.Call target) m n is = absurd (none-some n is)
 own_length raw.IndirectCall m n is = absurd (none-some n is)
 own_length raw.Return m n is = absurd (none-some n is)
+own_length raw.Unknown m n is = absurd (none-some n is)
 own_length (raw.RegisterJump register offset) m n is = absurd (none-some n is)
 own_length raw.Stop m n is = absurd (none-some n is)
 

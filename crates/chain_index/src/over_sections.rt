@@ -40,7 +40,7 @@ where
 {
     let mut left = code_sections(alloc, image)?;
     let mut found = Vec::new(alloc);
-    let mut forms = StraightForms::new(alloc, image.extensions());
+    let mut forms = StraightForms::new(alloc, *image.extensions());
     while let Some(s) = left.pop() {
         let behind = first_reach(&found, s.address + s.size / 2 * 2);
         let from = more_numbers(halfwords(&found), s.size / 2)?;

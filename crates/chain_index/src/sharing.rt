@@ -76,7 +76,7 @@ fn pass_all<R: Threads + Sync>(
         reaches,
         share,
         &|from, part| {
-            let mut forms = StraightForms::new(alloc, image.extensions());
+            let mut forms = StraightForms::new(alloc, *image.extensions());
             pass_back(image, &mut forms, s, behind, from, part)
         },
     );

@@ -14,7 +14,7 @@ use Rattle.cfg_model.specs.declared.flow.Flow.{Flow}
 use Rattle.cfg_model.specs.declared.flow.Flow.TheVariants as flows
 use Rattle.cfg_model.specs.Program.Instructions.{flow_at}
 use Rattle.cfg_model.specs.Program.Chain.{EndsChain, IsTerminatorOf, OnChain}
-use Rattle.code_view.specs.Flow.{in_code, straight_flow, jump_flow, call_flow, table_flow, flow_by}
+use Rattle.code_view.specs.Flow.{in_code, straight_flow, jump_flow, call_flow, call_fall, table_flow, flow_by}
 use Rattle.code_view.specs.Program.{program_under}
 use Rattle.code_view.proofs.Lawful.{placed-size, flow-program}
 
@@ -33,6 +33,7 @@ module _ (bytes : List ℕ) (a n : ℕ) (cut : Option ℕ) (table : Option Table
   straight-on (raw.Call target) next is = absurd (none-some next is)
   straight-on raw.IndirectCall next is = absurd (none-some next is)
   straight-on raw.Return next is = absurd (none-some next is)
+  straight-on raw.Unknown next is = absurd (none-some next is)
   straight-on (raw.RegisterJump register offset) next is = absurd (none-some next is)
   straight-on raw.Stop next is = absurd (none-some next is)
 
@@ -44,6 +45,7 @@ module _ (bytes : List ℕ) (a n : ℕ) (cut : Option ℕ) (table : Option Table
   straight-behind (raw.Call target) next is = absurd (none-some next is)
   straight-behind raw.IndirectCall next is = absurd (none-some next is)
   straight-behind raw.Return next is = absurd (none-some next is)
+  straight-behind raw.Unknown next is = absurd (none-some next is)
   straight-behind (raw.RegisterJump register offset) next is = absurd (none-some next is)
   straight-behind raw.Stop next is = absurd (none-some next is)
 
@@ -63,9 +65,10 @@ module _ (bytes : List ℕ) (a n : ℕ) (cut : Option ℕ) (table : Option Table
   ends-here raw.Straight is = subst (λ o. EndsChain (Some (straight_flow o))) (sym is) tt
   ends-here (raw.Branch target) is = tt
   ends-here (raw.Jump target) is = jump-ends (in_code bytes target)
-  ends-here (raw.Call target) is = call-ends (in_code bytes target) (in_code bytes (a + n))
+  ends-here (raw.Call target) is = call-ends (in_code bytes target) (call_fall bytes target (a + n))
   ends-here raw.IndirectCall is = tt
   ends-here raw.Return is = tt
+  ends-here raw.Unknown is = tt
   ends-here (raw.RegisterJump register offset) is = table-ends table
   ends-here raw.Stop is = tt
 
@@ -78,6 +81,7 @@ module _ (bytes : List ℕ) (a n : ℕ) (cut : Option ℕ) (table : Option Table
   code-there (raw.Call target) next is = absurd (none-some next is)
   code-there raw.IndirectCall next is = absurd (none-some next is)
   code-there raw.Return next is = absurd (none-some next is)
+  code-there raw.Unknown next is = absurd (none-some next is)
   code-there (raw.RegisterJump register offset) next is = absurd (none-some next is)
   code-there raw.Stop next is = absurd (none-some next is)
 

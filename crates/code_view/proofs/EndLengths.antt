@@ -17,8 +17,8 @@ use Rattle.rv_decode.proofs.ByOpcode.{jal_is, branch_cases}
 use Rattle.rv_decode.proofs.ByFields.{jalr_is}
 use Rattle.rv_float.specs.Table.{float_instruction}
 use Rattle.rv_flow.specs.declared.placed.Placed.{Placed}
-use Rattle.rv_extensions.specs.Table.{extension_instruction}
-use Rattle.rv_flow.specs.Placed.{placed_at, placed_by, rv64gc_insn, word_insn, whole, whole_insn, bad}
+use Rattle.rv_extensions.specs.IntegerFloats.{named_instruction}
+use Rattle.rv_flow.specs.Placed.{placed_at, placed_by, float_insn, rv64gc_insn, word_insn, whole, whole_insn, bad}
 use Rattle.code_view.specs.JumpWord.{is_jump_word}
 
 -- ---- a word that is a jump, a call or a branch
@@ -76,8 +76,8 @@ module _ (bytes : List ℕ) (a half : ℕ) (is : half_at bytes a ≡ Some half) 
   word-length jump (Some w) there =
       let by = begins (code_section_of bytes a) w is there in
       whole-length (word_insn (extensions_of bytes) w)
-      (either-some (rv64gc_insn w) (extension_instruction (extensions_of bytes) w)
-      (either-some (instruction w) (float_instruction w) (word-some half by.0 w by.1 jump)))
+      (either-some (rv64gc_insn (extensions_of bytes) w) (named_instruction (extensions_of bytes) w)
+      (either-some (instruction w) (float_insn (extensions_of bytes) w) (word-some half by.0 w by.1 jump)))
 
   -- A jump, a call or a branch of 32 bits has the length 4 where its word is there, and else 2.
   pub jump-length : is_jump_word half ≡ true → (placed_at bytes a).length ≡ cond (is_some (word_at bytes a)) 4 2

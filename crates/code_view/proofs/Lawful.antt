@@ -1,6 +1,6 @@
 -- The program of an accepted file is lawful under table cuts that fit.
-use Rattle.std.proofs.Common.{◌≡◌, ℕ, zero, suc, ◌+◌, ◌<◌, ◌≤◌, ◌^◌, ◌%◌, ◌/◌, ◌⊎◌, ◌==◌, Bool, true, false, cond, List, [], ◌∷◌, ◌++◌, length, get_or, take, Option, Some, None, is_some, refl, sym, ap, ◌∙◌, subst, inl, inr, arith}
-use Rattle.std.specs.Prelude.{ℤ, All, IsSome, IfSome, option_to_list, slice_get}
+use Rattle.std.proofs.Common.{◌≡◌, ℕ, ◌+◌, ◌-◌, ◌<◌, ◌≤◌, ◌^◌, ◌&&◌, ◌%◌, ◌/◌, ◌⊎◌, ◌==◌, Bool, true, false, cond, List, [], ◌∷◌, ◌++◌, length, get_or, Option, Some, None, is_some, refl, sym, ap, ◌∙◌, subst, inl, inr, arith}
+use Rattle.std.specs.Prelude.{ℤ, All, IsSome, IfSome, option_to_list}
 use Rattle.std.specs.Option.{option_map, option_map_or, option_and_then}
 use Rattle.std.proofs.lemmas.Option.{cond_some, same_Some}
 use Rattle.std.proofs.lemmas.List.{length-take-le}
@@ -11,8 +11,10 @@ use Rattle.elf_image.specs.Sections.{holds_bytes}
 use Rattle.elf_image.specs.Number.{u32_at}
 use Rattle.elf_image.specs.Sections.{file_offset}
 use Rattle.elf_image.specs.Architecture.{extensions_of}
-use Rattle.elf_image.specs.Code.{is_code, section_start, code_section_of, half_at, word_at, word_in}
+use Rattle.elf_image.specs.Code.{is_code, code_section_of, half_at, word_at, word_in}
 use Rattle.elf_image.specs.Faults.{IsImage}
+use Rattle.elf_symbols.specs.NoReturn.{is_no_return}
+use Rattle.landing_pads.specs.Pad.{pad_at}
 use Rattle.elf_image.specs.Inner.Found.{IsFoundAt}
 use Rattle.elf_image.proofs.Accepted.{code_section-found}
 use Rattle.elf_image.proofs.LaidOut.{holds-true}
@@ -23,12 +25,12 @@ use Rattle.rv_flow.specs.declared.raw.RawFlow.TheVariants as raw
 use Rattle.rv_flow.specs.Placed.{placed_at, placed_by, whole, whole_insn, bad}
 use Rattle.rv_flow.specs.Raw.{raw_flow_at, raw_flow_by}
 use Rattle.jump_table.specs.declared.table.Table.{Table}
-use Rattle.jump_table.specs.Table.{table_at, table_targets, table_through, jump_register}
+use Rattle.jump_table.specs.Table.{table_at, table_targets}
 use Rattle.jump_table.proofs.Targets.{IsTable, is_table}
 use Rattle.cfg_model.specs.declared.flow.Flow.{Flow}
 use Rattle.cfg_model.specs.Program.Instructions.{Instruction, IsLawfulAt, IsLawful, FlowFits, named_by, length_at, flow_at, targets_at}
 use Rattle.code_view.specs.Cuts.{CutsFit}
-use Rattle.code_view.specs.Flow.{in_code, straight_flow, jump_flow, call_flow, table_flow, flow_by, kept_by, kept_entries}
+use Rattle.code_view.specs.Flow.{in_code, straight_flow, jump_flow, call_flow, call_fall, pad_behind, table_flow, flow_by, kept_by, kept_entries}
 use Rattle.code_view.specs.Program.{instruction_at, program_under}
 
 -- ---- lengths
@@ -116,10 +118,6 @@ module _ (bytes : List ℕ) (cuts : ℕ → Option ℕ) (fit : CutsFit bytes cut
   table-fits None is = tt
   table-fits (Some table) is = kept_fits (cuts a) refl table is
 
--- The kept targets of a table, where there is one.
-abbrev pub kept_of_table : List ℕ → Option ℕ → Option Table → List ℕ
-kept_of_table bytes cut o = option_map_or (λ table. take (kept_entries cut table) (table_targets bytes table)) o []
-
 -- ---- flows
 
 -- An address that a flow names is one of code.
@@ -136,6 +134,17 @@ module _ (bytes : List ℕ) (cuts : ℕ → Option ℕ) where
 
   known : (b : ℕ) → AllKnown (in_code bytes b)
   known b = cond_both (is_code bytes b) (Some b) None AllKnown (λ code. code-program b code) (λ _. tt)
+
+  known_fall : (target behind : ℕ) → AllKnown (call_fall bytes target behind)
+  known_fall target behind =
+      cond_both (is_code bytes target && is_no_return bytes target) None (in_code bytes behind) AllKnown (λ _. tt) (λ _. known behind)
+
+  known_code : (o : Option ℕ) → AllKnown (option_and_then (in_code bytes) o)
+  known_code None = tt
+  known_code (Some b) = known b
+
+  known_pad : (behind : ℕ) → AllKnown (pad_behind bytes behind)
+  known_pad behind = known_code (pad_at bytes (behind - 1))
 
   both : (o p : Option ℕ) → AllKnown o → AllKnown p → All IsKnown (option_to_list o ++ option_to_list p)
   both None None h k = All-nil IsKnown
@@ -166,14 +175,25 @@ module _ (bytes : List ℕ) (cuts : ℕ → Option ℕ) where
     fall None h = All-nil IsKnown
     fall (Some x) h = All-cons IsKnown x [] h (All-nil IsKnown)
 
-    call : (o p : Option ℕ) → i.targets ≡ [] → AllKnown o → AllKnown p → FlowIsLawful a i (call_flow o p)
-    call None p none h k = record { fits = none; named = fall p k; kept = none_kept none }
-    call (Some x) p none h k = record { fits = none; named = All-cons IsKnown x (option_to_list p) h (fall p k); kept = none_kept none }
+    -- A call keeps one landing pad at most.
+    one_pad : (pad : Option ℕ) → length (option_to_list pad) ≤ 1
+    one_pad None = omega arith
+    one_pad (Some x) = omega arith
+
+    lands : (pad : Option ℕ) → i.targets ≡ option_to_list pad → length i.targets ≤ 1
+    lands pad is = subst (λ (targets : List ℕ). length targets ≤ 1) (sym is) (one_pad pad)
+
+    pad_kept : (pad : Option ℕ) → i.targets ≡ option_to_list pad → AllKnown pad → All IsKnown i.targets
+    pad_kept pad is h = subst (λ targets. All IsKnown targets) (sym is) (fall pad h)
+
+    call : (o p pad : Option ℕ) → i.targets ≡ option_to_list pad → AllKnown pad → AllKnown o → AllKnown p → FlowIsLawful a i (call_flow o p)
+    call None p pad is l h k = record { fits = lands pad is; named = fall p k; kept = pad_kept pad is l }
+    call (Some x) p pad is l h k = record { fits = lands pad is; named = All-cons IsKnown x (option_to_list p) h (fall p k); kept = pad_kept pad is l }
 
     -- A jump through a register: to the first targets of its table.
-    through : (cut : Option ℕ) (o : Option Table) (register : ℕ) (offset : ℤ) → i.targets ≡ kept_by bytes cut o (raw.RegisterJump register offset) → IfSome o (KeptFits bytes cut) → FlowIsLawful a i (table_flow cut o)
-    through cut None register offset none h = record { fits = none; named = All-nil IsKnown; kept = none_kept none }
-    through cut (Some table) register offset is h =
+    through : (behind : ℕ) (cut : Option ℕ) (o : Option Table) (register : ℕ) (offset : ℤ) → i.targets ≡ kept_by bytes behind cut o (raw.RegisterJump register offset) → IfSome o (KeptFits bytes cut) → FlowIsLawful a i (table_flow cut o)
+    through behind cut None register offset none h = record { fits = none; named = All-nil IsKnown; kept = none_kept none }
+    through behind cut (Some table) register offset is h =
         let all = table_targets bytes table in
         let n = kept_entries cut table in
         let enough : n ≤ length all = omega (arith, h.within, h.is_table.counted) in
@@ -185,17 +205,19 @@ module _ (bytes : List ℕ) (cuts : ℕ → Option ℕ) where
         }
 
     lawful_by : (behind : ℕ) → behind ≡ a + i.bytes → (cut : Option ℕ) (table : Option Table) → IfSome table (KeptFits bytes cut)
-        → (r : RawFlow) → i.targets ≡ kept_by bytes cut table r → FlowIsLawful a i (flow_by bytes behind cut table r)
+        → (r : RawFlow) → i.targets ≡ kept_by bytes behind cut table r → FlowIsLawful a i (flow_by bytes behind cut table r)
     lawful_by behind is cut table h raw.Straight none =
         straight (in_code bytes behind) none (known behind) (cond_both (is_code bytes behind) (Some behind) None (λ o. IfSome o (λ next. next ≡ a + i.bytes)) (λ _. is) (λ _. tt))
     lawful_by behind is cut table h (raw.Branch target) none =
         record { fits = none; named = both (in_code bytes target) (in_code bytes behind) (known target) (known behind); kept = none_kept none }
     lawful_by behind is cut table h (raw.Jump target) none = jump (in_code bytes target) none (known target)
-    lawful_by behind is cut table h (raw.Call target) none = call (in_code bytes target) (in_code bytes behind) none (known target) (known behind)
-    lawful_by behind is cut table h raw.IndirectCall none =
-        record { fits = none; named = fall (in_code bytes behind) (known behind); kept = none_kept none }
+    lawful_by behind is cut table h (raw.Call target) pad =
+        call (in_code bytes target) (call_fall bytes target behind) (pad_behind bytes behind) pad (known_pad behind) (known target) (known_fall target behind)
+    lawful_by behind is cut table h raw.IndirectCall pad =
+        call None (in_code bytes behind) (pad_behind bytes behind) pad (known_pad behind) tt (known behind)
     lawful_by behind is cut table h raw.Return none = record { fits = none; named = All-nil IsKnown; kept = none_kept none }
-    lawful_by behind is cut table h (raw.RegisterJump register offset) first = through cut table register offset first h
+    lawful_by behind is cut table h raw.Unknown none = record { fits = none; named = All-nil IsKnown; kept = none_kept none }
+    lawful_by behind is cut table h (raw.RegisterJump register offset) first = through behind cut table register offset first h
     lawful_by behind is cut table h raw.Stop none = record { fits = none; named = All-nil IsKnown; kept = none_kept none }
 
 -- ---- the program
@@ -243,88 +265,6 @@ module _ (bytes : List ℕ) (cuts : ℕ → Option ℕ) (a : ℕ) where
       ap (λ o. option_map (λ (i : Instruction). i.flow) o) (program-at_code code)
       ∙ ap (λ (p : Placed). Some (flow_by bytes (a + p.length) (cuts a) (table_at bytes a) (raw_flow_by bytes a p.insn))) (sym is)
 
-  pub targets-program : is_code bytes a ≡ true → targets_at (program_under bytes cuts) a ≡ kept_by bytes (cuts a) (table_at bytes a) (raw_flow_at bytes a)
+  pub targets-program : is_code bytes a ≡ true → targets_at (program_under bytes cuts) a ≡ kept_by bytes (a + (placed_at bytes a).length) (cuts a) (table_at bytes a) (raw_flow_at bytes a)
   unfolding instruction_at
   targets-program code = ap (λ o. option_map_or (λ (i : Instruction). i.targets) o []) (program-at_code code)
-
--- ---- kept targets
-
--- Only a jump through a register has a table, so its table alone tells what is kept.
-kept-of-table : (bytes : List ℕ) (a : ℕ) (cut : Option ℕ) → kept_by bytes cut (table_at bytes a) (raw_flow_at bytes a) ≡ kept_of_table bytes cut (table_at bytes a)
-unfolding table_at
-kept-of-table bytes a cut = go (raw_flow_at bytes a) (section_start bytes a)
-  where
-    table_by : RawFlow → Option ℕ → Option Table
-    table_by raw start = option_and_then (λ start. option_and_then (table_through bytes start a) (jump_register raw)) start
-
-    none_by : (raw : RawFlow) → jump_register raw ≡ None → (start : Option ℕ) → table_by raw start ≡ None
-    none_by raw none None = refl
-    none_by raw none (Some start) = ap (λ r. option_and_then (table_through bytes start a) r) none
-
-    nothing : (o : Option Table) → o ≡ None → [] ≡ kept_of_table bytes cut o
-    nothing o none = ap (λ t. kept_of_table bytes cut t) (sym none)
-
-    go : (r : RawFlow) (start : Option ℕ) → kept_by bytes cut (table_by r start) r ≡ kept_of_table bytes cut (table_by r start)
-    go raw.Straight start = nothing _ (none_by raw.Straight refl start)
-    go (raw.Branch target) start = nothing _ (none_by (raw.Branch target) refl start)
-    go (raw.Jump target) start = nothing _ (none_by (raw.Jump target) refl start)
-    go (raw.Call target) start = nothing _ (none_by (raw.Call target) refl start)
-    go raw.IndirectCall start = nothing _ (none_by raw.IndirectCall refl start)
-    go raw.Return start = nothing _ (none_by raw.Return refl start)
-    go (raw.RegisterJump register offset) start = refl
-    go raw.Stop start = nothing _ (none_by raw.Stop refl start)
-
-pub targets-of-table : (bytes : List ℕ) (cuts : ℕ → Option ℕ) (a : ℕ) → is_code bytes a ≡ true → targets_at (program_under bytes cuts) a ≡ kept_of_table bytes (cuts a) (table_at bytes a)
-targets-of-table bytes cuts a code = targets-program bytes cuts a code ∙ kept-of-table bytes a (cuts a)
-
-slice_get-take : (n : ℕ) (xs : List ℕ) (i : ℕ) → i < n → slice_get (take n xs) i ≡ slice_get xs i
-slice_get-take zero xs i below = absurd (omega arith)
-slice_get-take (suc n) [] i below = refl
-slice_get-take (suc n) (x ∷ xs) zero below = refl
-slice_get-take (suc n) (x ∷ xs) (suc i) below = slice_get-take n xs i (omega arith)
-
--- Kept target i is the target of entry i of the table.
-pub record IsKeptOf (bytes : List ℕ) (kept : List ℕ) (o : Option Table) (i : ℕ) : Type 0 where
-  pub table : Table
-  pub is : o ≡ Some table
-  pub inside : i < table.count
-  pub same : slice_get kept i ≡ slice_get (table_targets bytes table) i
-
-module _ (bytes : List ℕ) (cut : Option ℕ) where
-  nothing_kept : (i : ℕ) → i < length {A = ℕ} [] → ⊥
-  nothing_kept i below = omega arith
-
-  first_kept : (i : ℕ) (o : Option Table) (register : ℕ) (offset : ℤ) → IfSome o (KeptFits bytes cut)
-      → i < length (kept_by bytes cut o (raw.RegisterJump register offset)) → IsKeptOf bytes (kept_by bytes cut o (raw.RegisterJump register offset)) o i
-  first_kept i None register offset h below = absurd (nothing_kept i below)
-  first_kept i (Some table) register offset h below =
-      let all = table_targets bytes table in
-      let n = kept_entries cut table in
-      let enough : n ≤ length all = omega (arith, h.within, h.is_table.counted) in
-      let kept : i < n = omega (arith, below, length-take-le n all enough) in
-      record { table = table; is = refl; inside = omega (arith, kept, h.within); same = slice_get-take n all i kept }
-
-  kept_of : (i : ℕ) (o : Option Table) (r : RawFlow) → IfSome o (KeptFits bytes cut) → i < length (kept_by bytes cut o r) → IsKeptOf bytes (kept_by bytes cut o r) o i
-  kept_of i o raw.Straight h below = absurd (nothing_kept i below)
-  kept_of i o (raw.Branch target) h below = absurd (nothing_kept i below)
-  kept_of i o (raw.Jump target) h below = absurd (nothing_kept i below)
-  kept_of i o (raw.Call target) h below = absurd (nothing_kept i below)
-  kept_of i o raw.IndirectCall h below = absurd (nothing_kept i below)
-  kept_of i o raw.Return h below = absurd (nothing_kept i below)
-  kept_of i o (raw.RegisterJump register offset) h below = first_kept i o register offset h below
-  kept_of i o raw.Stop h below = absurd (nothing_kept i below)
-
-module _ (bytes : List ℕ) (cuts : ℕ → Option ℕ) (a i : ℕ) where
-  -- Only an instruction has kept targets.
-  pub code_of_target : i < length (targets_at (program_under bytes cuts) a) → is_code bytes a ≡ true
-  code_of_target below = go (is_code bytes a) below
-    where
-      go : (b : Bool) → i < length (option_map_or (λ (j : Instruction). j.targets) (cond b (Some (instruction_at bytes (table_at bytes) cuts a)) None) []) → b ≡ true
-      go true h = refl
-      go false h = absurd (omega arith)
-
-  pub kept-at : CutsFit bytes cuts → i < length (targets_at (program_under bytes cuts) a) → IsKeptOf bytes (targets_at (program_under bytes cuts) a) (table_at bytes a) i
-  kept-at fit below =
-      let is = targets-program bytes cuts a (code_of_target below) in
-      subst (λ kept. i < length kept → IsKeptOf bytes kept (table_at bytes a) i) (sym is)
-      (kept_of bytes (cuts a) i (table_at bytes a) (raw_flow_at bytes a) (table-fits bytes cuts fit a (table_at bytes a) refl)) below

@@ -1,5 +1,6 @@
 pub mod Counts
 pub mod Lawful
+pub mod KeptTargets
 pub mod Views
 pub mod ChainEnds
 pub mod RegisterJumps

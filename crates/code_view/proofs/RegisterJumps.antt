@@ -17,6 +17,8 @@ use Rattle.rv_decode.specs.Fields.{opcode, rd, rs1, funct3, i_immediate}
 use Rattle.rv_decode.specs.Table.{Row, holds, opcode_is, first_meaning, rows, upper_rows, jump_rows, branch_rows, load_rows, store_rows, imm_rows, imm_w_rows, reg_rows, reg_w_rows, atomic_rows_of, atomic_rows, fence_rows, system_rows, instruction}
 use Rattle.rv_decode.specs.declared.instructions.Insn.{Insn}
 use Rattle.rv_decode.specs.declared.instructions.Insn.TheVariants as insns
+use Rattle.rv_decode.specs.declared.instructions.AwayKind.{AwayKind}
+use Rattle.rv_decode.specs.declared.instructions.AwayKind.TheVariants as aways
 use Rattle.rv_decode.proofs.ByOpcode.{jalr_cases}
 use Rattle.rv_decode.proofs.Narrowing.{without, first_meaning-without}
 use Rattle.rvc_expand.specs.Formats.{r_type, i_type, s_type, b_type, u_type, j_type}
@@ -28,10 +30,10 @@ use Rattle.rv_float.specs.Table as floats
 use Rattle.rv_float.specs.Forms.{float_expansion, float_forms}
 use Rattle.rv_flow.specs.declared.placed.Placed.{Placed}
 use Rattle.rv_flow.specs.declared.raw.RawFlow.TheVariants as raw
-use Rattle.rv_extensions.specs.Table.{extension_instruction}
-use Rattle.rv_extensions.specs.Forms.{extension_form}
-use Rattle.rv_flow.specs.Placed.{placed_at, placed_by, rv64gc_insn, word_insn, compressed_insn, whole, whole_insn, bad}
-use Rattle.rv_flow.specs.Raw.{raw_flow_at, raw_flow_by, insn_flow, jalr_flow, pair_target, address_plus, is_unimp}
+use Rattle.rv_extensions.specs.IntegerFloats.{named_instruction}
+use Rattle.rv_extensions.specs.Forms.{extension_form, takes_doubles}
+use Rattle.rv_flow.specs.Placed.{placed_at, placed_by, float_insn, float_form, rv64gc_insn, word_insn, compressed_insn, whole, whole_insn, bad}
+use Rattle.rv_flow.specs.Raw.{away_flow, raw_flow_at, raw_flow_by, insn_flow, jalr_flow, pair_target, address_plus, is_unimp}
 use Rattle.jump_table.specs.Table.{table_at, table_through, jump_register}
 use Rattle.jump_table.proofs.Extensions as extensions
 use Rattle.code_view.specs.RegisterJump.{is_link_register, is_jump_by_c_jr, is_jump_by_jalr, is_register_jump, is_register_jump_at}
@@ -66,6 +68,11 @@ jalr-none : (rd rs1 : ℕ) (imm : ℤ) (paired : Option ℕ) → jumps (insns.Ja
 jalr-none rd rs1 imm None never = unpaired-none (rd == 0) (is_link_register rs1) (rd == 6 && rs1 == 28) rs1 imm never
 jalr-none rd rs1 imm (Some target) never = either-none (rd == 0) target target
 
+away-none : (kind : AwayKind) → jump_register (away_flow kind) ≡ None
+away-none aways.Return = refl
+away-none aways.Unknown = refl
+away-none aways.Call = refl
+
 module _ (bytes : List ℕ) (a : ℕ) where
   insn-none : (insn : Insn) → jumps insn ≡ false → jump_register (insn_flow bytes a insn) ≡ None
   insn-none (insns.Jal rd offset) never = either-none (rd == 0) (address_plus a offset) (address_plus a offset)
@@ -89,6 +96,8 @@ module _ (bytes : List ℕ) (a : ℕ) where
   insn-none (insns.ShiftAdd shift zero_extended rd rs1 rs2) never = refl
   insn-none (insns.Extend kind rd rs1) never = refl
   insn-none (insns.Extension reads writes) never = refl
+  insn-none (insns.Away kind reads writes) never = away-none kind
+  insn-none (insns.Vendor kind shift rd rs1 rs2) never = refl
 
   flow-none : (o : Option Insn) → jumps_some o ≡ false → jump_register (raw_flow_by bytes a o) ≡ None
   flow-none None never = refl
@@ -166,8 +175,11 @@ either-no : (o p : Option Insn) → jumps_some o ≡ false → jumps_some p ≡ 
 either-no None p first second = second
 either-no (Some insn) p first second = first
 
-rv64gc-no : (w : ℕ) → is_jump_by_jalr w ≡ false → jumps_some (rv64gc_insn w) ≡ false
-rv64gc-no w other = either-no (instruction w) (float_instruction w) (base-no w other) (float-no w)
+left-no : (e : Extensions) (w : ℕ) → jumps_some (float_insn e w) ≡ false
+left-no e w = cond_both e.zfinx None (float_instruction w) (λ (o : Option Insn). jumps_some o ≡ false) (λ _. refl) (λ _. float-no w)
+
+rv64gc-no : (e : Extensions) (w : ℕ) → is_jump_by_jalr w ≡ false → jumps_some (rv64gc_insn e w) ≡ false
+rv64gc-no e w other = either-no (instruction w) (float_insn e w) (base-no w other) (left-no e w)
 
 -- an instruction of an extension does not jump
 plain-no : (insn : Insn) → extensions.IsPlain insn → jumps insn ≡ false
@@ -179,41 +191,41 @@ plain_one-no None plain = refl
 plain_one-no (Some insn) plain = plain-no insn plain
 
 word-no : (e : Extensions) (w : ℕ) → is_jump_by_jalr w ≡ false → jumps_some (word_insn e w) ≡ false
-word-no e w other = either-no (rv64gc_insn w) (extension_instruction e w) (rv64gc-no w other) (plain_one-no (extension_instruction e w) (extensions.extension_plain e w))
+word-no e w other = either-no (rv64gc_insn e w) (named_instruction e w) (rv64gc-no e w other) (plain_one-no (named_instruction e w) (extensions.extension_plain e w))
 
-opcode-no : (w o : ℕ) → opcode w ≡ o → o ≢ 0x67 → jumps_some (rv64gc_insn w) ≡ false
-opcode-no w o is other = rv64gc-no w (not_by_jalr w (λ e. other (omega (arith, is, e))) (λ e. other (omega (arith, is, e))))
+opcode-no : (e : Extensions) (w o : ℕ) → opcode w ≡ o → o ≢ 0x67 → jumps_some (rv64gc_insn e w) ≡ false
+opcode-no e w o is other = rv64gc-no e w (not_by_jalr w (λ p. other (omega (arith, is, p))) (λ p. other (omega (arith, is, p))))
 
 -- ---- the halfword of such an instruction: C.JR, and its register not a link register
 
-r-no : (o f3 f7 rd rs1 rs2 : ℕ) → o < 2 ^ 7 → o ≢ 0x67 → jumps_some (rv64gc_insn (r_type o f3 f7 rd rs1 rs2)) ≡ false
-r-no o f3 f7 rd rs1 rs2 fits other = opcode-no (r_type o f3 f7 rd rs1 rs2) o (r_type-opcode o f3 f7 rd rs1 rs2 fits) other
+r-no : (e : Extensions) (o f3 f7 rd rs1 rs2 : ℕ) → o < 2 ^ 7 → o ≢ 0x67 → jumps_some (rv64gc_insn e (r_type o f3 f7 rd rs1 rs2)) ≡ false
+r-no e o f3 f7 rd rs1 rs2 fits other = opcode-no e (r_type o f3 f7 rd rs1 rs2) o (r_type-opcode o f3 f7 rd rs1 rs2 fits) other
 
-i-no : (o f3 rd rs1 immediate : ℕ) → o < 2 ^ 7 → o ≢ 0x67 → jumps_some (rv64gc_insn (i_type o f3 rd rs1 immediate)) ≡ false
-i-no o f3 rd rs1 immediate fits other = opcode-no (i_type o f3 rd rs1 immediate) o (i_type-opcode o f3 rd rs1 immediate fits) other
+i-no : (e : Extensions) (o f3 rd rs1 immediate : ℕ) → o < 2 ^ 7 → o ≢ 0x67 → jumps_some (rv64gc_insn e (i_type o f3 rd rs1 immediate)) ≡ false
+i-no e o f3 rd rs1 immediate fits other = opcode-no e (i_type o f3 rd rs1 immediate) o (i_type-opcode o f3 rd rs1 immediate fits) other
 
-s-no : (o f3 rs1 rs2 immediate : ℕ) → o < 2 ^ 7 → o ≢ 0x67 → jumps_some (rv64gc_insn (s_type o f3 rs1 rs2 immediate)) ≡ false
-s-no o f3 rs1 rs2 immediate fits other = opcode-no (s_type o f3 rs1 rs2 immediate) o (s_type-opcode o f3 rs1 rs2 immediate fits) other
+s-no : (e : Extensions) (o f3 rs1 rs2 immediate : ℕ) → o < 2 ^ 7 → o ≢ 0x67 → jumps_some (rv64gc_insn e (s_type o f3 rs1 rs2 immediate)) ≡ false
+s-no e o f3 rs1 rs2 immediate fits other = opcode-no e (s_type o f3 rs1 rs2 immediate) o (s_type-opcode o f3 rs1 rs2 immediate fits) other
 
-b-no : (o f3 rs1 rs2 offset : ℕ) → o < 2 ^ 7 → o ≢ 0x67 → jumps_some (rv64gc_insn (b_type o f3 rs1 rs2 offset)) ≡ false
-b-no o f3 rs1 rs2 offset fits other = opcode-no (b_type o f3 rs1 rs2 offset) o (b_type-opcode o f3 rs1 rs2 offset fits) other
+b-no : (e : Extensions) (o f3 rs1 rs2 offset : ℕ) → o < 2 ^ 7 → o ≢ 0x67 → jumps_some (rv64gc_insn e (b_type o f3 rs1 rs2 offset)) ≡ false
+b-no e o f3 rs1 rs2 offset fits other = opcode-no e (b_type o f3 rs1 rs2 offset) o (b_type-opcode o f3 rs1 rs2 offset fits) other
 
-u-no : (o rd immediate : ℕ) → o < 2 ^ 7 → o ≢ 0x67 → jumps_some (rv64gc_insn (u_type o rd immediate)) ≡ false
-u-no o rd immediate fits other = opcode-no (u_type o rd immediate) o (u_type-opcode o rd immediate fits) other
+u-no : (e : Extensions) (o rd immediate : ℕ) → o < 2 ^ 7 → o ≢ 0x67 → jumps_some (rv64gc_insn e (u_type o rd immediate)) ≡ false
+u-no e o rd immediate fits other = opcode-no e (u_type o rd immediate) o (u_type-opcode o rd immediate fits) other
 
-j-no : (o rd offset : ℕ) → o < 2 ^ 7 → o ≢ 0x67 → jumps_some (rv64gc_insn (j_type o rd offset)) ≡ false
-j-no o rd offset fits other = opcode-no (j_type o rd offset) o (j_type-opcode o rd offset fits) other
+j-no : (e : Extensions) (o rd offset : ℕ) → o < 2 ^ 7 → o ≢ 0x67 → jumps_some (rv64gc_insn e (j_type o rd offset)) ≡ false
+j-no e o rd offset fits other = opcode-no e (j_type o rd offset) o (j_type-opcode o rd offset fits) other
 
 -- a JALR that links to x1
-link-no : (rs1 : ℕ) → jumps_some (rv64gc_insn (i_type 0x67 0 1 rs1 0)) ≡ false
-link-no rs1 =
+link-no : (e : Extensions) (rs1 : ℕ) → jumps_some (rv64gc_insn e (i_type 0x67 0 1 rs1 0)) ≡ false
+link-no e rs1 =
     let code = i_type-opcode 0x67 0 1 rs1 0 (omega arith) in
     let link = i_type-rd 0x67 0 1 rs1 0 (omega arith) (omega arith) in
-    rv64gc-no (i_type 0x67 0 1 rs1 0) (not_by_jalr (i_type 0x67 0 1 rs1 0) (λ e. omega (arith, code, link, e)) (λ e. omega (arith, code, link, e)))
+    rv64gc-no e (i_type 0x67 0 1 rs1 0) (not_by_jalr (i_type 0x67 0 1 rs1 0) (λ p. omega (arith, code, link, p)) (λ p. omega (arith, code, link, p)))
 
 -- and one through a link register
-return-no : (r : ℕ) → r < 2 ^ 5 → is_link_register r ≡ true → jumps_some (rv64gc_insn (i_type 0x67 0 0 r 0)) ≡ false
-return-no r fits link =
+return-no : (e : Extensions) (r : ℕ) → r < 2 ^ 5 → is_link_register r ≡ true → jumps_some (rv64gc_insn e (i_type 0x67 0 0 r 0)) ≡ false
+return-no e r fits link =
     let w = i_type 0x67 0 0 r 0 in
     let register = i_type-rs1 0x67 0 0 r 0 (omega arith) (omega arith) (omega arith) fits in
     let zero = i_type-rd 0x67 0 0 r 0 (omega arith) (omega arith) in
@@ -222,16 +234,16 @@ return-no r fits link =
     both-no (rd w == 0 && not (is_link_register (rs1 w))) (rd w == 6 && rs1 w == 28)
     (and_right (rd w == 0) (not (is_link_register (rs1 w))) return)
     (and_left (rd w == 6) (rs1 w == 28) (ap (λ n. n == 6) zero)) in
-    either-no (instruction w) (float_instruction w)
+    either-no (instruction w) (float_insn e w)
     (subst (λ (o : Option Insn). jumps_some o ≡ false) (sym (jalr_cases w (i_type-opcode 0x67 0 0 r 0 (omega arith))))
     (pick (funct3 w == 0) (insns.Jalr (rd w) (rs1 w) (i_immediate w)) None none refl))
-    (float-no w)
+    (left-no e w)
 
 module _ (e : Extensions) (h : ℕ) (never : is_jump_by_c_jr h ≡ false) where
   -- None of the forms that hold of the halfword is one.
   abbrev NoneJumps : List Form → Type 0
   NoneJumps [] = Unit {0}
-  NoneJumps (x ∷ xs) = (x.holds h ≡ true → jumps_some (rv64gc_insn (x.word h)) ≡ false) × NoneJumps xs
+  NoneJumps (x ∷ xs) = (x.holds h ≡ true → jumps_some (rv64gc_insn e (x.word h)) ≡ false) × NoneJumps xs
 
   join : (xs ys : List Form) → NoneJumps xs → NoneJumps ys → NoneJumps (xs ++ ys)
   join [] ys here there = there
@@ -240,14 +252,14 @@ module _ (e : Extensions) (h : ℕ) (never : is_jump_by_c_jr h ≡ false) where
   zero-no : NoneJumps quadrant_0
   unfolding quadrant_0
   zero-no = (
-    λ _. i-no 0x13 0 _ _ _ (omega arith) (omega arith),
+    λ _. i-no e 0x13 0 _ _ _ (omega arith) (omega arith),
     (
-      λ _. i-no 0x03 2 _ _ _ (omega arith) (omega arith),
+      λ _. i-no e 0x03 2 _ _ _ (omega arith) (omega arith),
       (
-        λ _. i-no 0x03 3 _ _ _ (omega arith) (omega arith),
+        λ _. i-no e 0x03 3 _ _ _ (omega arith) (omega arith),
         (
-          λ _. s-no 0x23 2 _ _ _ (omega arith) (omega arith),
-          (λ _. s-no 0x23 3 _ _ _ (omega arith) (omega arith), tt),
+          λ _. s-no e 0x23 2 _ _ _ (omega arith) (omega arith),
+          (λ _. s-no e 0x23 3 _ _ _ (omega arith) (omega arith), tt),
         ),
       ),
     ),
@@ -256,38 +268,38 @@ module _ (e : Extensions) (h : ℕ) (never : is_jump_by_c_jr h ≡ false) where
   one-no : NoneJumps quadrant_1
   unfolding quadrant_1
   one-no = (
-    λ _. i-no 0x13 0 _ _ _ (omega arith) (omega arith),
+    λ _. i-no e 0x13 0 _ _ _ (omega arith) (omega arith),
     (
-      λ _. i-no 0x1b 0 _ _ _ (omega arith) (omega arith),
+      λ _. i-no e 0x1b 0 _ _ _ (omega arith) (omega arith),
       (
-        λ _. i-no 0x13 0 _ _ _ (omega arith) (omega arith),
+        λ _. i-no e 0x13 0 _ _ _ (omega arith) (omega arith),
         (
-          λ _. i-no 0x13 0 _ _ _ (omega arith) (omega arith),
+          λ _. i-no e 0x13 0 _ _ _ (omega arith) (omega arith),
           (
-            λ _. u-no 0x37 _ _ (omega arith) (omega arith),
+            λ _. u-no e 0x37 _ _ (omega arith) (omega arith),
             (
-              λ _. i-no 0x13 5 _ _ _ (omega arith) (omega arith),
+              λ _. i-no e 0x13 5 _ _ _ (omega arith) (omega arith),
               (
-                λ _. i-no 0x13 5 _ _ _ (omega arith) (omega arith),
+                λ _. i-no e 0x13 5 _ _ _ (omega arith) (omega arith),
                 (
-                  λ _. i-no 0x13 7 _ _ _ (omega arith) (omega arith),
+                  λ _. i-no e 0x13 7 _ _ _ (omega arith) (omega arith),
                   (
-                    λ _. r-no 0x33 0 0x20 _ _ _ (omega arith) (omega arith),
+                    λ _. r-no e 0x33 0 0x20 _ _ _ (omega arith) (omega arith),
                     (
-                      λ _. r-no 0x33 4 0x00 _ _ _ (omega arith) (omega arith),
+                      λ _. r-no e 0x33 4 0x00 _ _ _ (omega arith) (omega arith),
                       (
-                        λ _. r-no 0x33 6 0x00 _ _ _ (omega arith) (omega arith),
+                        λ _. r-no e 0x33 6 0x00 _ _ _ (omega arith) (omega arith),
                         (
-                          λ _. r-no 0x33 7 0x00 _ _ _ (omega arith) (omega arith),
+                          λ _. r-no e 0x33 7 0x00 _ _ _ (omega arith) (omega arith),
                           (
-                            λ _. r-no 0x3b 0 0x20 _ _ _ (omega arith) (omega arith),
+                            λ _. r-no e 0x3b 0 0x20 _ _ _ (omega arith) (omega arith),
                             (
-                              λ _. r-no 0x3b 0 0x00 _ _ _ (omega arith) (omega arith),
+                              λ _. r-no e 0x3b 0 0x00 _ _ _ (omega arith) (omega arith),
                               (
-                                λ _. j-no 0x6f _ _ (omega arith) (omega arith),
+                                λ _. j-no e 0x6f _ _ (omega arith) (omega arith),
                                 (
-                                  λ _. b-no 0x63 0 _ _ _ (omega arith) (omega arith),
-                                  (λ _. b-no 0x63 1 _ _ _ (omega arith) (omega arith), tt),
+                                  λ _. b-no e 0x63 0 _ _ _ (omega arith) (omega arith),
+                                  (λ _. b-no e 0x63 1 _ _ _ (omega arith) (omega arith), tt),
                                 ),
                               ),
                             ),
@@ -308,27 +320,27 @@ module _ (e : Extensions) (h : ℕ) (never : is_jump_by_c_jr h ≡ false) where
   two-no : NoneJumps quadrant_2
   unfolding quadrant_2
   two-no = (
-    λ _. i-no 0x13 1 _ _ _ (omega arith) (omega arith),
+    λ _. i-no e 0x13 1 _ _ _ (omega arith) (omega arith),
     (
-      λ _. i-no 0x03 2 _ _ _ (omega arith) (omega arith),
+      λ _. i-no e 0x03 2 _ _ _ (omega arith) (omega arith),
       (
-        λ _. i-no 0x03 3 _ _ _ (omega arith) (omega arith),
+        λ _. i-no e 0x03 3 _ _ _ (omega arith) (omega arith),
         (
           λ held. elim (cases_Bool (is_link_register (first_register h))) [
-            | inl link ↦ return-no (first_register h) (omega arith) link
+            | inl link ↦ return-no e (first_register h) (omega arith) link
             | inr other ↦ absurd (grind (arith, nat_tests))
           ],
           (
-            λ _. r-no 0x33 0 0x00 _ _ _ (omega arith) (omega arith),
+            λ _. r-no e 0x33 0 0x00 _ _ _ (omega arith) (omega arith),
             (
-              λ _. i-no 0x73 0 _ _ _ (omega arith) (omega arith),
+              λ _. i-no e 0x73 0 _ _ _ (omega arith) (omega arith),
               (
-                λ _. link-no (first_register h),
+                λ _. link-no e (first_register h),
                 (
-                  λ _. r-no 0x33 0 0x00 _ _ _ (omega arith) (omega arith),
+                  λ _. r-no e 0x33 0 0x00 _ _ _ (omega arith) (omega arith),
                   (
-                    λ _. s-no 0x23 2 _ _ _ (omega arith) (omega arith),
-                    (λ _. s-no 0x23 3 _ _ _ (omega arith) (omega arith), tt),
+                    λ _. s-no e 0x23 2 _ _ _ (omega arith) (omega arith),
+                    (λ _. s-no e 0x23 3 _ _ _ (omega arith) (omega arith), tt),
                   ),
                 ),
               ),
@@ -342,12 +354,12 @@ module _ (e : Extensions) (h : ℕ) (never : is_jump_by_c_jr h ≡ false) where
   floating-no : NoneJumps float_forms
   unfolding float_forms
   floating-no = (
-    λ _. i-no 0x07 3 _ _ _ (omega arith) (omega arith),
+    λ _. i-no e 0x07 3 _ _ _ (omega arith) (omega arith),
     (
-      λ _. s-no 0x27 3 _ _ _ (omega arith) (omega arith),
+      λ _. s-no e 0x27 3 _ _ _ (omega arith) (omega arith),
       (
-        λ _. i-no 0x07 3 _ _ _ (omega arith) (omega arith),
-        (λ _. s-no 0x27 3 _ _ _ (omega arith) (omega arith), tt),
+        λ _. i-no e 0x07 3 _ _ _ (omega arith) (omega arith),
+        (λ _. s-no e 0x27 3 _ _ _ (omega arith) (omega arith), tt),
       ),
     ),
   )
@@ -357,7 +369,7 @@ module _ (e : Extensions) (h : ℕ) (never : is_jump_by_c_jr h ≡ false) where
   forms-no = join (quadrant_0 ++ quadrant_1) quadrant_2 (join quadrant_0 quadrant_1 zero-no one-no) two-no
 
   abbrev IsNoJump : Option ℕ → Type 0
-  IsNoJump word = jumps_some (option_map_or rv64gc_insn word (extension_form e h)) ≡ false
+  IsNoJump word = jumps_some (option_map_or (rv64gc_insn e) word (extension_form e h)) ≡ false
 
   extension-no : IsNoJump None
   extension-no = plain_one-no (extension_form e h) (extensions.form_plain e h)
@@ -372,7 +384,9 @@ module _ (e : Extensions) (h : ℕ) (never : is_jump_by_c_jr h ≡ false) where
 
   compressed-no : jumps_some (compressed_insn e h) ≡ false
   unfolding expansion float_expansion
-  compressed-no = one_of-no (expansion h) (float_expansion h) (first-no forms forms-no) (first-no float_forms floating-no)
+  compressed-no =
+      one_of-no (expansion h) (float_form e h) (first-no forms forms-no)
+      (cond_both (takes_doubles e) None (float_expansion h) IsNoJump (λ _. extension-no) (λ _. first-no float_forms floating-no))
 
 -- ---- the bytes at an address
 

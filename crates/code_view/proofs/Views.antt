@@ -1,15 +1,14 @@
 -- The program that a file's code is, by the file and the cuts that are kept of it.
-use Rattle.std.proofs.Common.{◌≡◌, ℕ, ◌<◌, true, List, length, IsSome, sym, ap, ◌∙◌, subst}
+use Rattle.std.proofs.Common.{◌≡◌, ℕ, true, List, IsSome, sym, ap, ◌∙◌, subst}
 use Rattle.std.specs.FinMap as map
 use Rattle.std.specs.Ordering.{nat_cmp}
 use Rattle.std.proofs.lemmas.Option.{none-some}
 use Rattle.elf_image.specs.Code.{is_code}
 use Rattle.elf_image.specs.Faults.{IsImage}
-use Rattle.jump_table.specs.Table.{table_at}
-use Rattle.cfg_model.specs.Program.Instructions.{IsLawful, targets_at}
+use Rattle.cfg_model.specs.Program.Instructions.{IsLawful}
 use Rattle.code_view.specs.Cuts.{Counts, cut_of, CutsFit}
 use Rattle.code_view.specs.FileCode.{FileCode, program_of}
-use Rattle.code_view.proofs.Lawful.{program-lawful, code_of, code_of_target, IsKeptOf, kept-at}
+use Rattle.code_view.proofs.Lawful.{program-lawful, code_of}
 
 -- It is lawful where the cuts fit.
 pub lawful-view : (bytes : List ℕ) (cuts : Counts) → IsImage bytes → CutsFit bytes (cut_of cuts) → (code : FileCode) → record { bytes = bytes; cuts = cuts } ≡ code → IsLawful (program_of code)
@@ -26,16 +25,6 @@ module _ (bytes : List ℕ) (cuts : Counts) (code : FileCode) (is : record { byt
   -- which is one of the file that the index is of.
   pub index-view : (index : List ℕ) → index ≡ bytes → IsSome (program_of code a) → is_code index a ≡ true
   index-view index same there = subst (λ b. is_code b a ≡ true) (sym same) (code-view there)
-
-  -- So does one that has kept targets.
-  pub target-view : (i : ℕ) → i < length (targets_at (program_of code) a) → is_code bytes a ≡ true
-  target-view i below = same-code (code_of_target code.bytes (cut_of code.cuts) a i below)
-
--- Each kept target is that of an entry of the table.
-pub kept-view : (bytes : List ℕ) (cuts : Counts) → CutsFit bytes (cut_of cuts) → (code : FileCode) → record { bytes = bytes; cuts = cuts } ≡ code
-    → (a i : ℕ) → i < length (targets_at (program_of code) a) → IsKeptOf code.bytes (targets_at (program_of code) a) (table_at code.bytes a) i
-kept-view bytes cuts fit code is a i =
-    subst (λ (c : FileCode). i < length (targets_at (program_of c) a) → IsKeptOf c.bytes (targets_at (program_of c) a) (table_at c.bytes a) i) is (kept-at bytes (cut_of cuts) a i fit)
 
 -- Where nothing is cut, the cuts fit any file.
 pub none-fits : (bytes : List ℕ) (cuts : Counts) → cuts ≡ map.empty → CutsFit bytes (cut_of cuts)

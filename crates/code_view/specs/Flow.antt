@@ -1,8 +1,11 @@
 -- The control flow of an instruction of a file under table cuts (Meng et al., PPoPP 2021; what
 -- counts as outside the code, and what is dropped, is this project's profile).
-use Rattle.std.specs.Prelude.{ℕ, ◌==◌, List, [], Option, Some, None, take, unwrap_or, if◌then◌else◌}
-use Rattle.std.specs.Option.{option_map_or}
+use Rattle.std.specs.Prelude.{ℕ, ◌-◌, ◌==◌, ◌&&◌, List, [], Option, Some, None, take, unwrap_or}
+use Rattle.std.specs.Prelude.{if◌then◌else◌, option_to_list}
+use Rattle.std.specs.Option.{option_map_or, option_and_then}
 use Rattle.elf_image.specs.Code.{is_code}
+use Rattle.elf_symbols.specs.NoReturn.{is_no_return}
+use Rattle.landing_pads.specs.Pad.{pad_at}
 use Rattle.rv_flow.specs.declared.raw.RawFlow.{RawFlow}
 use Rattle.rv_flow.specs.declared.raw.RawFlow.TheVariants as raw
 use Rattle.jump_table.specs.declared.table.Table.{Table}
@@ -28,6 +31,12 @@ abbrev pub call_flow : Option ℕ → Option ℕ → Flow
 call_flow None fall = flow.IndirectCall fall
 call_flow (Some target) fall = flow.Call target fall
 
+-- Where a call of a known address returns to: to the address behind it, if code is there, unless the
+-- callee is a function of the code that does not return.
+abbrev pub call_fall : List ℕ → ℕ → ℕ → Option ℕ
+call_fall bytes target behind =
+    if is_code bytes target && is_no_return bytes target then None else in_code bytes behind
+
 -- How many entries are kept of a table: as many as its cut says, or all of them.
 abbrev pub kept_entries : Option ℕ → Table → ℕ
 kept_entries cut table = unwrap_or cut table.count
@@ -47,15 +56,23 @@ flow_by bytes behind cut table (raw.Branch target) =
     flow.Branch (in_code bytes target) (in_code bytes behind)
 flow_by bytes behind cut table (raw.Jump target) = jump_flow (in_code bytes target)
 flow_by bytes behind cut table (raw.Call target) =
-    call_flow (in_code bytes target) (in_code bytes behind)
+    call_flow (in_code bytes target) (call_fall bytes target behind)
 flow_by bytes behind cut table raw.IndirectCall = flow.IndirectCall (in_code bytes behind)
 flow_by bytes behind cut table raw.Return = flow.Return
 flow_by bytes behind cut table (raw.RegisterJump register offset) = table_flow cut table
+flow_by bytes behind cut table raw.Unknown = flow.Unknown
 flow_by bytes behind cut table raw.Stop = flow.Stop
 
--- The kept targets of a jump through a table, the first of its targets; none of any other
--- instruction.
-abbrev pub kept_by : List ℕ → Option ℕ → Option Table → RawFlow → List ℕ
-kept_by bytes cut table (raw.RegisterJump register offset) =
+-- The landing pad of a call, if it is one of code: that of the last byte of the call, right before
+-- the address where the call returns to.
+abbrev pub pad_behind : List ℕ → ℕ → Option ℕ
+pad_behind bytes behind = option_and_then (in_code bytes) (pad_at bytes (behind - 1))
+
+-- The kept targets of a jump through a table, the first of its targets; the landing pad of a call;
+-- none of any other instruction.
+abbrev pub kept_by : List ℕ → ℕ → Option ℕ → Option Table → RawFlow → List ℕ
+kept_by bytes behind cut table (raw.RegisterJump register offset) =
     option_map_or (λ table. take (kept_entries cut table) (table_targets bytes table)) table []
-kept_by bytes cut table _ = []
+kept_by bytes behind cut table (raw.Call target) = option_to_list (pad_behind bytes behind)
+kept_by bytes behind cut table raw.IndirectCall = option_to_list (pad_behind bytes behind)
+kept_by bytes behind cut table _ = []

@@ -9,11 +9,12 @@ use Rattle.code_view.specs.RegisterJump.{is_register_jump_at}
 use Rattle.code_view.specs.Tables.{AreAllTables}
 
 -- The file has no fault, the cuts are those of tables of the file, the index is that of the file,
--- and so are the tables that are known.
+-- and so are what is known of calls and the tables that are known.
 pub record IsCodeOf (c : Inside) : Type 0 where
   pub accepted : IsImage c.image.now
   pub cuts : CutsFit c.image.now (cut_of c.cuts.now)
   pub index : c.index.now ≡ c.image.now
+  pub calls : c.calls.now ≡ c.image.now
   pub tables : IfSome c.tables (λ tables. AreAllTables c.image.now tables.now)
 
 -- These are addresses, among those that are looked for, whose first halfword is that of a jump

@@ -14,7 +14,7 @@ unfoldable pub instruction_at : List ℕ → (ℕ → Option Table) → (ℕ →
 instruction_at bytes tables cuts a = record {
   bytes = (placed_at bytes a).length;
   flow = flow_by bytes (a + (placed_at bytes a).length) (cuts a) (tables a) (raw_flow_at bytes a);
-  targets = kept_by bytes (cuts a) (tables a) (raw_flow_at bytes a);
+  targets = kept_by bytes (a + (placed_at bytes a).length) (cuts a) (tables a) (raw_flow_at bytes a);
 }
 
 -- The instructions of a file, one at each code address.

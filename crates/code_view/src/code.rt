@@ -1,16 +1,17 @@
 //! An image's instructions as a program.
 
 use crate::Memory;
+use crate::calls::Calls;
 use crate::cuts::Cuts;
 use crate::flow::{call_flow, jump_flow, straight_flow, table_flow};
 use crate::jump_word::{is_jump_word, jump_length};
 use crate::kept::kept_targets;
-use crate::register_jump::{is_register_jump, register_jumps_between};
+use crate::register_jump::register_jumps_between;
 use crate::tables::AllTables;
 use cfg_model::{Chains, Flow};
 use chain_index::ChainIndex;
 use elf_image::Image;
-use jump_table::{Table, find_table, target_of};
+use jump_table::{Table, find_table};
 use rv_flow::{RawFlow, flow_of_bytes, insn_at};
 use std::alloc::Global;
 use std::marker::Model;
@@ -21,11 +22,14 @@ use std::marker::Model;
 /// target is not known, and a branch that loses one of its ways is cut off. A straight instruction
 /// with no code after it stops. A jump through a register that is no return goes through its jump
 /// table, and its cut says how many entries are kept. Without a table its targets are unknown. Once
-/// all tables of the code are known, they are looked up; before, each is found anew.
+/// all tables of the code are known, they are looked up; before, each is found anew. A call goes on
+/// at its landing pad too, if the file has one for it. A call of a known function that does not
+/// return has no fall.
 #[derive(Drop)]
 pub struct Code<'a> {
     image: &'a Image,
     index: &'a ChainIndex<'a>,
+    calls: &'a Calls<'a>,
     cuts: &'a Cuts,
     tables: Option<&'a AllTables>,
 }
@@ -45,26 +49,33 @@ impl<'a> Model for Code<'a> {
 }
 
 impl<'a> Code<'a> {
-    ghost use Rattle.std.specs.Prelude.{◌≡◌, ℕ, ◌≤◌, true, false, None, IsTrue, IsSome, IfOk};
-    ghost use Rattle.std.specs.Prelude.{All, Contains, vec_len};
+    ghost use Rattle.std.specs.Prelude.{◌≡◌, ℕ, ◌<◌, ◌≤◌, None, IsTrue, IsSome, IfOk};
+    ghost use Rattle.std.specs.Prelude.{All, Contains, vec_len, option_to_list};
     ghost use Rattle.std.specs.List.Sorted.{IsNonDecreasing};
     ghost use Rattle.elf_image.specs.Code.{is_code};
     ghost use Rattle.elf_image.specs.Faults.{IsImage};
     ghost use Rattle.rv_flow.specs.Placed.{placed_at};
     ghost use Rattle.jump_table.specs.Table.{table_at};
     ghost use Rattle.code_view.specs.Cuts.{cut_of, CutsFit};
-    ghost use Rattle.code_view.specs.Flow.{flow_by, in_code};
+    ghost use Rattle.code_view.specs.Flow.{flow_by, call_flow, call_fall, in_code, pad_behind};
     ghost use Rattle.code_view.specs.Program.{program_under};
     ghost use Rattle.code_view.specs.FileCode.{program_of};
     ghost use Rattle.code_view.specs.Tables.{AreAllTables};
-    ghost use Rattle.code_view.specs.RegisterJump.{is_register_jump_at, AreRegisterJumps};
+    ghost use Rattle.code_view.specs.RegisterJump.{AreRegisterJumps};
     ghost use Rattle.code_view.specs.RegisterJump.{IsBetween, AreRegisterJumpsBetween};
-    ghost use Rattle.cfg_model.specs.Program.Instructions.{flow_at, IsLawful};
+    ghost use Rattle.cfg_model.specs.Program.Instructions.{flow_at, targets_at, IsLawful};
 
-    /// The code of `image`, whose chains end as `index` says, under `cuts`. Each of the cuts is of
-    /// a table of that image: at least 1, and at most the number of the table's entries.
-    pub fn new(image: &'a Image, index: &'a ChainIndex<'a>, cuts: &'a Cuts) -> Code<'a>
+    /// The code of `image`, whose chains end as `index` says, and whose calls do what `calls` say,
+    /// under `cuts`. Each of the cuts is of a table of that image: at least 1, and at most the
+    /// number of the table's entries.
+    pub fn new(
+        image: &'a Image,
+        index: &'a ChainIndex<'a>,
+        calls: &'a Calls<'a>,
+        cuts: &'a Cuts,
+    ) -> Code<'a>
         requires index { index.now ≡ image.now }
+        requires calls { calls.now ≡ image.now }
         requires cuts { CutsFit image.now (cut_of cuts.now) }
         ensures program { ⟦<Code<'a> as Chains>⟧.map result ≡ program_under image.now
             (cut_of cuts.now) }
@@ -75,6 +86,7 @@ impl<'a> Code<'a> {
         Code {
             image,
             index,
+            calls,
             cuts,
             tables: None,
         }
@@ -89,6 +101,7 @@ impl<'a> Code<'a> {
         Code {
             image: self.image,
             index: self.index,
+            calls: self.calls,
             cuts,
             tables: self.tables,
         }
@@ -102,6 +115,7 @@ impl<'a> Code<'a> {
         Code {
             image: self.image,
             index: self.index,
+            calls: self.calls,
             cuts: self.cuts,
             tables: Some(tables),
         }
@@ -153,21 +167,6 @@ impl<'a> Code<'a> {
         match self.tables {
             Some(tables) => tables.table(j),
             None => find_table(self.image, j),
-        }
-    }
-
-    /// Whether the instruction at the code address `a` is a jump through a register that is not a
-    /// return by C.JR, by its first halfword, as in [`register_jumps`](Self::register_jumps). No
-    /// other instruction has a jump table. It decodes nothing.
-    pub fn jumps_by_register(&self, a: u64) -> bool
-        requires { IsTrue (is_code self.now.bytes a) }
-        ensures form { result ≡ is_register_jump_at self.now.bytes a }
-        ensures none { result ≡ false → table_at self.now.bytes a ≡ None }
-        ensures lawful { IsLawful (program_of self.now) }
-    {
-        match self.image.half_at(a) {
-            Some(half) => is_register_jump(half),
-            None => false,
         }
     }
 
@@ -251,11 +250,67 @@ impl<'a> Code<'a> {
                 fall: self.in_code(behind),
             },
             RawFlow::Jump { target } => jump_flow(self.in_code(target)),
-            RawFlow::Call { target } => { call_flow(self.in_code(target), self.in_code(behind)) }
+            RawFlow::Call { target } => self.call_of(target, behind),
             RawFlow::IndirectCall => call_flow(None, self.in_code(behind)),
             RawFlow::Return => Flow::Return,
             RawFlow::RegisterJump { .. } => table_flow(self.cuts.count(a), self.table(a)),
+            RawFlow::Unknown => Flow::Unknown,
             RawFlow::Stop => Flow::Stop,
+        }
+    }
+
+    /// The flow of a call of `target`; `behind` is the address after it.
+    fn call_of(&self, target: u64, behind: u64) -> Flow
+        ensures { result ≡ call_flow (in_code self.now.bytes target)
+            (call_fall self.now.bytes target behind) }
+    {
+        if !self.index.is_code(target) {
+            return Flow::IndirectCall {
+                fall: self.in_code(behind),
+            };
+        }
+        if self.calls.ends_at(target) {
+            return Flow::Call { target, fall: None };
+        }
+        Flow::Call {
+            target,
+            fall: self.in_code(behind),
+        }
+    }
+
+    /// The landing pad of the call that ends at the address `behind`, if it is one of code.
+    fn pad_behind(&self, behind: u64) -> Option<u64>
+        requires { 0 < behind }
+        ensures { result ≡ pad_behind self.now.bytes behind }
+    {
+        match self.calls.pad(behind - 1) {
+            Some(pad) => self.in_code(pad),
+            None => None,
+        }
+    }
+
+    /// The kept targets of the instruction at `a`, which has no table: the landing pad of a call.
+    fn pads(&self, a: u64) -> Result<Vec<u64>, Memory>
+        requires code { IsTrue (is_code self.now.bytes a) }
+        requires table { table_at self.now.bytes a ≡ None }
+        ensures { IfOk result (λ v. v.items ≡ targets_at (program_of self.now) a) }
+    {
+        let mut pads = Vec::new(self.cuts.alloc());
+        if let Some(pad) = self.pad(a) {
+            pads.push(pad)?;
+        }
+        Ok(pads)
+    }
+
+    /// The landing pad of the instruction at `a`, which has no table, if it is a call that has one.
+    fn pad(&self, a: u64) -> Option<u64>
+        requires code { IsTrue (is_code self.now.bytes a) }
+        requires table { table_at self.now.bytes a ≡ None }
+        ensures { targets_at (program_of self.now) a ≡ option_to_list result }
+    {
+        match self.flow(a) {
+            Flow::Call { .. } | Flow::IndirectCall { .. } => self.landing(a),
+            _ => None,
         }
     }
 }
@@ -282,15 +337,18 @@ impl<'a> Chains for Code<'a> {
         self.told_length(a)
     }
 
-    fn target(&self, a: u64, i: u32) -> u64 {
-        target_of(self.image, a, i)
-    }
-
     fn targets(&self, a: u64) -> Result<Vec<u64>, Memory> {
         match self.table(a) {
             Some(table) => kept_targets(self.cuts.alloc(), self.image, self.cuts.count(a), table),
-            None => Ok(Vec::new(self.cuts.alloc())),
+            None => self.pads(a),
         }
+    }
+
+    fn landing(&self, a: u64) -> Option<u64> {
+        if self.calls.lands_nowhere() {
+            return None;
+        }
+        self.pad_behind(a + u64::from(self.told_length(a)))
     }
 
     #[inline(always)]

@@ -1,6 +1,6 @@
 //! Table cuts: of some jump tables fewer entries are kept than are there.
 
-ghost use Rattle.std.specs.Prelude.{◌≡◌, ◌↔◌, ◌≤◌, IsTrue, OnOk, OnErr};
+ghost use Rattle.std.specs.Prelude.{◌≡◌, ◌≤◌, OnOk, OnErr};
 ghost use Rattle.std.specs.FinMap as map;
 ghost use Rattle.code_view.specs.Cuts.{cut_of};
 
@@ -44,13 +44,6 @@ impl Cuts {
     /// The allocator that the cuts were made with.
     pub(crate) fn alloc(&self) -> Global {
         self.alloc
-    }
-
-    /// Whether no table is cut.
-    pub fn is_empty(&self) -> bool
-        ensures { IsTrue result ↔ (self.now ≡ map.empty) }
-    {
-        self.counts.is_empty()
     }
 
     /// The cut of the jump at `j`; `None` exactly if it has no cut.

@@ -26,9 +26,7 @@ impl Job for Brand {
     ghost seeds = { [] };
 }
 
-/// Where the nine changes are made, and what has to be read for them is read. Two of the changes
-/// can be made by another call that answers more, by the same look: [`Place::place_waiter`] is
-/// [`Place::wait`], and [`Place::mark_told`] is [`Place::told`].
+/// Where the nine changes are made, and what has to be read for them is read.
 ///
 /// A place knows facts, and what it knows it keeps. It tells the maps that it stands for, or does
 /// not; if it does, it knows exactly what holds of them. A call that is refused changes no map.
@@ -128,21 +126,7 @@ pub trait Place<J: Job> {
             self.old self.new result };
 
     /// Makes `w` wait at the terminator `k`, untold, if it does not wait there yet. Answers whether
-    /// it is new there.
-    fn wait(&mut self, k: u64, w: Waiter) -> Result<bool, PlaceEnd>
-        requires lawful { IsLawful J.map }
-        requires kept { AreKept J.map J.seeds (maps self.old) }
-        requires reason { Reason J.map J.seeds (knows self.old) (Event.Wait k w) }
-        ensures step { OnOk result
-            (Makes J.map J.seeds (Event.Wait k w) (maps self.old) (maps self.new)) }
-        ensures brings { OnOk result (Brings (Event.Wait k w) (knows self.new)) }
-        ensures answer { IfOk result (λ new. ForSome (maps self.old)
-            (λ state. IsTrue new ↔ ¬ WaitsAt state.terminators k w)) }
-        ensures tried { ChangeTried J.map J.seeds maps knows busies ShardKind.Terms k
-            self.old self.new result };
-
-    /// Makes `w` wait at the terminator `k` as [`Place::wait`] does. Answers whether it is to be
-    /// told now: it is new there, and `k` is known to return. Both are read where it is placed, by
+    /// it is to be told now: it is new there, and `k` is known to return. Both are read where it is placed, by
     /// the same look. So if it is new and is not to be told now, it waits there already when `k` is
     /// noted to return. The call that notes this answers that the return is new.
     fn place_waiter(&mut self, k: u64, w: Waiter) -> Result<bool, PlaceEnd>
@@ -170,20 +154,8 @@ pub trait Place<J: Job> {
         ensures tried { ChangeTried J.map J.seeds maps knows busies ShardKind.Terms k
             self.old self.new result };
 
-    /// Notes that `w` was told that the terminator `k`, at which it waits, returns.
-    fn told(&mut self, k: u64, w: Waiter) -> Result<(), PlaceEnd>
-        requires lawful { IsLawful J.map }
-        requires kept { AreKept J.map J.seeds (maps self.old) }
-        requires reason { Reason J.map J.seeds (knows self.old) (Event.Told k w) }
-        ensures step { OnOk result
-            (Makes J.map J.seeds (Event.Told k w) (maps self.old) (maps self.new)) }
-        ensures brings { OnOk result (Brings (Event.Told k w) (knows self.new)) }
-        ensures tried { ChangeTried J.map J.seeds maps knows busies ShardKind.Terms k
-            self.old self.new result };
-
-    /// Notes that `w` was told that the terminator `k`, at which it waits, returns, as
-    /// [`Place::told`] does. Answers whether another waiter is left to be told there, which is read
-    /// where `w` is marked, by the same look.
+    /// Notes that `w` was told that the terminator `k`, at which it waits, returns. Answers whether
+    /// another waiter is left to be told there, which is read where `w` is marked, by the same look.
     fn mark_told(&mut self, k: u64, w: Waiter) -> Result<bool, PlaceEnd>
         requires lawful { IsLawful J.map }
         requires kept { AreKept J.map J.seeds (maps self.old) }

@@ -42,21 +42,12 @@ impl<J: Job> Place<J> for State {
         Ok(State::term(self, k)?)
     }
 
-    fn wait(&mut self, k: u64, w: Waiter) -> Result<bool, PlaceEnd> {
-        Ok(State::wait(self, k, w)?)
-    }
-
     fn place_waiter(&mut self, k: u64, w: Waiter) -> Result<bool, PlaceEnd> {
         Ok(State::place_waiter(self, k, w)?)
     }
 
     fn returned(&mut self, k: u64) -> Result<bool, PlaceEnd> {
         Ok(State::returned(self, k))
-    }
-
-    fn told(&mut self, k: u64, w: Waiter) -> Result<(), PlaceEnd> {
-        State::told(self, k, w);
-        Ok(())
     }
 
     fn mark_told(&mut self, k: u64, w: Waiter) -> Result<bool, PlaceEnd> {

@@ -6,7 +6,7 @@ use Rattle.cfg_model.specs.Program.Instructions.{InstructionMap}
 use Rattle.cfg_model.specs.declared.state.Waiter.{Waiter}
 use Rattle.cfg_model.specs.Builder.Fact.{Fact}
 use Rattle.core_state.specs.Place.{Remembers}
-use Rattle.turn_slots.specs.Share.{Share}
+use Rattle.board.specs.Locks.Share.{Share}
 use Rattle.board.specs.Slots.{BoardId}
 use Rattle.board.specs.Seat.{SeatState, Knows, Values}
 use Rattle.board.specs.Calls.{Stays, KnowsTruth}

@@ -7,8 +7,8 @@ use Rattle.std.proofs.lemmas.Bool.{cases_lt, false≢true}
 use Rattle.std.proofs.lemmas.List.{map-append, take-append-drop, length-map, get_or-replicate, get_or_past, length-replicate, length-take, length-drop}
 use Rattle.std.proofs.lemmas.List.Elements.{All-same, All-take, All-drop}
 use Rattle.std.proofs.lemmas.Option.{slice_get-map, slice_get-get_or, same_Some, none-some}
-use Rattle.turn_slots.specs.Share.{Share, half, IsSame}
-use Rattle.turn_slots.proofs.Same.{halves, transits, same_both}
+use Rattle.board.specs.Locks.Share.{Share, half, IsSame}
+use Rattle.board.proofs.Locks.Same.{halves, transits, same_both}
 use Rattle.board.specs.Slots.{BoardId}
 use Rattle.board.specs.Seat.{SeatState, Values, HoldsNothing, with_half, newcomer, with_both, first_seat}
 use Rattle.steal_pool.specs.Pool.{PoolValue, HandValue, DequeId, IsHandOf, AreAllHands, workers_of}

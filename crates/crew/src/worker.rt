@@ -212,12 +212,6 @@ impl<J: Job, S: WorkerIds> Place<J> for Worker<'_, J, S> {
         Ok(new)
     }
 
-    fn wait(&mut self, k: u64, w: Waiter) -> Result<bool, PlaceEnd> {
-        self.tally.count_try();
-        let desk = &mut self.desk;
-        desk.seat.wait(desk.board, k, w)
-    }
-
     #[inline(always)]
     fn place_waiter(&mut self, k: u64, w: Waiter) -> Result<bool, PlaceEnd> {
         let desk = &mut self.desk;
@@ -239,12 +233,6 @@ impl<J: Job, S: WorkerIds> Place<J> for Worker<'_, J, S> {
         let new = desk.seat.returned(desk.board, k)?;
         desk.cache.returned.note(k);
         Ok(new)
-    }
-
-    fn told(&mut self, k: u64, w: Waiter) -> Result<(), PlaceEnd> {
-        self.tally.count_try();
-        let desk = &mut self.desk;
-        desk.seat.told(desk.board, k, w)
     }
 
     fn mark_told(&mut self, k: u64, w: Waiter) -> Result<bool, PlaceEnd> {

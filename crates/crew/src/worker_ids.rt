@@ -7,7 +7,7 @@ use std::marker::Brand;
 /// type says it. It has no function, and contracts alone see it.
 pub(crate) trait WorkerIds {
     ghost use Rattle.std.specs.Prelude.{ℕ, List};
-    ghost use Rattle.turn_slots.specs.Share.{Share};
+    ghost use Rattle.board.specs.Locks.Share.{Share};
     ghost use Rattle.board.specs.Slots.{BoardId};
     ghost use Rattle.steal_pool.specs.Pool.{DequeId};
 
@@ -27,7 +27,7 @@ pub(crate) trait WorkerIds {
 /// Where a worker's members are picked at a call, in its proof.
 impl WorkerIds for Brand {
     ghost use Rattle.std.specs.Prelude.{[]};
-    ghost use Rattle.turn_slots.specs.Share.{whole};
+    ghost use Rattle.board.specs.Locks.Share.{whole};
     ghost use Rattle.crew.specs.inner.Nowhere.{no_board};
 
     ghost board = { no_board };

@@ -4,8 +4,8 @@
 //! reads and writes.
 
 use rv_decode::{
-    AtomicKind, BranchKind, CsrKind, ExtendKind, ImmKind, ImmWKind, Insn, LoadKind, RegKind,
-    RegWKind, StoreKind,
+    AtomicKind, AwayKind, BranchKind, CsrKind, ExtendKind, ImmKind, ImmWKind, Insn, LoadKind,
+    RegKind, RegWKind, StoreKind, VendorKind,
 };
 use std::fmt;
 
@@ -84,6 +84,18 @@ impl fmt::Display for Assembly {
             }
             Insn::Extend { kind, rd, rs1 } => write!(f, "{} x{rd},x{rs1}", extend_name(kind)),
             Insn::Extension { reads, writes } => write!(f, "extension {reads:08x},{writes:08x}"),
+            Insn::Away {
+                kind,
+                reads,
+                writes,
+            } => write!(f, "{} {reads:08x},{writes:08x}", away_name(kind)),
+            Insn::Vendor {
+                kind,
+                shift,
+                rd,
+                rs1,
+                rs2,
+            } => write!(f, "{} x{rd},x{rs1},x{rs2},{shift}", vendor_name(kind)),
             Insn::Csr {
                 kind,
                 rd,
@@ -96,6 +108,25 @@ impl fmt::Display for Assembly {
                 _ => write!(f, "{} x{rd},{csr},{source}", csr_name(kind)),
             },
         }
+    }
+}
+
+fn away_name(kind: AwayKind) -> &'static str {
+    match kind {
+        AwayKind::Return => "extension_return",
+        AwayKind::Unknown => "extension_jump",
+        AwayKind::Call => "extension_call",
+    }
+}
+
+fn vendor_name(kind: VendorKind) -> &'static str {
+    match kind {
+        VendorKind::Addsl => "th.addsl",
+        VendorKind::Lrw => "th.lrw",
+        VendorKind::Lurw => "th.lurw",
+        VendorKind::Lrd => "th.lrd",
+        VendorKind::Lurd => "th.lurd",
+        VendorKind::Other => "vendor",
     }
 }
 

@@ -8,9 +8,8 @@ use crate::assembly::Assembly;
 use anyhow::Result;
 use byteorder::{ByteOrder, LittleEndian};
 use elf_image::Extensions;
-use rv_decode::decode;
 use rv_extensions::decode_extension;
-use rv_float::decode_float;
+use rv_flow::rv64gc_insn;
 use std::io::Write;
 
 /// The lines for these bytes.
@@ -21,7 +20,7 @@ pub(crate) fn write_words<W: Write>(
 ) -> Result<()> {
     for word in bytes.chunks_exact(4) {
         let word = LittleEndian::read_u32(word);
-        let in_rv64gc = decode(word).or(decode_float(word));
+        let in_rv64gc = rv64gc_insn(&extensions, word);
         match in_rv64gc.or(decode_extension(extensions, word)) {
             Some(insn) => writeln!(out, "{word:08x} {}", Assembly(insn))?,
             None => writeln!(out, "{word:08x} none")?,

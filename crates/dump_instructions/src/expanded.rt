@@ -6,8 +6,7 @@ use anyhow::Result;
 use elf_image::Extensions;
 use num_traits::Num;
 use rv_extensions::expand_extension;
-use rv_float::expand_float;
-use rvc_expand::expand;
+use rv_flow::rv64gc_word;
 use std::alloc::Global;
 use std::io::{BufRead, BufReader, Write};
 
@@ -20,7 +19,7 @@ pub(crate) fn write_halfwords<W: Write>(
 ) -> Result<()> {
     for line in BufReader::new(alloc, text)?.lines(alloc) {
         let half = u16::from_str_radix(line?.as_str(), 16)?;
-        match expand(half).or(expand_float(half)) {
+        match rv64gc_word(&extensions, half) {
             Some(word) => writeln!(out, "{half:04x} {word:08x}")?,
             None => match expand_extension(extensions, half) {
                 Some(insn) => writeln!(out, "{half:04x} {insn:?}")?,

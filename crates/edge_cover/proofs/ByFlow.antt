@@ -12,6 +12,7 @@ use Rattle.cfg_model.specs.declared.graph.EdgeKind.TheVariants as kinds
 use Rattle.cfg_model.specs.Program.Instructions.{InstructionMap, IsLawful, flow_at, length_at, targets_at}
 use Rattle.cfg_model.specs.Program.Chain.{GoesOnTo, IsTerminator, EndsChain}
 use Rattle.cfg_model.specs.Program.Status.{Returns}
+use Rattle.cfg_model.specs.Program.Successors.{Calls}
 use Rattle.cfg_model.specs.Graph.Leader.{IsLeader}
 use Rattle.cfg_model.specs.Graph.Block.{RunsTo, IsLastOf, IsBlock, end_kind}
 use Rattle.cfg_model.specs.Graph.Edge.{LeadsTo, IsEdge}
@@ -172,6 +173,7 @@ module _ (map : InstructionMap) (seeds : List ℕ) (blocks : List Block) (edges 
   table_kind {k} {to} entries full is_open (LeadsTo.after_indirect goes) at = let e : ◌≡◌ {A = Option Flow} (Some (flows.IndirectCall (Some to))) (Some (flows.Table entries full is_open)) = sym goes ∙ at in cc
   table_kind {k} {to} entries full is_open (LeadsTo.after_call {target = target} goes returns) at = let e : ◌≡◌ {A = Option Flow} (Some (flows.Call target (Some to))) (Some (flows.Table entries full is_open)) = sym goes ∙ at in cc
   table_kind entries full is_open (LeadsTo.table goes kept) at = refl
+  table_kind entries full is_open (LeadsTo.landing calls kept) at = absurd (subst Calls at calls)
 
   -- where the block ends with a jump through a table, a step to a kept target goes along an edge of that kind
   pub along_table : (entries : ℕ) (full is_open : Bool) → flow_at map pc ≡ Some (flows.Table entries full is_open) → (to : ℕ) → Contains (targets_at map pc) to

@@ -16,7 +16,9 @@ use Rattle.rvc_expand.proofs.Quadrants.{expansion-quadrant_0}
 use Rattle.rvc_expand.proofs.FieldsRead.{i_type-opcode, i_type-rs1, s_type-opcode}
 use Rattle.rv_float.specs.Table as float
 use Rattle.rv_float.specs.Forms.{float_forms, float_expansion}
-use Rattle.rv_flow.specs.Placed.{expanded, rv64gc_insn}
+use Rattle.elf_image.specs.declared.extensions.Extensions.{Extensions}
+use Rattle.rv_extensions.specs.Forms.{takes_doubles}
+use Rattle.rv_flow.specs.Placed.{float_insn, float_form, expanded, rv64gc_insn}
 use Rattle.edge_cover.proofs.Pairs.{and_then_some}
 use Rattle.edge_cover.proofs.Tested.{sets}
 
@@ -105,14 +107,18 @@ pub record IsConstantWord (w : ℕ) : Type 0 where
   pub code : fields.opcode w ≡ 0x13
   pub from_zero : fields.rs1 w ≡ 0
 
-pub word_of_constant : (w r : ℕ) (constant : ℤ) → rv64gc_insn w ≡ Some (sets r constant) → IsConstantWord w
-word_of_constant w r constant is = by (instruction w) refl is
+left_none : (b : Bool) (w : ℕ) (insn : Insn) → cond b None (float.float_instruction w) ≡ Some insn → IsNoAddi insn
+left_none true w insn is = absurd (none-some insn is)
+left_none false w insn is = float_none w insn is
+
+pub word_of_constant : (e : Extensions) (w r : ℕ) (constant : ℤ) → rv64gc_insn e w ≡ Some (sets r constant) → IsConstantWord w
+word_of_constant e w r constant is = by (instruction w) refl is
   where
-    by : (o : Option Insn) → instruction w ≡ o → option_or o (float.float_instruction w) ≡ Some (sets r constant) → IsConstantWord w
-    by (Some insn) decoded e =
-        let says : Says w (sets r constant) = instruction_says w (sets r constant) (decoded ∙ e) in
+    by : (o : Option Insn) → instruction w ≡ o → option_or o (float_insn e w) ≡ Some (sets r constant) → IsConstantWord w
+    by (Some insn) decoded same =
+        let says : Says w (sets r constant) = instruction_says w (sets r constant) (decoded ∙ same) in
         record { code = says.0; from_zero = sym says.1 }
-    by None decoded e = absurd (float_none w (sets r constant) e)
+    by None decoded same = absurd (left_none e.zfinx w (sets r constant) same)
 
 -- ---- a 16-bit form of quadrant 0 stands for no such word
 
@@ -168,20 +174,24 @@ of_floats = (
   ),
 )
 
-expanded_adds : (h w : ℕ) → bits.field h 1 0 ≡ 0 → expanded h ≡ Some w → AddsToStack w
+expanded_adds : (e : Extensions) (h w : ℕ) → bits.field h 1 0 ≡ 0 → expanded e h ≡ Some w → AddsToStack w
 unfolding float_expansion
-expanded_adds h w low is = by (expansion h) refl is
+expanded_adds e h w low is = by (expansion h) refl is
   where
-    by : (o : Option ℕ) → expansion h ≡ o → option_or o (float_expansion h) ≡ Some w → AddsToStack w
-    by (Some word) found e = first_form (λ h w. AddsToStack w) quadrant_0 of_quadrant_0 h w (sym (expansion-quadrant_0 h low) ∙ found ∙ e)
-    by None found e = first_form (λ h w. AddsToStack w) float_forms of_floats h w e
+    left : (b : Bool) → cond b None (float_expansion h) ≡ Some w → AddsToStack w
+    left true same = absurd (none-some w same)
+    left false same = first_form (λ h w. AddsToStack w) float_forms of_floats h w same
 
-pub no_constant : (h r : ℕ) (constant : ℤ) → bits.field h 1 0 ≡ 0 → option_and_then rv64gc_insn (expanded h) ≡ Some (sets r constant) → ⊥
+    by : (o : Option ℕ) → expansion h ≡ o → option_or o (float_form e h) ≡ Some w → AddsToStack w
+    by (Some word) found same = first_form (λ h w. AddsToStack w) quadrant_0 of_quadrant_0 h w (sym (expansion-quadrant_0 h low) ∙ found ∙ same)
+    by None found same = left (takes_doubles e) same
+
+pub no_constant : (e : Extensions) (h r : ℕ) (constant : ℤ) → bits.field h 1 0 ≡ 0 → option_and_then (rv64gc_insn e) (expanded e h) ≡ Some (sets r constant) → ⊥
 unfolding AddsToStack
-no_constant h r constant low is =
-    let word = and_then_some rv64gc_insn (expanded h) (sets r constant) is in
-    let found = word_of_constant word.0 r constant word.2 in
-    let adds : AddsToStack word.0 = expanded_adds h word.0 low word.1 in
+no_constant e h r constant low is =
+    let word = and_then_some (rv64gc_insn e) (expanded e h) (sets r constant) is in
+    let found = word_of_constant e word.0 r constant word.2 in
+    let adds : AddsToStack word.0 = expanded_adds e h word.0 low word.1 in
     clash (sym (adds found.code) ∙ found.from_zero)
   where
     clash : ◌≡◌ {A = ℕ} 2 0 → ⊥

@@ -102,13 +102,14 @@ module _ (bytes kept : List ℕ) (behind to : ℕ) where
   follows_by cut o (raw.Call target) leads whole = call_follows target _ (is_code bytes target) leads
   follows_by cut o raw.IndirectCall leads whole = tt
   follows_by cut o raw.Return leads whole = tt
+  follows_by cut o raw.Unknown leads whole = tt
   follows_by cut None (raw.RegisterJump register offset) leads whole = tt
   follows_by cut (Some table) (raw.RegisterJump register offset) leads whole =
       by_table (kept_entries cut table) (eqb (kept_entries cut table) table.bound) table.is_open whole
   follows_by cut o raw.Stop leads whole = tt
 
--- a step is covered where the register of a pair holds what it says, and a jump through a full table follows it
-module _ (bytes : List ℕ) (cuts : ℕ → Option ℕ) (seeds : List ℕ) (outline : Outline) (of : IsOutlineOfFile bytes cuts seeds outline) (state after : State) (memory left : Bytes) (reached : Reached (program_under bytes cuts) seeds state.pc) (step : IsMade bytes state after memory left) where
+-- a step that goes where the flow of its instruction alone leads is covered, if a jump through a full table follows it
+module _ (bytes : List ℕ) (cuts : ℕ → Option ℕ) (seeds : List ℕ) (outline : Outline) (of : IsOutlineOfFile bytes cuts seeds outline) (state after : State) (reached : Reached (program_under bytes cuts) seeds state.pc) where
   lawful : IsLawful (program_under bytes cuts)
   lawful = program-lawful bytes of.accepted cuts of.fit
 
@@ -121,28 +122,22 @@ module _ (bytes : List ℕ) (cuts : ℕ → Option ℕ) (seeds : List ℕ) (outl
   alone : RawFlow
   alone = raw_flow_by bytes state.pc (placed_at bytes state.pc).insn
 
-  next_is : advanced (placed_at bytes state.pc).length state ≡ state.pc + (placed_at bytes state.pc).length
+  pub next_is : advanced (placed_at bytes state.pc).length state ≡ state.pc + (placed_at bytes state.pc).length
   next_is = small (state.pc + (placed_at bytes state.pc).length) (placed-end bytes of.accepted state.pc code)
     where
       small : (n : ℕ) → n < 2 ^ 64 → n % 2 ^ 64 ≡ n
       small n below = omega arith
 
-  leads : PairHolds bytes state step.insn → LeadsBy (raw_flow_by bytes state.pc (placed_at bytes state.pc).insn) (state.pc + (placed_at bytes state.pc).length) after.pc
-  leads pair =
-      subst (λ n. LeadsBy (raw_flow_by bytes state.pc (placed_at bytes state.pc).insn) n after.pc) next_is
-      (subst (λ o. LeadsBy (raw_flow_by bytes state.pc o) (advanced (placed_at bytes state.pc).length state) after.pc) (sym step.stands)
-      (goes_by bytes (placed_at bytes state.pc).length state memory step.insn after left pair step.makes))
-
-  pub step_covered : PairHolds bytes state step.insn
+  pub leading_covered : LeadsBy (raw_flow_by bytes state.pc (placed_at bytes state.pc).insn) (state.pc + (placed_at bytes state.pc).length) after.pc
       → TableFollows bytes (targets_at (program_under bytes cuts) state.pc) (state.pc + (placed_at bytes state.pc).length) after.pc (cuts state.pc) (table_at bytes state.pc) (raw_flow_by bytes state.pc (placed_at bytes state.pc).insn)
       → (move : Move) → IsMoveOf (program_under bytes cuts) outline state.pc after.pc move → IsCovered move
-  step_covered pair whole move is =
+  leading_covered leads whole move is =
       let map = program_under bytes cuts in
       let bytes_of = (placed_at bytes state.pc).length in
       let has = each_address_has_a_block map seeds outline.blocks outline.edges lawful of.start of.is state.pc reached in
       let long : length_at map state.pc ≡ Some bytes_of = length-program bytes cuts state.pc code (placed_at bytes state.pc) refl in
       let at = flow-program bytes cuts state.pc code (placed_at bytes state.pc) refl in
-      let follows = follows_by bytes (targets_at map state.pc) (state.pc + bytes_of) after.pc (cuts state.pc) (table_at bytes state.pc) (raw_flow_by bytes state.pc (placed_at bytes state.pc).insn) (leads pair) whole in
+      let follows = follows_by bytes (targets_at map state.pc) (state.pc + bytes_of) after.pc (cuts state.pc) (table_at bytes state.pc) (raw_flow_by bytes state.pc (placed_at bytes state.pc).insn) leads whole in
       subst IsCovered (sym (is seeds of.is has.block has.listed has.lies bytes_of long))
       (covered_by map seeds outline.blocks outline.edges lawful of.is has.block has.listed state.pc bytes_of has.lies long _ at after.pc follows)
 
@@ -161,12 +156,26 @@ module _ (bytes : List ℕ) (cuts : ℕ → Option ℕ) (seeds : List ℕ) (outl
       by cut (Some table) (raw.Call target) at = tt
       by cut (Some table) raw.IndirectCall at = tt
       by cut (Some table) raw.Return at = tt
+      by cut (Some table) raw.Unknown at = tt
       by cut (Some table) raw.Stop at = tt
       by cut (Some table) (raw.RegisterJump register offset) at = λ full bounded.
           absurd (none (record {
             entries = kept_entries cut table;
             jumps = at ∙ ap (λ (b : Bool). Some (flows.Table (kept_entries cut table) b table.is_open)) full ∙ ap (λ (b : Bool). Some (flows.Table (kept_entries cut table) true b)) bounded;
           }))
+
+-- so is a step of the written machine, where the register of a pair holds what it says
+module _ (bytes : List ℕ) (cuts : ℕ → Option ℕ) (seeds : List ℕ) (outline : Outline) (of : IsOutlineOfFile bytes cuts seeds outline) (state after : State) (memory left : Bytes) (reached : Reached (program_under bytes cuts) seeds state.pc) (step : IsMade bytes state after memory left) where
+  leads : PairHolds bytes state step.insn → LeadsBy (raw_flow_by bytes state.pc (placed_at bytes state.pc).insn) (state.pc + (placed_at bytes state.pc).length) after.pc
+  leads pair =
+      subst (λ n. LeadsBy (raw_flow_by bytes state.pc (placed_at bytes state.pc).insn) n after.pc) (next_is bytes cuts seeds outline of state after reached)
+      (subst (λ o. LeadsBy (raw_flow_by bytes state.pc o) (advanced (placed_at bytes state.pc).length state) after.pc) (sym step.stands)
+      (goes_by bytes (placed_at bytes state.pc).length state memory step.insn after left pair step.makes))
+
+  pub step_covered : PairHolds bytes state step.insn
+      → TableFollows bytes (targets_at (program_under bytes cuts) state.pc) (state.pc + (placed_at bytes state.pc).length) after.pc (cuts state.pc) (table_at bytes state.pc) (raw_flow_by bytes state.pc (placed_at bytes state.pc).insn)
+      → (move : Move) → IsMoveOf (program_under bytes cuts) outline state.pc after.pc move → IsCovered move
+  step_covered pair whole move is = leading_covered bytes cuts seeds outline of state after reached (leads pair) whole move is
 
 -- nothing is asked of an instruction that is not the JALR of a pair
 unpaired : (bytes : List ℕ) (state : State) (insn : Insn) → (placed_at bytes state.pc).insn ≡ Some insn → ¬ IsPaired bytes state.pc → PairHolds bytes state insn
@@ -177,4 +186,4 @@ pub steps_are_covered : StepsAreCovered
 steps_are_covered bytes cuts seeds outline of state after memory left reached single bounded steps move is =
     let step = made bytes state after memory left steps in
     step_covered bytes cuts seeds outline of state after memory left reached step (unpaired bytes state step.insn step.stands single)
-    (no_full_table bytes cuts seeds outline of state after memory left reached step bounded) move is
+    (no_full_table bytes cuts seeds outline of state after reached bounded) move is

@@ -1,12 +1,10 @@
 -- No step changes a byte of a code section or of a read-only section.
-use Rattle.std.proofs.Common.{◌≡◌, ◌≢◌, ℕ, zero, suc, ◌+◌, ◌%◌, ◌/◌, ◌^◌, ◌<◌, ◌==◌, ◌&&◌, Bool, true, false, not, List, length, get_or, Option, Some, None, refl, sym, ap, ◌∙◌, subst, arith}
+use Rattle.std.proofs.Common.{◌≡◌, ◌≢◌, ℕ, zero, suc, ◌%◌, ◌/◌, ◌^◌, ◌<◌, ◌==◌, Bool, true, false, not, List, get_or, Option, Some, None, refl, sym, ap, ◌∙◌, subst, arith}
 use Rattle.std.specs.Prelude.{if◌then◌else◌}
 use Rattle.std.specs.List.{range_with_len}
-use Rattle.std.specs.Option.{option_map}
 use Rattle.std.proofs.lemmas.Bool.{and_parts, both_ways, cond-false, ne_eqb, not-true}
 use Rattle.std.proofs.lemmas.List.Folds.{list_any_at}
 use Rattle.std.proofs.lemmas.List.FromFn.{length-range_with_len, get_or-range_with_len}
-use Rattle.elf_image.specs.Code.{is_code}
 use Rattle.elf_image.specs.Fixed.{is_fixed_byte, byte_address, is_fixed}
 use Rattle.rv_decode.specs.declared.instructions.Insn.{Insn}
 use Rattle.rv_decode.specs.declared.instructions.Insn.TheVariants as insns
@@ -128,6 +126,8 @@ module _ (bytes : List ℕ) (b : ℕ) (small : b < 2 ^ 64) (fixed : is_fixed_byt
     insn_keeps (insns.ShiftAdd shift zero_extended rd rs1 rs2) = tt
     insn_keeps (insns.Extend kind rd rs1) = tt
     insn_keeps (insns.Extension reads writes) = tt
+    insn_keeps (insns.Away kind reads writes) = tt
+    insn_keeps (insns.Vendor kind shift rd rs1 rs2) = tt
 
   step_keeps : (state after : State) (memory left : Bytes) → StepsTo bytes state memory after left → left b ≡ memory b
   step_keeps state after memory left steps =

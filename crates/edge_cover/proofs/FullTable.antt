@@ -13,14 +13,14 @@ use Rattle.rv_flow.specs.Raw.{raw_flow_at}
 use Rattle.jump_table.specs.declared.table.Table.{Table}
 use Rattle.jump_table.specs.declared.bound.BoundTest.{BoundTest}
 use Rattle.jump_table.specs.declared.place.Place.{Place}
-use Rattle.jump_table.specs.declared.values.Form.TheVariants.{Bounded, Open}
+use Rattle.jump_table.specs.declared.values.Form.TheVariants.{Bounded, Open, Hoisted}
 use Rattle.jump_table.specs.declared.values.Value.{Value}
 use Rattle.jump_table.specs.declared.values.Value.TheVariants.{Entry, EntryPlus}
 use Rattle.jump_table.specs.Bound.{bound_test}
 use Rattle.jump_table.specs.Nearest.{evens}
 use Rattle.jump_table.specs.Section.{straight_run}
-use Rattle.jump_table.specs.Values.{bytes_of, at_test, after_run, forgotten}
-use Rattle.jump_table.specs.Table.{entry_at, target_by_entry, kept_target, entry_target, targets_from, place_of, value_behind, place_by_test, bounded_place, place_from, declared_place, place_by_record, width_of, table_without_test, open_place, table_of_count, count_of, table_at_place, jump_register, table_through, table_at}
+use Rattle.jump_table.specs.Values.{bytes_of, at_test, after_run, forgotten, entered}
+use Rattle.jump_table.specs.Table.{entry_at, target_by_entry, kept_target, entry_target, targets_from, place_of, value_behind, place_by_test, bounded_place, place_from, declared_place, place_by_record, width_of, table_without_test, open_place, hoisted_place, table_from, hoisted_table, table_of_count, count_of, table_at_place, jump_register, table_through, table_at}
 use Rattle.cfg_model.proofs.Graphs.Lists.{Contains-here, Contains-later}
 use Rattle.edge_cover.proofs.Pairs.{and_then_some, map_some}
 use Rattle.edge_cover.proofs.Tested.{if_there, found_by}
@@ -135,6 +135,18 @@ module _ (bytes : List ℕ) (start j r : ℕ) where
       let value = and_then_some (place_of true 1024) (value_behind Open bytes start j r forgotten found.0) place found.1 in
       (place_bound true 1024 value.0 place value.2).1
 
+  hoisted_is : (q : ℕ) (place : Place) → hoisted_place bytes start j r q ≡ Some place → place.is_open ≡ true
+  hoisted_is q place is =
+      let value = and_then_some (place_of true 1024) (value_behind (Hoisted start q) bytes start j r entered q) place is in
+      (place_bound true 1024 value.0 place value.2).1
+
+  hoisted_from : (table : Table) → hoisted_table bytes start j r ≡ Some table → (place : Place) × (place.is_open ≡ true) × (table_at_place bytes place ≡ Some table)
+  unfolding hoisted_table
+  hoisted_from table is =
+      let found = found_by (table_from bytes start j r) start j (evens 4 31) table is in
+      let place = and_then_some (table_at_place bytes) (hoisted_place bytes start j r found.0) table found.1 in
+      (place.0, hoisted_is found.0 place.0 place.1, place.2)
+
   declared_is : (place : Place) → declared_place bytes j ≡ Some place → place.is_open ≡ true
   declared_is place is =
       let record_is = and_then_some (λ declared. option_map (place_by_record declared) (width_of declared.size)) (declared_at bytes j) place is in
@@ -194,6 +206,7 @@ through (raw.Jump target) r e = absurd (none-some r e)
 through (raw.Call target) r e = absurd (none-some r e)
 through raw.IndirectCall r e = absurd (none-some r e)
 through raw.Return r e = absurd (none-some r e)
+through raw.Unknown r e = absurd (none-some r e)
 through raw.Stop r e = absurd (none-some r e)
 
 module _ (bytes : List ℕ) (start j : ℕ) (test : BoundTest) (table : Table) (tested : bound_test bytes start j ≡ Some test) (bounded : table.is_open ≡ false) where
@@ -207,13 +220,17 @@ module _ (bytes : List ℕ) (start j : ℕ) (test : BoundTest) (table : Table) (
       not_open : (place : Place) → table_at_place bytes place ≡ Some table → place.is_open ≡ true → ⊥
       not_open place at is_open = clash (sym ((table_of bytes place table at).same_open ∙ is_open) ∙ bounded)
 
-      without : (o : Option Table) → option_and_then (table_at_place bytes) (declared_place bytes j) ≡ o → option_or o (option_and_then (table_at_place bytes) (open_place bytes start j r)) ≡ Some table → ⊥
+      far : (o : Option Table) → option_and_then (table_at_place bytes) (open_place bytes start j r) ≡ o → option_or o (hoisted_table bytes start j r) ≡ Some table → ⊥
+      far (Some first) found e =
+          let place = and_then_some (table_at_place bytes) (open_place bytes start j r) first found in
+          not_open place.0 (place.2 ∙ e) (open_is bytes start j r place.0 place.1)
+      far None found e = let place = hoisted_from bytes start j r table e in not_open place.0 place.2 place.1
+
+      without : (o : Option Table) → option_and_then (table_at_place bytes) (declared_place bytes j) ≡ o → option_or o (option_or (option_and_then (table_at_place bytes) (open_place bytes start j r)) (hoisted_table bytes start j r)) ≡ Some table → ⊥
       without (Some first) found e =
           let place = and_then_some (table_at_place bytes) (declared_place bytes j) first found in
           not_open place.0 (place.2 ∙ e) (declared_is bytes start j r place.0 place.1)
-      without None found e =
-          let place = and_then_some (table_at_place bytes) (open_place bytes start j r) table e in
-          not_open place.0 place.2 (open_is bytes start j r place.0 place.1)
+      without None found e = far (option_and_then (table_at_place bytes) (open_place bytes start j r)) refl e
 
       by : (o : Option Table) → option_and_then (table_at_place bytes) (bounded_place bytes start j r) ≡ o
           → option_or o (table_without_test bytes start j r) ≡ Some table → HasPlace bytes start j test table

@@ -25,7 +25,7 @@ use Rattle.rv_machine.specs.declared.trap.Trap.TheVariants as traps
 use Rattle.rv_machine.specs.Access.{read_at, may_store}
 use Rattle.rv_machine.specs.Step.{Outcome, Traps, Goes, gives, load_given, store_then, lr_given, sc_step, amo_given, atomic_aligned, atomic_step, atomic_size, is_reserved, insn_step}
 use Rattle.edge_cover.proofs.Means.{Means, copied, by_imm, by_sum}
-use Rattle.edge_cover.proofs.Entries.{by_load}
+use Rattle.edge_cover.proofs.Entries.{by_load, by_imm_w}
 
 -- each register holds a number that its value allows
 abbrev pub HoldAll : List ℕ → ℕ → Registers → RegisterFile → Type 0
@@ -61,11 +61,11 @@ module _ (bytes : List ℕ) (small : All (λ byte. byte < 256) bytes) (index : �
 
   -- ---- loads and stores
 
-  load_keeps : (kind : LoadKind) (rd rs1 : ℕ) (imm : ℤ) (o : Option ℕ) → read_at bytes memory (load_size kind) (address_plus (held state.registers rs1) imm) ≡ o
-      → Keeps (values.written known rd (load_value kind imm (known rs1))) (load_given length state memory kind rd o)
-  load_keeps kind rd rs1 imm None reads = tt
-  load_keeps kind rd rs1 imm (Some number) reads =
-      by_write rd (load_value kind imm (known rs1)) _ (by_load bytes small index memory imm (held state.registers rs1) number kind (known rs1) (hold rs1) reads)
+  load_keeps : (bound : ℕ) (kind : LoadKind) (rd rs1 : ℕ) (imm : ℤ) (o : Option ℕ) → read_at bytes memory (load_size kind) (address_plus (held state.registers rs1) imm) ≡ o
+      → Keeps (values.written known rd (load_value (Bounded bound) kind rs1 imm (known rs1))) (load_given length state memory kind rd o)
+  load_keeps bound kind rd rs1 imm None reads = tt
+  load_keeps bound kind rd rs1 imm (Some number) reads =
+      by_write rd (load_value (Bounded bound) kind rs1 imm (known rs1)) _ (by_load bytes small index memory imm (held state.registers rs1) number bound kind rs1 (known rs1) (hold rs1) reads)
 
   store_keeps : (after : Registers) (n a value : ℕ) (next : State) → HoldAll bytes index after next.registers → Keeps after (store_then bytes memory n a value next)
   store_keeps after n a value next holds = either (may_store bytes memory n a)
@@ -123,40 +123,40 @@ module _ (bytes : List ℕ) (small : All (λ byte. byte < 256) bytes) (index : �
       zero_plus n = omega arith
   sum_keeps rs1 rs2 false false is other = by_sum bytes index below (known rs1) (known rs2) (held state.registers rs1) (held state.registers rs2) (hold rs1) (hold rs2)
 
-  reg_keeps : (kind : RegKind) (rs1 rs2 : ℕ) → Means bytes index (reg_value kind known rs1 rs2) (reg_result kind (held state.registers rs1) (held state.registers rs2))
+  reg_keeps : (bound : ℕ) (kind : RegKind) (rs1 rs2 : ℕ) → Means bytes index (reg_value (Bounded bound) bytes kind known rs1 rs2) (reg_result kind (held state.registers rs1) (held state.registers rs2))
   unfolding reg_result
-  reg_keeps regs.Add rs1 rs2 = sum_keeps rs1 rs2 (rs1 == 0) (rs2 == 0) refl refl
-  reg_keeps regs.Sub rs1 rs2 = tt
-  reg_keeps regs.Sll rs1 rs2 = tt
-  reg_keeps regs.Slt rs1 rs2 = tt
-  reg_keeps regs.Sltu rs1 rs2 = tt
-  reg_keeps regs.Xor rs1 rs2 = tt
-  reg_keeps regs.Srl rs1 rs2 = tt
-  reg_keeps regs.Sra rs1 rs2 = tt
-  reg_keeps regs.Or rs1 rs2 = tt
-  reg_keeps regs.And rs1 rs2 = tt
-  reg_keeps regs.Mul rs1 rs2 = tt
-  reg_keeps regs.Mulh rs1 rs2 = tt
-  reg_keeps regs.Mulhsu rs1 rs2 = tt
-  reg_keeps regs.Mulhu rs1 rs2 = tt
-  reg_keeps regs.Div rs1 rs2 = tt
-  reg_keeps regs.Divu rs1 rs2 = tt
-  reg_keeps regs.Rem rs1 rs2 = tt
-  reg_keeps regs.Remu rs1 rs2 = tt
+  reg_keeps bound regs.Add rs1 rs2 = sum_keeps rs1 rs2 (rs1 == 0) (rs2 == 0) refl refl
+  reg_keeps bound regs.Sub rs1 rs2 = tt
+  reg_keeps bound regs.Sll rs1 rs2 = tt
+  reg_keeps bound regs.Slt rs1 rs2 = tt
+  reg_keeps bound regs.Sltu rs1 rs2 = tt
+  reg_keeps bound regs.Xor rs1 rs2 = tt
+  reg_keeps bound regs.Srl rs1 rs2 = tt
+  reg_keeps bound regs.Sra rs1 rs2 = tt
+  reg_keeps bound regs.Or rs1 rs2 = tt
+  reg_keeps bound regs.And rs1 rs2 = tt
+  reg_keeps bound regs.Mul rs1 rs2 = tt
+  reg_keeps bound regs.Mulh rs1 rs2 = tt
+  reg_keeps bound regs.Mulhsu rs1 rs2 = tt
+  reg_keeps bound regs.Mulhu rs1 rs2 = tt
+  reg_keeps bound regs.Div rs1 rs2 = tt
+  reg_keeps bound regs.Divu rs1 rs2 = tt
+  reg_keeps bound regs.Rem rs1 rs2 = tt
+  reg_keeps bound regs.Remu rs1 rs2 = tt
 
   -- ---- the instructions
 
-  pub step_keeps : (bound : ℕ) (insn : Insn) → KeepsAll bytes index (after (Bounded bound) state.pc insn known) (insn_step bytes length insn state memory)
+  pub step_keeps : (bound : ℕ) (insn : Insn) → KeepsAll bytes index (after (Bounded bound) bytes state.pc insn known) (insn_step bytes length insn state memory)
   step_keeps bound (insns.Lui rd imm) = by_write rd _ _ refl
   step_keeps bound (insns.Auipc rd imm) = by_write rd _ _ refl
   step_keeps bound (insns.Jal rd offset) = unknown rd _
   step_keeps bound (insns.Jalr rd rs1 imm) = unknown rd _
   step_keeps bound (insns.Branch kind rs1 rs2 offset) = hold
-  step_keeps bound (insns.Load kind rd rs1 imm) = load_keeps kind rd rs1 imm (read_at bytes memory (load_size kind) (address_plus (held state.registers rs1) imm)) refl
+  step_keeps bound (insns.Load kind rd rs1 imm) = load_keeps bound kind rd rs1 imm (read_at bytes memory (load_size kind) (address_plus (held state.registers rs1) imm)) refl
   step_keeps bound (insns.Store kind rs1 rs2 imm) = store_keeps known _ _ _ _ hold
   step_keeps bound (insns.Imm kind rd rs1 imm) = by_write rd _ _ (by_imm bytes index below bound kind imm (known rs1) (held state.registers rs1) (hold rs1))
-  step_keeps bound (insns.ImmW kind rd rs1 imm) = unknown rd _
-  step_keeps bound (insns.Reg kind rd rs1 rs2) = by_write rd _ _ (reg_keeps kind rs1 rs2)
+  step_keeps bound (insns.ImmW kind rd rs1 imm) = by_write rd _ _ (by_imm_w bytes small index (held state.registers rs1) kind imm (known rs1) (hold rs1))
+  step_keeps bound (insns.Reg kind rd rs1 rs2) = by_write rd _ _ (reg_keeps bound kind rs1 rs2)
   step_keeps bound (insns.RegW kind rd rs1 rs2) = unknown rd _
   step_keeps bound (insns.Atomic kind wide acquire release rd rs1 rs2) = atomic_keeps kind wide rd (held state.registers rs1) (held state.registers rs2)
   step_keeps bound insns.Fence = hold
@@ -168,3 +168,5 @@ module _ (bytes : List ℕ) (small : All (λ byte. byte < 256) bytes) (index : �
   step_keeps bound (insns.ShiftAdd shift zero_extended rd rs1 rs2) = tt
   step_keeps bound (insns.Extend kind rd rs1) = tt
   step_keeps bound (insns.Extension reads writes) = tt
+  step_keeps bound (insns.Away kind reads writes) = tt
+  step_keeps bound (insns.Vendor kind shift rd rs1 rs2) = tt

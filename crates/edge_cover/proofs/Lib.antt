@@ -19,3 +19,4 @@ pub mod Worked
 pub mod Constants
 pub mod Setters
 pub mod FixedBytes
+pub mod OpenSteps

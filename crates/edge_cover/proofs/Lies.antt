@@ -1,16 +1,14 @@
 -- An address lies in a block exactly if it is on the chain of the block's start, and before its end.
-use Rattle.std.proofs.Common.{◌≡◌, ℕ, ◌+◌, ◌<◌, List, Option, Some, None, IsSome, refl, sym, ◌∙◌, subst, ⊎_elim, arith}
+use Rattle.std.proofs.Common.{◌≡◌, ℕ, ◌+◌, ◌<◌, List, Option, Some, None, refl, sym, ◌∙◌, subst, ⊎_elim, arith}
 use mathlib.Core.Logic.{inl, inr}
 use Rattle.std.specs.Option.{option_map}
 use Rattle.std.proofs.lemmas.Option.{same_Some}
-use Rattle.cfg_model.specs.declared.flow.Flow.TheVariants.{Straight}
 use Rattle.cfg_model.specs.declared.graph.Block.{Block}
 use Rattle.cfg_model.specs.Program.Instructions.{Instruction, InstructionMap, IsLawful, length_at}
 use Rattle.cfg_model.specs.Program.Chain.{OnChain, GoesOnTo}
 use Rattle.cfg_model.specs.Program.Meeting.{IsStop}
 use Rattle.cfg_model.specs.Graph.Block.{RunsTo, IsBlock}
 use Rattle.cfg_model.specs.Graph.Places.{LiesIn}
-use Rattle.cfg_model.proofs.Program.Code.{flow_stands}
 use Rattle.cfg_model.proofs.Program.ChainFacts.{chain_cases, chain_up, one_next}
 use Rattle.cfg_model.proofs.Graphs.LeaderFacts.{has_length, HasLength}
 use Rattle.cfg_model.proofs.Graphs.OneBlock.{not_both}
@@ -48,19 +46,7 @@ run_on {map} {IsCut} (RunsTo.on {next = next} goes none rest) (RunsTo.here {s = 
 run_on {map} {IsCut} {k = k} (RunsTo.on {s = s} {next = next} goes none rest) (RunsTo.on {next = other} way clear more) stops =
     run_on rest (subst (λ n. RunsTo map IsCut n k) (one_next map s other next way goes) more) stops
 
-some_length : (o : Option Instruction) (bytes : ℕ) → option_map (λ (i : Instruction). i.bytes) o ≡ Some bytes → IsSome o
-some_length None bytes e = cc
-some_length (Some i) bytes e = refl
-
-run_known : {map : InstructionMap} {IsCut : ℕ → Type 0} {s k : ℕ} → RunsTo map IsCut s k → IsSome (map k) → IsSome (map s)
-run_known RunsTo.here known = known
-run_known {map} (RunsTo.on {s = s} {next = next} goes none rest) known = flow_stands map s (Straight next) goes
-
 module _ (map : InstructionMap) (seeds : List ℕ) (block : Block) (is : IsBlock map seeds block) where
-  -- an instruction stands where a block starts
-  pub start_known : IsSome (map block.start)
-  start_known = run_known is.1.last.runs (some_length (map is.0) is.1.of.ends.0 is.1.of.ends.1)
-
   pub lies_by_chain : IsLawful map → (a : ℕ) → OnChain map block.start a → a < block.end → LiesIn map seeds block a
   lies_by_chain lawful a chain below =
       run_within lawful is.1.last.runs a is.1.of.ends.0 is.1.of.ends.1 chain (let e : block.end ≡ is.0 + is.1.of.ends.0 = is.1.of.ends.2 in omega arith)
@@ -78,6 +64,3 @@ module _ (map : InstructionMap) (seeds : List ℕ) (block : Block) (is : IsBlock
 
   pub lies_below : IsLawful map → (a : ℕ) → LiesIn map seeds block a → a < block.end
   lies_below lawful a lies = omega (arith, chain_up lawful (chain_of (run_on lies is.1.last.runs is.1.last.stops)), last_below lawful)
-
-  pub lies_known : (a : ℕ) → LiesIn map seeds block a → IsSome (map a)
-  lies_known a lies = run_known (run_on lies is.1.last.runs is.1.last.stops) (some_length (map is.0) is.1.of.ends.0 is.1.of.ends.1)

@@ -1,5 +1,5 @@
 -- What the value of a register on the way to a jump through a table says of the number in it.
-use Rattle.std.proofs.Common.{◌≡◌, ℕ, zero, suc, ◌+◌, ◌*◌, ◌%◌, ◌^◌, ◌<◌, ◌≤◌, false, List, Some, sym, ap, ◌∙◌, subst, arith}
+use Rattle.std.proofs.Common.{◌≡◌, ℕ, zero, suc, ◌+◌, ◌*◌, ◌%◌, ◌^◌, ◌<◌, ◌≤◌, List, Some, sym, ap, ◌∙◌, subst, arith}
 use Rattle.std.specs.Prelude.{◌==◌, ℤ, pos, negsuc}
 use Rattle.std.specs.Int.{cast_unsigned, w64}
 use Rattle.std.proofs.lemmas.Bool.{cond_both, eqb-true}
@@ -12,7 +12,7 @@ use Rattle.jump_table.specs.declared.width.Width.TheVariants.{Word, Double}
 use Rattle.jump_table.specs.declared.values.Form.TheVariants.{Bounded}
 use Rattle.jump_table.specs.declared.values.Value.{Value}
 use Rattle.jump_table.specs.declared.values.Value.TheVariants.{Unknown, Const, Index, High}
-use Rattle.jump_table.specs.declared.values.Value.TheVariants.{Scaled, Addr, Entry, EntryPlus}
+use Rattle.jump_table.specs.declared.values.Value.TheVariants.{Scaled, Addr, Entry, EntryPlus, Far}
 use Rattle.jump_table.specs.Values.{bytes_of, moved_by, addi_value, slli_value, srli_value, imm_value, sum_of}
 use Rattle.jump_table.specs.Table.{entry_at}
 use Rattle.rv_machine.specs.Step.{operand}
@@ -32,6 +32,7 @@ Means bytes index (Scaled w) n = n ≡ bytes_of w * index
 Means bytes index (Addr v w) n = n ≡ (v + bytes_of w * index) % 2 ^ 64
 Means bytes index (Entry v w) n = IsEntryPlus bytes index v w 0 n
 Means bytes index (EntryPlus v w k) n = IsEntryPlus bytes index v w k n
+Means bytes index (Far origin) n = Unit {0}
 
 module _ (bytes : List ℕ) (index : ℕ) (small : index < 2048) where
   -- a copy by a sum with zero
@@ -57,6 +58,7 @@ module _ (bytes : List ℕ) (index : ℕ) (small : index < 2048) where
     where
       wrapped : (m : ℕ) → m % 2 ^ 64 % 2 ^ 64 ≡ m % 2 ^ 64
       wrapped m = omega arith
+  copied (Far origin) n means = tt
 
   -- ---- ADDI
 
@@ -72,6 +74,7 @@ module _ (bytes : List ℕ) (index : ℕ) (small : index < 2048) where
   moved imm (Addr v w) n means = tt
   moved imm (Entry v w) n means = tt
   moved imm (EntryPlus v w k) n means = tt
+  moved imm (Far origin) n means = tt
 
   added_imm : (imm : ℤ) (value : Value) (n : ℕ) → Means bytes index value n → Means bytes index (addi_value imm value) ((n + cast_unsigned w64 imm) % 2 ^ 64)
   added_imm (pos zero) value n means = subst (λ m. Means bytes index value (m % 2 ^ 64)) (plus_zero n) (copied value n means)
@@ -111,6 +114,7 @@ module _ (bytes : List ℕ) (index : ℕ) (small : index < 2048) where
   left (pos by) (Addr v w) n means = tt
   left (pos by) (Entry v w) n means = tt
   left (pos by) (EntryPlus v w k) n means = tt
+  left (pos by) (Far origin) n means = tt
 
   right : (imm : ℤ) (value : Value) (n : ℕ) → Means bytes index value n → Means bytes index (srli_value imm value) (shifted_right w64 n (operand imm))
   right (pos by) High n means = lowered by n means
@@ -122,6 +126,7 @@ module _ (bytes : List ℕ) (index : ℕ) (small : index < 2048) where
   right (pos by) (Addr v w) n means = tt
   right (pos by) (Entry v w) n means = tt
   right (pos by) (EntryPlus v w k) n means = tt
+  right (pos by) (Far origin) n means = tt
 
   -- the result of an operation with an immediate
   pub by_imm : (bound : ℕ) (kind : ImmKind) (imm : ℤ) (value : Value) (n : ℕ) → Means bytes index value n → Means bytes index (imm_value (Bounded bound) kind imm value) (imm_result kind n (operand imm))
@@ -161,6 +166,7 @@ module _ (bytes : List ℕ) (index : ℕ) (small : index < 2048) where
   by_sum (Const v) High n m means other = tt
   by_sum (Const v) (Addr u w) n m means other = tt
   by_sum (Const v) (EntryPlus u w k) n m means other = tt
+  by_sum (Const v) (Far origin) n m means other = tt
   by_sum (Scaled w) Unknown n m means other = tt
   by_sum (Scaled w) Index n m means other = tt
   by_sum (Scaled w) High n m means other = tt
@@ -168,6 +174,7 @@ module _ (bytes : List ℕ) (index : ℕ) (small : index < 2048) where
   by_sum (Scaled w) (Addr u z) n m means other = tt
   by_sum (Scaled w) (Entry u z) n m means other = tt
   by_sum (Scaled w) (EntryPlus u z k) n m means other = tt
+  by_sum (Scaled w) (Far origin) n m means other = tt
   by_sum (Entry v w) Unknown n m means other = tt
   by_sum (Entry v w) Index n m means other = tt
   by_sum (Entry v w) High n m means other = tt
@@ -175,8 +182,10 @@ module _ (bytes : List ℕ) (index : ℕ) (small : index < 2048) where
   by_sum (Entry v w) (Addr u z) n m means other = tt
   by_sum (Entry v w) (Entry u z) n m means other = tt
   by_sum (Entry v w) (EntryPlus u z k) n m means other = tt
+  by_sum (Entry v w) (Far origin) n m means other = tt
   by_sum Unknown second n m means other = tt
   by_sum Index second n m means other = tt
   by_sum High second n m means other = tt
   by_sum (Addr v w) second n m means other = tt
   by_sum (EntryPlus v w k) second n m means other = tt
+  by_sum (Far origin) second n m means other = tt

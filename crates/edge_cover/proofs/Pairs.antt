@@ -21,7 +21,8 @@ use Rattle.rv_machine.specs.State.{State}
 use Rattle.rv_machine.specs.Registers.{RegisterFile, held, written}
 use Rattle.rv_machine.specs.Memory.{Bytes}
 use Rattle.rv_machine.specs.Step.{Outcome, Traps, Goes, insn_step}
-use Rattle.edge_cover.specs.Cover.{PairsAreCovered}
+use Rattle.edge_cover.specs.Cover.{IsPaired, PairsAreCovered}
+use Rattle.edge_cover.specs.Runs.{StepsTo}
 use Rattle.edge_cover.proofs.Placing.{placed_of, word_placed}
 use Rattle.edge_cover.proofs.Steps.{PairHolds}
 use Rattle.edge_cover.proofs.Cover.{IsMade, made, step_covered, TableFollows}
@@ -36,16 +37,16 @@ map_some f None y e = cc
 map_some f (Some x) y e = (x, refl, same_Some (f x) y e)
 
 -- the LUI or AUIPC before a JALR of a pair
-record IsUpper (bytes : List ℕ) (a r target : ℕ) (imm : ℤ) : Type 0 where
-  base : ℕ
-  word : ℕ
-  insn : Insn
-  register : r ≢ 0
-  low : 4 ≤ a
-  there : word_at bytes (a - 4) ≡ Some word
-  is : instruction word ≡ Some insn
-  upper : upper_of (a - 4) r insn ≡ Some base
-  sum : address_plus base imm / 2 * 2 ≡ target
+pub record IsUpper (bytes : List ℕ) (a r target : ℕ) (imm : ℤ) : Type 0 where
+  pub base : ℕ
+  pub word : ℕ
+  pub insn : Insn
+  pub register : r ≢ 0
+  pub low : 4 ≤ a
+  pub there : word_at bytes (a - 4) ≡ Some word
+  pub is : instruction word ≡ Some insn
+  pub upper : upper_of (a - 4) r insn ≡ Some base
+  pub sum : address_plus base imm / 2 * 2 ≡ target
 
 module _ (bytes : List ℕ) (a r target : ℕ) (imm : ℤ) where
   low_word : (start w : ℕ) → cond (leb (start + 4) a) (word_at bytes (a - 4)) None ≡ Some w → (4 ≤ a) × (word_at bytes (a - 4) ≡ Some w)
@@ -64,7 +65,7 @@ module _ (bytes : List ℕ) (a r target : ℕ) (imm : ℤ) where
       let there = low_word start.0 word.0 start.2 in
       record { base = base.0; word = word.0; insn = insn.0; register = register; low = there.0; there = there.1; is = word.2; upper = insn.2; sum = base.2 }
 
-  upper_is : pair_target bytes a r imm ≡ Some target → IsUpper bytes a r target imm
+  pub upper_is : pair_target bytes a r imm ≡ Some target → IsUpper bytes a r target imm
   upper_is e = elim (cases_Bool (eqb r 0)) [
     | inl zero ↦ absurd (none-some target (rw zero at e))
     | inr other ↦ upper_pair (λ same. clash (sym other ∙ rw same refl)) (sym (cond-false (eqb r 0) None _ other) ∙ e)
@@ -107,6 +108,21 @@ same_step bytes before state start memory length insn placed step =
     ap (λ i. insn_step bytes length i before start) (sym is)
     ∙ ap (λ n. insn_step bytes n step.insn before start) (sym (ap (λ (p : Placed). p.length) placed)) ∙ step.makes
 
+-- right after the step at its other half, the register of the pair leads to the target of the pair
+pub pair_goes : (bytes : List ℕ) (before state : State) (start memory : Bytes) (pair : IsPaired bytes state.pc) → before.pc + 4 ≡ state.pc → StepsTo bytes before start state memory
+    → address_plus (held state.registers pair.rs1) pair.imm / 2 * 2 ≡ pair.target
+pair_goes bytes before state start memory pair right_before first =
+    let placed = subst (λ a. placed_at bytes a ≡ placed_of 4 upper.insn) at (word_placed bytes (state.pc - 4) upper.word upper.insn upper.there upper.is) in
+    let step = same_step bytes before state start memory 4 upper.insn placed (made bytes before state start memory first) in
+    let base = leaves bytes before state start memory pair.rs1 upper.register upper.insn upper.base (subst (λ a. upper_of a pair.rs1 upper.insn ≡ Some upper.base) at upper.upper) step in
+    ap (λ x. address_plus x pair.imm / 2 * 2) base ∙ upper.sum
+  where
+    at : state.pc - 4 ≡ before.pc
+    at = omega arith
+
+    upper : IsUpper bytes state.pc pair.rs1 pair.target pair.imm
+    upper = upper_is bytes state.pc pair.rs1 pair.target pair.imm pair.pair
+
 pub pairs_are_covered : PairsAreCovered
 pairs_are_covered bytes cuts seeds outline of before state after start memory left reached pair right_before first steps move is =
     let step = made bytes state after memory left steps in
@@ -116,18 +132,8 @@ pairs_are_covered bytes cuts seeds outline of before state after start memory le
     jalr : Insn
     jalr = insns.Jalr pair.rd pair.rs1 pair.imm
 
-    at : state.pc - 4 ≡ before.pc
-    at = omega arith
-
-    upper : IsUpper bytes state.pc pair.rs1 pair.target pair.imm
-    upper = upper_is bytes state.pc pair.rs1 pair.target pair.imm pair.pair
-
     goes : address_plus (held state.registers pair.rs1) pair.imm / 2 * 2 ≡ pair.target
-    goes =
-        let placed = subst (λ a. placed_at bytes a ≡ placed_of 4 upper.insn) at (word_placed bytes (state.pc - 4) upper.word upper.insn upper.there upper.is) in
-        let step = same_step bytes before state start memory 4 upper.insn placed (made bytes before state start memory first) in
-        let base = leaves bytes before state start memory pair.rs1 upper.register upper.insn upper.base (subst (λ a. upper_of a pair.rs1 upper.insn ≡ Some upper.base) at upper.upper) step in
-        ap (λ x. address_plus x pair.imm / 2 * 2) base ∙ upper.sum
+    goes = pair_goes bytes before state start memory pair right_before first
 
     holds : (insn : Insn) → (placed_at bytes state.pc).insn ≡ Some insn → PairHolds bytes state insn
     holds insn stands = subst (PairHolds bytes state) (same_Some jalr insn (sym pair.jumps ∙ stands)) (λ target same. goes ∙ same_Some pair.target target (sym pair.pair ∙ same))

@@ -14,6 +14,7 @@ use Rattle.elf_image.proofs.LaidOut.{holds-true}
 use Rattle.elf_image.proofs.OneSection.{code_section-is, code_section-same}
 use Rattle.rv_decode.specs.declared.instructions.Insn.{Insn}
 use Rattle.rv_flow.specs.declared.placed.Placed.{Placed}
+use Rattle.elf_image.specs.Architecture.{extensions_of}
 use Rattle.rv_flow.specs.Placed.{whole, expanded, bad, rv64gc_insn}
 use Rattle.rv_flow.specs.Rv64gc.{rv64gc_placed_at, rv64gc_placed_by}
 use Rattle.edge_cover.proofs.Pairs.{and_then_some}
@@ -26,12 +27,12 @@ use Rattle.edge_cover.proofs.Constants.{word_of_constant, no_constant}
 record IsShort (bytes : List ℕ) (a : ℕ) (insn : Insn) : Type 0 where
   half : ℕ
   there : half_at bytes a ≡ Some half
-  is : option_and_then rv64gc_insn (expanded half) ≡ Some insn
+  is : option_and_then (rv64gc_insn (extensions_of bytes)) (expanded (extensions_of bytes) half) ≡ Some insn
 
 record IsLong (bytes : List ℕ) (a : ℕ) (insn : Insn) : Type 0 where
   word : ℕ
   there : word_at bytes a ≡ Some word
-  is : rv64gc_insn word ≡ Some insn
+  is : rv64gc_insn (extensions_of bytes) word ≡ Some insn
 
 abbrev IsEither : List ℕ → ℕ → Insn → ℕ → Type 0
 IsEither bytes a insn length = ((length ≡ 2) × IsShort bytes a insn) ⊎ ((length ≡ 4) × IsLong bytes a insn)
@@ -40,24 +41,24 @@ module _ (bytes : List ℕ) (a : ℕ) (insn : Insn) where
   abbrev Stands : Placed → Type 0
   Stands placed = placed.insn ≡ Some insn → IsEither bytes a insn placed.length
 
-  of_word : (o : Option Insn) → option_and_then rv64gc_insn (word_at bytes a) ≡ o → Stands (whole o)
+  of_word : (o : Option Insn) → option_and_then (rv64gc_insn (extensions_of bytes)) (word_at bytes a) ≡ o → Stands (whole o)
   of_word None is e = absurd (none-some insn e)
   of_word (Some decoded) is e =
-      let word = and_then_some rv64gc_insn (word_at bytes a) insn (is ∙ e) in
+      let word = and_then_some (rv64gc_insn (extensions_of bytes)) (word_at bytes a) insn (is ∙ e) in
       inr (refl, record { word = word.0; there = word.1; is = word.2 })
 
-  of_half : (half : ℕ) → half_at bytes a ≡ Some half → Stands (rv64gc_placed_by bytes a half)
+  of_half : (half : ℕ) → half_at bytes a ≡ Some half → Stands (rv64gc_placed_by (extensions_of bytes) bytes a half)
   of_half half there = by (half % 4 == 3) (half / 4 % 8 == 7)
     where
-      by : (b long : Bool) → Stands (cond b (cond long bad (whole (option_and_then rv64gc_insn (word_at bytes a)))) (record { length = 2; insn = option_and_then rv64gc_insn (expanded half) }))
+      by : (b long : Bool) → Stands (cond b (cond long bad (whole (option_and_then (rv64gc_insn (extensions_of bytes)) (word_at bytes a)))) (record { length = 2; insn = option_and_then (rv64gc_insn (extensions_of bytes)) (expanded (extensions_of bytes) half) }))
       by true true e = absurd (none-some insn e)
-      by true false e = of_word (option_and_then rv64gc_insn (word_at bytes a)) refl e
+      by true false e = of_word (option_and_then (rv64gc_insn (extensions_of bytes)) (word_at bytes a)) refl e
       by false long e = inl (refl, record { half = half; there = there; is = e })
 
   stands : Stands (rv64gc_placed_at bytes a)
   stands = by (half_at bytes a) refl
     where
-      by : (o : Option ℕ) → half_at bytes a ≡ o → Stands (option_map_or (rv64gc_placed_by bytes a) o bad)
+      by : (o : Option ℕ) → half_at bytes a ≡ o → Stands (option_map_or (rv64gc_placed_by (extensions_of bytes) bytes a) o bad)
       by None there e = absurd (none-some insn e)
       by (Some half) there e = of_half half there e
 
@@ -115,9 +116,9 @@ module _ (bytes : List ℕ) (accepted : IsImage bytes) (small : All (λ byte. by
 
   no_overlap : (a r : ℕ) (first second : ℤ) → IsLong bytes a (sets r first) → IsShort bytes (a + 2) (sets r second) → ⊥
   no_overlap a r first second long short =
-      let is = word_of_constant long.word r first long.is in
+      let is = word_of_constant (extensions_of bytes) long.word r first long.is in
       let upper = second_half a long.word short.half long.there short.there in
-      no_constant short.half r second (low_bits long.word short.half is.from_zero upper) short.is
+      no_constant (extensions_of bytes) short.half r second (low_bits long.word short.half is.from_zero upper) short.is
     where
       low_bits : (word half : ℕ) → word / 2 ^ 15 % 2 ^ 5 ≡ 0 → half ≡ word / 2 ^ 16 → half / 2 ^ 0 % 2 ^ 2 ≡ 0
       low_bits word half zero is = omega arith

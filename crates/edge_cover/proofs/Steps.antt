@@ -150,6 +150,8 @@ module _ (file : List ℕ) (length : ℕ) (cpu : State) (memory : Bytes) where
   step_leads (insns.ShiftAdd shift zero_extended rd rs1 rs2) pair = tt
   step_leads (insns.Extend kind rd rs1) pair = tt
   step_leads (insns.Extension reads writes) pair = tt
+  step_leads (insns.Away kind reads writes) pair = tt
+  step_leads (insns.Vendor kind shift rd rs1 rs2) pair = tt
 
   leads_on : (flow : RawFlow) (o : Outcome) (after : State) (left : Bytes) → o ≡ Goes after left → Leads flow o → LeadsBy flow (advanced length cpu) after.pc
   leads_on flow (Traps trap) after left e h = cc

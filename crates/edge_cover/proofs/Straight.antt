@@ -73,6 +73,7 @@ leads_straight (raw.Jump target) next to straight leads = cc
 leads_straight (raw.Call target) next to straight leads = cc
 leads_straight raw.IndirectCall next to straight leads = cc
 leads_straight raw.Return next to straight leads = cc
+leads_straight raw.Unknown next to straight leads = cc
 leads_straight (raw.RegisterJump register offset) next to straight leads = cc
 leads_straight raw.Stop next to straight leads = cc
 
@@ -89,11 +90,11 @@ module _ (bytes : List ℕ) (accepted : IsImage bytes) where
 
 -- what is known after a step, by the instruction at its address
 pub known_after : (bound : ℕ) (bytes : List ℕ) → All (λ byte. byte < 256) bytes → (index : ℕ) → index < 2048 → (state next : State) (memory left : Bytes) → StepsTo bytes state memory next left
-    → (known : Registers) → HoldAll bytes index known state.registers → HoldAll bytes index (after_placed (Bounded bound) state.pc (placed_at bytes state.pc).insn known) next.registers
+    → (known : Registers) → HoldAll bytes index known state.registers → HoldAll bytes index (after_placed (Bounded bound) bytes state.pc (placed_at bytes state.pc).insn known) next.registers
 known_after bound bytes small index below state next memory left steps known hold =
     let step = made bytes state next memory left steps in
-    subst (λ o. HoldAll bytes index (after_placed (Bounded bound) state.pc o known) next.registers) (sym step.stands)
-    (subst (KeepsAll bytes index (after (Bounded bound) state.pc step.insn known)) step.makes
+    subst (λ o. HoldAll bytes index (after_placed (Bounded bound) bytes state.pc o known) next.registers) (sym step.stands)
+    (subst (KeepsAll bytes index (after (Bounded bound) bytes state.pc step.insn known)) step.makes
     (step_keeps bytes small index below (placed_at bytes state.pc).length state memory known hold bound step.insn))
 
 -- ---- a run of them
@@ -155,9 +156,9 @@ module _ (bound : ℕ) (bytes : List ℕ) (accepted : IsImage bytes) (small : Al
   onward n a run more holds state last memory end (ComesTo.onward {next = next} {left = left} away steps rest) at known hold =
       let straight : is_straight (raw_flow_at bytes state.pc) ≡ true = subst (λ b. is_straight (raw_flow_at bytes b) ≡ true) (sym at) more.straight in
       let behind : next.pc ≡ a + (placed_at bytes a).length = next_straight bytes accepted state next memory left steps straight ∙ ap (λ b. b + (placed_at bytes b).length) at in
-      let now = subst (λ b. HoldAll bytes index (after_placed (Bounded bound) b (placed_at bytes b).insn known) next.registers) at (known_after bound bytes small index below state next memory left steps known hold) in
+      let now = subst (λ b. HoldAll bytes index (after_placed (Bounded bound) bytes b (placed_at bytes b).insn known) next.registers) at (known_after bound bytes small index below state next memory left steps known hold) in
       subst (λ run. HoldAll bytes index (after_run (Bounded bound) bytes run known) last.registers) (sym more.same)
-      (holds next last left end rest behind (after_placed (Bounded bound) a (placed_at bytes a).insn known) now)
+      (holds next last left end rest behind (after_placed (Bounded bound) bytes a (placed_at bytes a).insn known) now)
 
   pub run_holds : (n a : ℕ) (run : List ℕ) → straight_run bytes start j n a ≡ Some run → Holds a run
   run_holds zero a run is = let e = ended bytes start j a run is in at_jump a run e.0 e.1

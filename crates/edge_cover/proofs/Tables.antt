@@ -25,9 +25,10 @@ use Rattle.cfg_model.specs.declared.flow.Flow.TheVariants as flows
 use Rattle.cfg_model.specs.declared.graph.Outline.{Outline}
 use Rattle.cfg_model.specs.Program.Instructions.{targets_at}
 use Rattle.cfg_model.proofs.Graphs.Places.{reached_known, each_address_has_a_block}
-use Rattle.code_view.specs.Flow.{in_code, straight_flow, jump_flow, call_flow, table_flow, flow_by, kept_entries}
+use Rattle.code_view.specs.Flow.{in_code, straight_flow, jump_flow, call_flow, call_fall, table_flow, flow_by, kept_entries}
 use Rattle.code_view.specs.Program.{program_under}
-use Rattle.code_view.proofs.Lawful.{program-lawful, code_of, length-program, flow-program, table-fits, KeptFits, kept_of_table, targets-of-table}
+use Rattle.code_view.proofs.Lawful.{program-lawful, code_of, length-program, flow-program, table-fits, KeptFits}
+use Rattle.code_view.proofs.KeptTargets.{targets-of-table}
 use Rattle.rv_machine.specs.State.{State}
 use Rattle.rv_machine.specs.Registers.{held}
 use Rattle.rv_machine.specs.Memory.{Bytes}
@@ -84,9 +85,10 @@ module _ (bytes : List ℕ) (behind entries : ℕ) where
   full_by cut o raw.Straight e = absurd (no_straight (in_code bytes behind) e)
   full_by cut o (raw.Branch target) e = cc
   full_by cut o (raw.Jump target) e = absurd (no_jump (in_code bytes target) e)
-  full_by cut o (raw.Call target) e = absurd (no_call (in_code bytes target) (in_code bytes behind) e)
+  full_by cut o (raw.Call target) e = absurd (no_call (in_code bytes target) (call_fall bytes target behind) e)
   full_by cut o raw.IndirectCall e = cc
   full_by cut o raw.Return e = cc
+  full_by cut o raw.Unknown e = cc
   full_by cut o (raw.RegisterJump register offset) e = table_full cut o e
   full_by cut o raw.Stop e = cc
 
@@ -161,6 +163,8 @@ module _ (bytes : List ℕ) (length : ℕ) (state after : State) (memory left : 
   jump_goes (insns.ShiftAdd shift zero_extended rd rs1 rs2) flow step = cc
   jump_goes (insns.Extend kind rd rs1) flow step = cc
   jump_goes (insns.Extension reads writes) flow step = cc
+  jump_goes (insns.Away kind reads writes) flow step = cc
+  jump_goes (insns.Vendor kind shift rd rs1 rs2) flow step = cc
 
 -- ---- the register holds the entry
 
@@ -237,8 +241,7 @@ module _ (bytes : List ℕ) (cuts : ℕ → Option ℕ) (seeds : List ℕ) (outl
   -- all targets of the table are kept
   kept_all : targets_at (program_under bytes cuts) state.pc ≡ targets_from bytes place.place.base (bytes_of place.place.width) place.place.add 0 place.place.bound
   kept_all =
-      targets-of-table bytes cuts state.pc code
-      ∙ ap (kept_of_table bytes (cuts state.pc)) of_full.is
+      targets-of-table bytes cuts state.pc code of_full.table of_full.is
       ∙ ap (λ n. take n (table_targets bytes of_full.table)) (of_full.kept ∙ sym all_there ∙ sym fits.is_table.counted)
       ∙ take-length (table_targets bytes of_full.table)
       ∙ ap (λ n. targets_from bytes n of_full.table.width of_full.table.add 0 of_full.table.count) place.is.base
@@ -246,7 +249,7 @@ module _ (bytes : List ℕ) (cuts : ℕ → Option ℕ) (seeds : List ℕ) (outl
       ∙ ap (λ n. targets_from bytes place.place.base (bytes_of place.place.width) n 0 of_full.table.count) place.is.add
       ∙ ap (λ n. targets_from bytes place.place.base (bytes_of place.place.width) place.place.add 0 n) (all_there ∙ place.is.bound)
 
-  lands_on_target : Contains (targets_at (program_under bytes cuts) state.pc) after.pc
+  pub lands_on_target : Contains (targets_at (program_under bytes cuts) state.pc) after.pc
   lands_on_target =
       subst (λ to. Contains (targets_at (program_under bytes cuts) state.pc) to) (sym goes)
       (subst (λ targets. Contains targets target.target) (sym kept_all) target.listed)

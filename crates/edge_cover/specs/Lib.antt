@@ -4,3 +4,4 @@ pub mod Runs
 pub mod TableRun
 pub mod Cover
 pub mod Fixed
+pub mod OpenCover

@@ -6,7 +6,7 @@ use Rattle.cfg_model.specs.declared.graph.Block.{Block}
 use Rattle.cfg_model.specs.declared.graph.Edge.{Edge}
 use Rattle.cfg_model.specs.Program.Instructions.{InstructionMap, length_at}
 use Rattle.cfg_model.specs.Graph.Graph.{IsOutline}
-use Rattle.cfg_model.specs.Graph.Places.{LiesIn, HasABlock}
+use Rattle.cfg_model.specs.Graph.Places.{LiesIn}
 use Rattle.cfg_model.specs.declared.graph.Outline.{Outline}
 use Rattle.edge_cover.specs.declared.moves.Move.{Move}
 use Rattle.edge_cover.specs.declared.moves.Move.TheVariants.{Inside, Along, Out}
@@ -28,19 +28,6 @@ move_in block edges next to =
     if nat_lt next block.end
     then (if to == next then Inside else Out block.kind)
     else along block (find (joins block.start to) edges)
-
--- This is the outline of the program from some seeds, and a lies in a block of it.
-pub record IsInOutline (map : InstructionMap) (outline : Outline) (a : ℕ) : Type 0 where
-  pub seeds : List ℕ
-  pub is : IsOutline map seeds outline.blocks outline.edges
-  pub lies : HasABlock map seeds outline.blocks a
-
--- For whatever seeds this is the outline of the program, this is the block that a lies in.
-pub record IsBlockWith (map : InstructionMap) (outline : Outline) (a : ℕ)
-    (block : Block) : Type 0 where
-  pub listed : Contains outline.blocks block
-  pub lies : (seeds : List ℕ) → IsOutline map seeds outline.blocks outline.edges
-      → LiesIn map seeds block a
 
 -- The move of a step from `from` to `to` is this one, in whatever block `from` lies.
 abbrev pub IsMoveOf : InstructionMap → Outline → ℕ → ℕ → Move → Type 0

@@ -2,10 +2,10 @@
 
 ghost use Rattle.std.specs.Prelude.{◌≡◌, AllPairs};
 ghost use Rattle.cfg_model.specs.Graph.Graph.{EdgeBefore};
-ghost use Rattle.edge_cover.specs.Move.{move_in, IsInOutline, IsMoveOf};
+ghost use Rattle.edge_cover.specs.Move.{move_in};
 
-use crate::search::{block_with, first_edge};
-use cfg_model::{Block, Chains, Edge, EdgeKind, EndKind, Outline};
+use crate::search::first_edge;
+use cfg_model::{Block, Edge, EdgeKind, EndKind};
 
 /// How a step goes through the graph of a program.
 #[derive(Clone, Copy, Debug, PartialEq, Eq)]
@@ -16,22 +16,6 @@ pub enum Move {
     Along(EdgeKind),
     /// Anywhere else, out of a block of this kind.
     Out(EndKind),
-}
-
-/// The move of a step from `from` to `to`, where `outline` is that of the program `code`, and
-/// `from` lies in one of its blocks.
-///
-/// It goes back from the last block that starts at or before `from` to the block of `from`, and
-/// walks that block up to `from`. Whoever knows the block calls [`judge_in`].
-///
-/// Time: logarithmic in blocks and edges, and linear in the block. Memory: none.
-pub fn judge<C: Chains>(code: &C, outline: &Outline, from: u64, to: u64) -> Move
-    requires { IsInOutline (C.map code.now) outline.now from }
-    ensures { IsMoveOf (C.map code.now) outline.now from to result }
-{
-    let next = from + u64::from(code.length(from));
-    let block = block_with(code, outline, from);
-    judge_in(outline.edges.as_slice(), &block, next, to)
 }
 
 /// The move of a step to `to` from an instruction of `block` that ends just before the address

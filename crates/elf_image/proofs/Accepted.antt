@@ -9,7 +9,7 @@ use Rattle.elf_image.specs.declared.fault.Fault.TheVariants.{TooLarge, Short, No
 use Rattle.elf_image.specs.Header as header
 use Rattle.elf_image.specs.Sections.{sections, is_code_section, is_read_only_section, is_null, is_nobits, is_progbits, is_allocated, is_executable, is_writable, holds_bytes}
 use Rattle.elf_image.specs.Code.{is_code, is_even, code_section_of}
-use Rattle.elf_image.specs.ReadOnly.{data_section_of}
+use Rattle.elf_image.specs.ReadOnly.{data_section_of, byte_section_of}
 use Rattle.elf_image.specs.FaultTests.{is_too_large, is_short, has_no_sections, is_out_of_file, is_wrapping, has_section_out_of_file, has_wrapping_section, has_entry_outside_code}
 use Rattle.elf_image.specs.Faults.{has_fault, first_among, image_faults, first_image_fault, IsImage}
 use Rattle.elf_image.specs.Inner.Found.{IsFoundAt}
@@ -109,6 +109,13 @@ module _ (bytes : List ℕ) (accepted : IsImage bytes) where
   pub data_section-found : (a : ℕ) → IfSome (data_section_of bytes a) (IsFoundAt bytes a 4)
   unfolding data_section_of
   data_section-found a = find-found is_read_only_section read_only-loaded a 4
+
+  pub byte_section-found : (a : ℕ) → IfSome (byte_section_of bytes a) (IsFoundAt bytes a 1)
+  unfolding byte_section_of
+  byte_section-found a = find-found is_read_only_section read_only-loaded a 1
+
+  pub range_fits : has_fault bytes SectionRange ≡ false
+  range_fits = no_fault 13 SectionRange (lit< tt) refl
 
   pub some_sections : 0 < header.section_count bytes
   unfolding has_fault has_no_sections

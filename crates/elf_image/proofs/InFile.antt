@@ -7,6 +7,7 @@ use Rattle.elf_image.specs.declared.fault.Fault.TheVariants.{SectionRange}
 use Rattle.elf_image.specs.Sections.{sections}
 use Rattle.elf_image.specs.Attributes.{is_attributes}
 use Rattle.elf_image.specs.DeclaredTables.{is_declaring}
+use Rattle.elf_image.specs.DeclaredNoReturns.{is_declaring_no_returns}
 use Rattle.elf_image.specs.FaultTests.{is_out_of_file, has_section_out_of_file}
 use Rattle.elf_image.specs.Faults.{has_fault}
 use Rattle.elf_image.proofs.Finds.{find-cases, any-contained}
@@ -23,6 +24,12 @@ lies-in_file bytes fits s there not_null not_nobits = elim (cases_Bool (is_out_o
 pub declaring-in_file : (bytes : List ℕ) → has_fault bytes SectionRange ≡ false → (s : Section) → Contains (sections bytes) s → is_declaring s ≡ true → s.offset + s.size ≤ length bytes
 declaring-in_file bytes fits s there declaring =
     let kind = eqb-true s.kind 0x8CF60001 declaring in
+    lies-in_file bytes fits s there (ap (λ k. eqb k 0) kind) (ap (λ k. eqb k 8) kind)
+
+-- one that declares functions that do not return
+pub no_returns-in_file : (bytes : List ℕ) → has_fault bytes SectionRange ≡ false → (s : Section) → Contains (sections bytes) s → is_declaring_no_returns s ≡ true → s.offset + s.size ≤ length bytes
+no_returns-in_file bytes fits s there declaring =
+    let kind = eqb-true s.kind 0x8CF60002 declaring in
     lies-in_file bytes fits s there (ap (λ k. eqb k 0) kind) (ap (λ k. eqb k 8) kind)
 
 -- the first of attributes

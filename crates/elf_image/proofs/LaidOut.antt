@@ -17,7 +17,7 @@ use Rattle.elf_image.proofs.Pairs.{any_pair-at, pair-from_any_pair, any_pair-per
 
 -- a section, to read past the end of a list
 abbrev pub no_section : Section
-no_section = record { kind = 0; flags = 0; address = 0; offset = 0; size = 0; link = 0; entry_size = 0 }
+no_section = record { name = 0; kind = 0; flags = 0; address = 0; offset = 0; size = 0; link = 0; entry_size = 0 }
 
 -- two sections at places of a list that is laid out: the first ends before the second begins
 ends_before : (xs : List Section) → IsLaidOut xs → (m i j : ℕ) (d : Section) → j ≡ i + suc m → j < length xs → (get_or xs i d).address + (get_or xs i d).size ≤ (get_or xs j d).address

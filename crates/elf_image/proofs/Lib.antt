@@ -16,4 +16,5 @@ pub mod Letters
 pub mod Join
 pub mod ByJump
 pub mod InFile
+pub mod SectionNames
 pub mod DataFrom

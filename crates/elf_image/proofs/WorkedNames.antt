@@ -20,20 +20,37 @@ base_text = (refl, refl)
 vector_text : (extensions_named (names (codes "rv64i_zve32x1p0")) ≡ record (extensions_named []) { vector = true }) × (extensions_named (names (codes "rv64i_zvfh_zvl128b")) ≡ record (extensions_named []) { zvfh = true })
 vector_text = (refl, refl)
 
--- letters go on in the first part; upper case counts as lower; an empty part names nothing
-first_part : (names (codes "rv64gczba") ≡ codes "g" ∷ codes "c" ∷ codes "z" ∷ codes "b" ∷ codes "a" ∷ []) × (names (codes "RV64I2P1_Zba1P0") ≡ codes "i" ∷ codes "zba" ∷ []) × (names (codes "rv64__zba") ≡ codes "zba" ∷ [])
-first_part = (refl, refl, refl)
+-- letters, and one name that goes to the end of its part; upper case counts as lower; an empty part names
+-- nothing
+parts : (names (codes "rv64gczba_zbb") ≡ codes "g" ∷ codes "c" ∷ codes "zba" ∷ codes "zbb" ∷ []) × (names (codes "rv64gczbazbb") ≡ codes "g" ∷ codes "c" ∷ codes "zbazbb" ∷ []) × (names (codes "RV64I2_m2b1zba1_Zbkc1p0") ≡ codes "i" ∷ codes "m" ∷ codes "b" ∷ codes "zba" ∷ codes "zbkc" ∷ []) × (names (codes "rv64gc__zbs_") ≡ codes "g" ∷ codes "c" ∷ codes "zbs" ∷ []) × (names (codes "rv64imafdcsu_zba") ≡ codes "i" ∷ codes "m" ∷ codes "a" ∷ codes "f" ∷ codes "d" ∷ codes "c" ∷ codes "su" ∷ codes "zba" ∷ [])
+parts = (refl, refl, refl, refl, refl)
 
--- a text of another width, and none
-no_names : (names (codes "rv32i_zba") ≡ []) × (names (codes "rv64") ≡ []) × (names [] ≡ [])
-no_names = (refl, refl, refl)
+-- a text without a base, one of another width, and none
+no_names : (names (codes "rv64zba") ≡ []) × (names (codes "rv64c_zba") ≡ []) × (names (codes "rv64_i_zba") ≡ []) × (names (codes "rva23u64") ≡ []) × (names (codes "rv32i_zba") ≡ []) × (names (codes "rv64") ≡ []) × (names [] ≡ [])
+no_names = (refl, refl, refl, refl, refl, refl, refl)
 
--- a version is digits, `p`, digits: digits alone are of the name, and no letters have them
-versions : (without_version (codes "zba1p0") ≡ codes "zba") × (without_version (codes "zve32x") ≡ codes "zve32x") × (without_version (codes "zvl128b10p12") ≡ codes "zvl128b") × (without_version (codes "zba1") ≡ codes "zba1") × (without_version (codes "zbap0") ≡ codes "zbap0") × (without_version (codes "zba1p") ≡ codes "zba1p")
+-- a version is digits, or digits, `p`, digits; after a letter the longest one is passed over
+letter_versions : (names (codes "rv64i2p") ≡ codes "i" ∷ codes "p" ∷ []) × (names (codes "rv64i2pb") ≡ codes "i" ∷ codes "p" ∷ codes "b" ∷ []) × (names (codes "rv64i2p1_b2_v") ≡ codes "i" ∷ codes "b" ∷ codes "v" ∷ [])
+letter_versions = (refl, refl, refl)
+
+-- and at the end of a name the longest one is left out
+versions : (without_version (codes "zba1p0") ≡ codes "zba") × (without_version (codes "zve32x") ≡ codes "zve32x") × (without_version (codes "zvl128b10p12") ≡ codes "zvl128b") × (without_version (codes "zba1") ≡ codes "zba") × (without_version (codes "zbap0") ≡ codes "zbap") × (without_version (codes "zba1p") ≡ codes "zba1p")
 versions = (refl, refl, refl, refl, refl, refl)
 
-no_letters : (names (codes "rv64i_b2_v") ≡ codes "i" ∷ codes "v" ∷ []) × (names (codes "rv64i2_zba") ≡ codes "zba" ∷ []) × (names (codes "rv64i_m1p_a2p0v1p0") ≡ codes "i" ∷ codes "a" ∷ codes "v" ∷ [])
+name_versions : (names (codes "rv64i_zkb1p") ≡ codes "i" ∷ codes "zkb1p" ∷ []) × (names (codes "rv64i_zbs1p0p1") ≡ codes "i" ∷ codes "zbs1p" ∷ []) × (names (codes "rv64i_zvl128b1p0") ≡ codes "i" ∷ codes "zvl128b" ∷ []) × (names (codes "rv64i_z1") ≡ codes "i" ∷ codes "z" ∷ [])
+name_versions = (refl, refl, refl, refl)
+
+-- a part with anything else in the place of a letter names nothing
+no_letters : (names (codes "rv64gc_b1-zbc_zbs") ≡ codes "g" ∷ codes "c" ∷ codes "zbs" ∷ []) × (names (codes "rv64gc_1b_zbs") ≡ codes "g" ∷ codes "c" ∷ codes "zbs" ∷ []) × (names (codes "rv64gc-_zbs") ≡ codes "zbs" ∷ [])
 no_letters = (refl, refl, refl)
+
+-- names that stand for several
+several : (extensions_named (names (codes "rv64i_zk")) ≡ record (extensions_named []) { zbkb = true; zbkc = true; zbkx = true; zknd = true; zkne = true; zknh = true }) × (extensions_named (names (codes "rv64i_zkn")) ≡ extensions_named (names (codes "rv64i_zk"))) × (extensions_named (names (codes "rv64i_zks")) ≡ record (extensions_named []) { zbkb = true; zbkc = true; zbkx = true; zksed = true; zksh = true }) × (extensions_named (names (codes "rv64i_zce")) ≡ record (extensions_named []) { zcb = true; zcmp = true; zcmt = true })
+several = (refl, refl, refl, refl)
+
+-- floats in integer registers leave no room for others; a vendor by any name from `xthead` on
+integers : (extensions_named (names (codes "rv64i_zdinx_zfh_zfa")) ≡ record (extensions_named []) { zfinx = true }) × (extensions_named (names (codes "rv64i_zhinxmin_zhinx")) ≡ record (extensions_named []) { zfinx = true; zhinx = true; zhinxmin = true }) × (extensions_named (names (codes "rv64gc_xtheadba1p0")) ≡ record (extensions_named []) { xthead = true })
+integers = (refl, refl, refl)
 
 -- numbers of any length
 numbers : (uleb128 (5 ∷ 9 ∷ []) ≡ Some (record { value = 5; size = 1 })) × (uleb128 (0x85 ∷ 0x80 ∷ 0 ∷ []) ≡ Some (record { value = 5; size = 3 })) × (uleb128 (0x85 ∷ 1 ∷ []) ≡ Some (record { value = 133; size = 2 })) × (uleb128 (0x85 ∷ 0x80 ∷ []) ≡ None)

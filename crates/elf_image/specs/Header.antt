@@ -53,6 +53,10 @@ section_header_size bytes = u16_at bytes 58
 abbrev pub section_count : List ℕ → ℕ
 section_count bytes = u16_at bytes 60
 
+-- e_shstrndx: the index of the section with the names of all sections
+abbrev pub names_index : List ℕ → ℕ
+names_index bytes = u16_at bytes 62
+
 -- e_ehsize: the size of the ELF header
 abbrev pub header_size : List ℕ → ℕ
 header_size bytes = u16_at bytes 52

@@ -9,6 +9,7 @@ pub mod Seeds
 pub mod Attributes
 pub mod Architecture
 pub mod DeclaredTables
+pub mod DeclaredNoReturns
 pub mod FaultTests
 pub mod Faults
 pub mod FaultNames

@@ -1,5 +1,5 @@
 -- Bytes that the running program cannot write: this project's profile.
-use Rattle.std.specs.Prelude.{◌≡◌, ℕ, ◌+◌, ◌≤◌, ◌&&◌, Bool, List, length, take, drop, Some}
+use Rattle.std.specs.Prelude.{◌≡◌, ℕ, ◌+◌, ◌-◌, ◌≤◌, ◌&&◌, Bool, List, length, take, drop, Some}
 use Rattle.std.specs.List.{find, list_any}
 use Rattle.std.specs.Option.{option_map}
 use Rattle.std.specs.declared.option.Option.{Option}
@@ -23,6 +23,16 @@ data_section_of bytes a = find (is_read_only_section_of a 4) (sections bytes)
 -- the word that those four bytes spell
 abbrev pub data_word : List ℕ → ℕ → Option ℕ
 data_word bytes a = option_map (λ s. u32_at bytes (file_offset s a)) (data_section_of bytes a)
+
+-- the first read-only section, in table order, that has the byte at a
+unfoldable pub byte_section_of : List ℕ → ℕ → Option Section
+byte_section_of bytes a = find (is_read_only_section_of a 1) (sections bytes)
+
+-- the bytes from a on up to the end of that section
+abbrev pub bytes_from : List ℕ → ℕ → Option (List ℕ)
+bytes_from bytes a =
+    option_map (λ s. take (s.size - (a - s.address)) (drop (file_offset s a) bytes))
+    (byte_section_of bytes a)
 
 -- each word of some bytes is the data word at its address, where their first is at a
 abbrev pub AreWordsFrom : List ℕ → ℕ → List ℕ → Type 0

@@ -1,14 +1,16 @@
 -- The section headers of a file, in table order (System V ABI, "Section Header").
-use Rattle.std.specs.Prelude.{ℕ, ◌+◌, ◌-◌, ◌*◌, Bool, not, ◌&&◌, ◌==◌, nat_le, List, map, bit_and}
-use Rattle.std.specs.List.{range_with_len}
+use Rattle.std.specs.Prelude.{ℕ, ◌+◌, ◌-◌, ◌*◌, Bool, not, ◌&&◌, ◌==◌, nat_eq, nat_lt, nat_le}
+use Rattle.std.specs.Prelude.{List, [], map, take, drop, bit_and, if◌then◌else◌}
+use Rattle.std.specs.List.{range_with_len, starts_with}
 use Rattle.elf_image.specs.declared.section.Section.{Section}
 use Rattle.elf_image.specs.Number.{u32_at, u64_at}
-use Rattle.elf_image.specs.Header.{section_table_offset, section_count}
+use Rattle.elf_image.specs.Header.{section_table_offset, section_count, names_index}
 
--- the Elf64_Shdr at an offset of the file: sh_type, sh_flags, sh_addr, sh_offset, sh_size, sh_link
--- and sh_entsize
+-- the Elf64_Shdr at an offset of the file: sh_name, sh_type, sh_flags, sh_addr, sh_offset, sh_size,
+-- sh_link and sh_entsize
 abbrev pub section_header : List ℕ → ℕ → Section
 section_header bytes at = record {
+  name = u32_at bytes at;
   kind = u32_at bytes (at + 4);
   flags = u64_at bytes (at + 8);
   address = u64_at bytes (at + 16);
@@ -41,6 +43,19 @@ is_string_table s = s.kind == 3
 
 abbrev pub is_nobits : Section → Bool
 is_nobits s = s.kind == 8
+
+-- the names of the sections: the bytes of the section with the index e_shstrndx, which is of type
+-- SHT_STRTAB; none if it is not
+unfoldable pub section_names : List ℕ → List ℕ
+section_names bytes =
+    let names = section bytes (names_index bytes) in
+    if nat_lt (names_index bytes) (section_count bytes) && is_string_table names
+    then take names.size (drop names.offset bytes) else []
+
+-- what stands at the name of a section, sh_name, begins with a text. With a zero byte at its end the
+-- text is the name (System V ABI, "String Table").
+unfoldable pub name_begins : List ℕ → List ℕ → Section → Bool
+name_begins bytes text s = starts_with nat_eq (drop s.name (section_names bytes)) text
 
 -- sh_flags has SHF_WRITE, SHF_ALLOC or SHF_EXECINSTR
 abbrev pub is_writable : Section → Bool

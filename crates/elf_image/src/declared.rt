@@ -1,4 +1,5 @@
-//! The jump tables that a file declares, kept to be searched by the address of the jump.
+//! What a file declares: jump tables, kept to be searched by the address of the jump, and functions
+//! that do not return.
 
 ghost use Rattle.std.specs.Prelude.{◌≡◌, ◌+◌, ◌≤◌, ◌++◌, ◌==◌, length, false, IfOk, OnOk};
 ghost use Rattle.std.specs.List.{find};
@@ -6,6 +7,7 @@ ghost use Rattle.std.specs.List.Sorted.{IsNonDecreasingBy};
 ghost use Rattle.elf_image.specs.Sections.{sections};
 ghost use Rattle.elf_image.specs.Faults.{has_fault};
 ghost use Rattle.elf_image.specs.DeclaredTables as spec;
+ghost use Rattle.elf_image.specs.DeclaredNoReturns as no_return;
 ghost use Rattle.elf_image.specs.Inner.Declared.{IsByJump};
 
 use crate::fault::Fault;
@@ -13,8 +15,11 @@ use crate::number::{u32_at, u64_at};
 use crate::section::Section;
 use std::alloc::{AllocError, Global};
 
-/// The size of a record.
+/// The size of the record of a table.
 const RECORD_SIZE: u64 = 32;
+
+/// The size of the record of a function that does not return: its address.
+const ADDRESS_SIZE: u64 = 8;
 
 /// What a file says of the table of a jump: one record of a section of the type 8CF60001
 /// (hexadecimal), as it stands there. Whether there is such a table is not judged.
@@ -103,4 +108,37 @@ pub(crate) fn first_of_jump(tables: &[DeclaredTable], j: u64) -> Option<Declared
     let first = tables.partition_point(|t| t.jump < j);
     let table = tables.get(first)?;
     if table.jump == j { Some(*table) } else { None }
+}
+
+/// Puts the addresses of a section, which lies in the file, after those that are there.
+fn push_no_returns(bytes: &[u8], s: &Section, found: &mut Vec<u64>) -> Result<(), AllocError>
+    requires { s.now.offset + s.now.size ≤ length bytes.now }
+    ensures { OnOk result
+        (found.new.items ≡ found.old.items ++ no_return.no_returns_in bytes.now s.now) }
+{
+    for i in 0..s.size / ADDRESS_SIZE {
+        found.push(u64_at(bytes, (s.offset + ADDRESS_SIZE * i) as usize))?;
+    }
+    Ok(())
+}
+
+/// The addresses of the functions that are declared not to return, section after section. `headers`
+/// are all of the file.
+#[tactic(auto, unfolding(crate::specs::DeclaredNoReturns::declared_no_returns))]
+pub(crate) fn no_returns(
+    alloc: Global,
+    bytes: &[u8],
+    headers: &[Section],
+) -> Result<Vec<u64>, AllocError>
+    requires headers { headers.now ≡ sections bytes.now }
+    requires in_file { has_fault bytes.now Fault.SectionRange ≡ false }
+    ensures { IfOk result (λ v. v.items ≡ no_return.declared_no_returns bytes.now) }
+{
+    let mut found = Vec::new(alloc);
+    for s in headers {
+        if s.is_declaring_no_returns() {
+            push_no_returns(bytes, s, &mut found)?;
+        }
+    }
+    Ok(found)
 }

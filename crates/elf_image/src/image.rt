@@ -2,29 +2,31 @@
 
 ghost use Rattle.std.specs.Prelude.{◌≡◌, ℕ, ◌+◌, ◌-◌, ◌<◌, ◌≤◌, ◌^◌, List, length, true, false};
 ghost use Rattle.std.specs.Prelude.{IsTrue, IsSome, IfOk, IfErr, OnOk, OnSome, IfSome, None, Some};
-ghost use Rattle.std.specs.Option.{option_copied};
+ghost use Rattle.std.specs.Option.{option_copied, option_map};
 ghost use Rattle.elf_image.specs.Header as header;
 ghost use Rattle.elf_image.specs.Sections.{section, is_code_section, holds_bytes, file_offset};
+ghost use Rattle.elf_image.specs.Sections.{section_names, name_begins};
 ghost use Rattle.elf_image.specs.Code.{is_even, code_section_of, is_code, section_start, half_at};
 ghost use Rattle.elf_image.specs.Code.{word_at, is_code_byte};
 ghost use Rattle.elf_image.specs.ReadOnly.{is_read_only, data_section_of, data_word, span_bytes};
-ghost use Rattle.elf_image.specs.ReadOnly.{AreWordsFrom};
+ghost use Rattle.elf_image.specs.ReadOnly.{AreWordsFrom, byte_section_of, bytes_from};
 ghost use Rattle.elf_image.specs.Fixed.{is_fixed, is_fixed_byte};
 ghost use Rattle.elf_image.specs.Architecture.{extensions_of};
 ghost use Rattle.elf_image.specs.DeclaredTables.{declared_at};
+ghost use Rattle.elf_image.specs.DeclaredNoReturns.{declared_no_returns};
 ghost use Rattle.elf_image.specs.FaultTests.{is_out_of_file};
 ghost use Rattle.elf_image.specs.Faults.{first_fault, first_image_fault, first_symbol_fault};
 ghost use Rattle.elf_image.specs.Faults.{IsImage};
 ghost use Rattle.elf_image.specs.Outcome.{IfMalformed};
 ghost use Rattle.elf_image.specs.Inner.Found.{IsFoundAt};
 
-use crate::declared::{DeclaredTable, first_of_jump};
+use crate::declared::{DeclaredTable, first_of_jump, no_returns};
 use crate::extensions::Extensions;
 use crate::fault::ElfError;
 use crate::layout::{Layout, code_section, judge};
 use crate::number::{u16_at, u32_at, u64_at};
 use crate::section::{Section, Span};
-use std::alloc::Global;
+use std::alloc::{AllocError, Global};
 use std::marker::Model;
 
 /// A file without any of the faults up to [`Fault::Entry`](crate::Fault::Entry). To a caller it is
@@ -203,13 +205,34 @@ impl Image {
         &bytes[at..at + len as usize]
     }
 
+    /// The first read-only section, in table order, that has the byte at `a`.
+    fn byte_section(&self, a: u64) -> Option<&Section>
+        ensures value { option_copied result ≡ byte_section_of self.now a }
+        ensures found { IfSome (option_copied result) (IsFoundAt self.now a 1) }
+    {
+        self.layout.read_only.find(a, 1)
+    }
+
+    /// The bytes from `a` on, up to the end of the first read-only section, in table order, that has
+    /// the byte at `a`; `None` if none has.
+    /// Time: as [`is_read_only`](Self::is_read_only). Memory: none.
+    pub fn bytes_from(&self, a: u64) -> Option<&[u8]>
+        ensures { option_map (λ b. b.now) result ≡ bytes_from self.now a }
+    {
+        let bytes: &[u8] = &self.bytes;
+        let s = self.byte_section(a)?;
+        let begin = file_offset(s, a);
+        let len = s.size - (a - s.address);
+        Some(&bytes[begin..begin + len as usize])
+    }
+
     /// The extensions beyond RV64GC that the file names. A section that cannot be read names none.
     /// Time: O(1). Memory: none.
     #[inline]
-    pub fn extensions(&self) -> Extensions
-        ensures { result ≡ extensions_of self.now }
+    pub fn extensions(&self) -> &Extensions
+        ensures { result.now ≡ extensions_of self.now }
     {
-        self.layout.extensions
+        &self.layout.extensions
     }
 
     /// What the file declares of the table of the jump at `j`: the first record that names `j`, and
@@ -219,6 +242,48 @@ impl Image {
         ensures { result ≡ declared_at self.now j }
     {
         first_of_jump(&self.layout.declared, j)
+    }
+
+    /// The addresses of the functions that the file declares not to return, as they stand in it.
+    /// Time: O(n) in the sections and the records.
+    pub fn declared_no_returns(&self, alloc: Global) -> Result<Vec<u64>, AllocError>
+        ensures { IfOk result (λ v. v.items ≡ declared_no_returns self.now) }
+    {
+        no_returns(alloc, &self.bytes, &self.layout.sections)
+    }
+
+    /// The index of the section with the names of all sections (`e_shstrndx`).
+    fn names_index(&self) -> u32
+        ensures { result ≡ header.names_index self.now }
+    {
+        u16_at(&self.bytes, 62).into()
+    }
+
+    /// The names of the sections: the bytes of the section that the header names (`e_shstrndx`), if
+    /// it is a string table, and else none.
+    fn section_names(&self) -> &[u8]
+        ensures { result.now ≡ section_names self.now }
+    {
+        let index = self.names_index();
+        if index >= self.section_count() {
+            return &[];
+        }
+        let names = self.section(index);
+        if !names.is_string_table() {
+            return &[];
+        }
+        let at = names.offset as usize;
+        &self.bytes[at..at + names.size as usize]
+    }
+
+    /// Whether what stands at the name of a section begins with `text`. With a zero byte at its end
+    /// `text` is the whole name.
+    pub fn name_begins(&self, s: &Section, text: &[u8]) -> bool
+        ensures { result ≡ name_begins self.now text.now s.now }
+    {
+        let names = self.section_names();
+        let at = (s.name as usize).min(names.len());
+        names[at..].starts_with(text)
     }
 
     /// The number of sections (`e_shnum`).

@@ -1,8 +1,9 @@
 //! The extensions that the text of an architecture names. Upper case counts as lower.
 
 ghost use Rattle.std.specs.Prelude.{◌≡◌, ◌<◌, ◌≤◌, ◌==◌, [], ◌∷◌, length, reverse, IfSome, bytes_eq};
-ghost use Rattle.std.specs.List.{slice_split, flat_map, position};
-ghost use Rattle.std.specs.Option.{option_map};
+ghost use Rattle.std.specs.Char.{to_ascii_lowercase};
+ghost use Rattle.std.specs.List.{slice_split, flat_map};
+ghost use Rattle.std.specs.Option.{option_map, option_and_then};
 ghost use Rattle.elf_image.specs.Architecture as spec;
 ghost use Rattle.elf_image.specs.Inner.Architecture.{lower, left, left_reversed};
 
@@ -68,22 +69,25 @@ fn after_p(text: &[u8]) -> Option<&[u8]>
     }
 }
 
-/// What follows a version, digits, `p`, digits, at the front.
-fn after_version(text: &[u8]) -> Option<&[u8]>
-    ensures text { left result ≡ spec.after_version (lower text.now) }
+/// What follows a `p` and digits at the front.
+fn after_minor(text: &[u8]) -> Option<&[u8]>
+    ensures text { left result ≡ option_and_then spec.after_digits (spec.after_p (lower text.now)) }
     ensures shorter { IfSome result (λ t. length t.now < length text.now) }
 {
-    after_digits(after_p(after_digits(text)?)?)
+    after_digits(after_p(text)?)
 }
 
-/// What follows a version, if there is one, after a letter.
-fn after_any_version(text: &[u8]) -> Option<&[u8]>
-    ensures text { left result ≡ spec.after_any_version (lower text.now) }
-    ensures no_longer { IfSome result (λ t. length t.now ≤ length text.now) }
+/// What follows the longest version at the front: digits, or digits, `p`, digits.
+fn after_version(text: &[u8]) -> &[u8]
+    ensures text { lower result.now ≡ spec.after_version (lower text.now) }
+    ensures no_longer { length result.now ≤ length text.now }
 {
-    match text.first() {
-        Some(c) if c.is_ascii_digit() => after_version(text),
-        _ => Some(text),
+    match after_digits(text) {
+        None => text,
+        Some(rest) => match after_minor(rest) {
+            None => rest,
+            Some(rest) => rest,
+        },
     }
 }
 
@@ -125,37 +129,55 @@ fn before_p(text: &[u8]) -> Option<&[u8]>
     }
 }
 
-/// What stands before a version at the end.
-fn before_version(text: &[u8]) -> Option<&[u8]>
-    ensures { left_reversed result ≡ spec.after_version (reverse (lower text.now)) }
+/// What stands before a `p` and digits at the end, read from the end.
+fn before_minor(text: &[u8]) -> Option<&[u8]>
+    ensures { left_reversed result
+        ≡ option_and_then spec.after_digits (spec.after_p (reverse (lower text.now))) }
 {
-    before_digits(before_p(before_digits(text)?)?)
+    before_digits(before_p(text)?)
 }
 
-/// A name less a version at its end.
+/// A name less the longest version at its end.
 fn without_version(name: &[u8]) -> &[u8]
     ensures { lower result.now ≡ spec.without_version (lower name.now) }
 {
-    match before_version(name) {
-        Some(front) => front,
+    match before_digits(name) {
         None => name,
+        Some(front) => match before_minor(front) {
+            None => front,
+            Some(front) => front,
+        },
     }
 }
 
 /// The extensions that one name is of.
 fn named_by(name: &[u8]) -> Extensions
-    ensures { result ≡ spec.extensions_named (lower name.now ∷ []) }
+    ensures { result ≡ spec.all_named (lower name.now ∷ []) }
 {
     let b = is_word(name, b"b");
+    let zk = is_word(name, b"zk");
+    let zkn = is_word(name, b"zkn");
+    let zks = is_word(name, b"zks");
+    let zce = is_word(name, b"zce");
+    let zhinx = is_word(name, b"zhinx");
+    let zhinxmin = is_word(name, b"zhinxmin");
     Extensions {
         zba: is_word(name, b"zba") | b,
         zbb: is_word(name, b"zbb") | b,
         zbs: is_word(name, b"zbs") | b,
         zbc: is_word(name, b"zbc"),
-        zbkb: is_word(name, b"zbkb"),
-        zbkx: is_word(name, b"zbkx"),
+        zbkb: is_word(name, b"zbkb") | (zkn | (zk | zks)),
+        zbkc: is_word(name, b"zbkc") | (zkn | (zk | zks)),
+        zbkx: is_word(name, b"zbkx") | (zkn | (zk | zks)),
+        zknd: is_word(name, b"zknd") | (zkn | zk),
+        zkne: is_word(name, b"zkne") | (zkn | zk),
+        zknh: is_word(name, b"zknh") | (zkn | zk),
+        zksed: is_word(name, b"zksed") | zks,
+        zksh: is_word(name, b"zksh") | zks,
         zicond: is_word(name, b"zicond"),
-        zcb: is_word(name, b"zcb"),
+        zcb: is_word(name, b"zcb") | zce,
+        zcmp: is_word(name, b"zcmp") | zce,
+        zcmt: is_word(name, b"zcmt") | zce,
         zimop: is_word(name, b"zimop"),
         zcmop: is_word(name, b"zcmop"),
         zacas: is_word(name, b"zacas"),
@@ -163,53 +185,58 @@ fn named_by(name: &[u8]) -> Extensions
         zawrs: is_word(name, b"zawrs"),
         zicbom: is_word(name, b"zicbom"),
         zicboz: is_word(name, b"zicboz"),
+        zicfiss: is_word(name, b"zicfiss"),
+        zicfilp: is_word(name, b"zicfilp"),
+        zfinx: is_word(name, b"zfinx") | (is_word(name, b"zdinx") | (zhinx | zhinxmin)),
+        zhinx,
+        zhinxmin,
         zfh: is_word(name, b"zfh"),
         zfhmin: is_word(name, b"zfhmin"),
         zfa: is_word(name, b"zfa"),
         zfbfmin: is_word(name, b"zfbfmin"),
         zvfh: is_word(name, b"zvfh"),
         vector: is_word(name, b"v") | begins(name, b"zve"),
+        xthead: begins(name, b"xthead"),
     }
 }
 
-/// The extensions that the letters of a text are of; `None` if it is not letters, each with or
-/// without a version.
-fn all_letters(text: &[u8]) -> Option<Extensions>
-    ensures { result ≡ option_map spec.extensions_named
-        (spec.letters (length text.now) (lower text.now)) }
+/// Whether a name of several letters begins with a character.
+fn is_start(c: u8) -> bool
+    ensures { result ≡ spec.is_start (to_ascii_lowercase c) }
+{
+    matches!(c, b'z' | b'Z' | b's' | b'S' | b'x' | b'X')
+}
+
+/// The extensions that the names in a part of a text are of; `None` if it has anything else in it.
+fn named_from(part: &[u8]) -> Option<Extensions>
+    ensures { result ≡ option_map spec.all_named
+        (spec.names_from (length part.now) (lower part.now)) }
 {
     let mut found = Extensions::none();
-    let mut rest = text;
-    while let Some((letter, after)) = rest.split_first() {
-        if !letter.is_ascii_alphabetic() {
+    let mut rest = part;
+    while let Some((first, after)) = rest.split_first() {
+        if is_start(*first) {
+            return Some(found.join(named_by(without_version(rest))));
+        }
+        if !first.is_ascii_alphabetic() {
             return None;
         }
         found = found.join(named_by(&rest[..1]));
-        rest = after_any_version(after)?;
+        rest = after_version(after);
     }
     Some(found)
 }
 
-/// The extensions that the letters of a text are of.
-fn letters(text: &[u8]) -> Extensions
-    ensures { result ≡ spec.extensions_named (spec.letters_of (lower text.now)) }
-{
-    all_letters(text).unwrap_or(Extensions::none())
-}
-
-/// The extensions that a part is of, which is not the first.
+/// The extensions that a part of a text is of.
 fn named_by_part(part: &[u8]) -> Extensions
-    ensures { result ≡ spec.extensions_named (spec.names_of_part (lower part.now)) }
+    ensures { result ≡ spec.all_named (spec.names_of_part (lower part.now)) }
 {
-    match part.first() {
-        Some(b'z' | b'Z' | b's' | b'S' | b'x' | b'X') => named_by(without_version(part)),
-        _ => letters(part),
-    }
+    named_from(part).unwrap_or(Extensions::none())
 }
 
-/// The extensions that the parts of a text are of, none of which is the first.
-fn named_by_later(text: &[u8]) -> Extensions
-    ensures { result ≡ spec.extensions_named
+/// The extensions that the parts of a text are of.
+fn named_by_parts(text: &[u8]) -> Extensions
+    ensures { result ≡ spec.all_named
         (flat_map spec.names_of_part (slice_split (λ c. c == 0x5F) (lower text.now))) }
 {
     let mut found = Extensions::none();
@@ -219,22 +246,11 @@ fn named_by_later(text: &[u8]) -> Extensions
     found
 }
 
-/// The place where the first part ends, if there is a second.
-fn end_of_first(text: &[u8]) -> Option<usize>
-    ensures { result ≡ position (λ c. c == 0x5F) text.now }
+/// Whether a text begins with a base, `i`, `e` or `g`.
+fn has_base(text: &[u8]) -> bool
+    ensures { result ≡ spec.has_base (lower text.now) }
 {
-    text.iter().position(|c| *c == b'_')
-}
-
-/// The extensions that the parts of a text are of.
-fn named_by_parts(text: &[u8]) -> Extensions
-    ensures { result ≡ spec.extensions_named
-        (spec.names_of_parts (slice_split (λ c. c == 0x5F) (lower text.now))) }
-{
-    match end_of_first(text) {
-        Some(end) => letters(&text[..end]).join(named_by_later(&text[end + 1..])),
-        None => letters(text),
-    }
+    matches!(text.first(), Some(b'i' | b'I' | b'e' | b'E' | b'g' | b'G'))
 }
 
 /// The extensions that a text names.
@@ -242,8 +258,8 @@ fn named_by_parts(text: &[u8]) -> Extensions
 pub(crate) fn named_in(text: &[u8]) -> Extensions
     ensures { result ≡ spec.extensions_named (spec.names text.now) }
 {
-    if begins(text, b"rv64") {
-        named_by_parts(&text[4..])
+    if begins(text, b"rv64") && has_base(&text[4..]) {
+        named_by_parts(&text[4..]).settled()
     } else {
         Extensions::none()
     }

@@ -5,6 +5,9 @@ const SHT_NULL: u32 = 0;
 
 const SHT_PROGBITS: u32 = 1;
 
+/// `SHT_STRTAB` of `sh_type`.
+const SHT_STRTAB: u32 = 3;
+
 const SHT_NOBITS: u32 = 8;
 
 /// `SHT_RISCV_ATTRIBUTES` (RISC-V ELF psABI, "Attributes").
@@ -12,6 +15,9 @@ const SHT_RISCV_ATTRIBUTES: u32 = 0x7000_0003;
 
 /// The type of a section of declared tables: this project's own.
 const SHT_DECLARED_TABLES: u32 = 0x8CF6_0001;
+
+/// The type of a section of functions that do not return: this project's own.
+const SHT_DECLARED_NO_RETURNS: u32 = 0x8CF6_0002;
 
 /// `SHF_WRITE`, `SHF_ALLOC` and `SHF_EXECINSTR` of `sh_flags`.
 const SHF_WRITE: u64 = 1;
@@ -24,6 +30,8 @@ const SHF_EXECINSTR: u64 = 4;
 /// that nothing here reads.
 #[derive(Clone, Copy, Debug, PartialEq, Eq)]
 pub struct Section {
+    /// Where its name begins in the section of names, `sh_name`.
+    pub name: u32,
     /// The section's type, `sh_type`: 0 is `SHT_NULL`, 1 `SHT_PROGBITS`, 2 `SHT_SYMTAB`, 3
     /// `SHT_STRTAB`, 8 `SHT_NOBITS`.
     pub kind: u32,
@@ -44,9 +52,10 @@ pub struct Section {
 impl Section {
     ghost use Rattle.std.specs.Prelude.{◌≡◌, nat_lt, ◌==◌, not, ◌||◌};
     ghost use Rattle.elf_image.specs.Sections.{is_null, is_nobits, is_allocated, is_code_section};
-    ghost use Rattle.elf_image.specs.Sections.{is_read_only_section, holds_bytes};
+    ghost use Rattle.elf_image.specs.Sections.{is_read_only_section, is_string_table, holds_bytes};
     ghost use Rattle.elf_image.specs.Attributes.{is_attributes};
     ghost use Rattle.elf_image.specs.DeclaredTables.{is_declaring};
+    ghost use Rattle.elf_image.specs.DeclaredNoReturns.{is_declaring_no_returns};
 
     /// Whether its bytes are machine code: `SHT_PROGBITS` with `SHF_ALLOC` and `SHF_EXECINSTR`.
     pub fn is_code(&self) -> bool
@@ -84,11 +93,25 @@ impl Section {
         self.kind == SHT_RISCV_ATTRIBUTES
     }
 
+    /// Whether it is a string table, `SHT_STRTAB`.
+    pub(crate) fn is_string_table(&self) -> bool
+        ensures { result ≡ is_string_table self.now }
+    {
+        self.kind == SHT_STRTAB
+    }
+
     /// Whether it declares tables.
     pub(crate) fn is_declaring(&self) -> bool
         ensures { result ≡ is_declaring self.now }
     {
         self.kind == SHT_DECLARED_TABLES
+    }
+
+    /// Whether it declares functions that do not return.
+    pub(crate) fn is_declaring_no_returns(&self) -> bool
+        ensures { result ≡ is_declaring_no_returns self.now }
+    {
+        self.kind == SHT_DECLARED_NO_RETURNS
     }
 
     /// Whether the `n` bytes from address `a` on all lie in it.

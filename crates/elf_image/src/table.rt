@@ -20,6 +20,7 @@ fn read_section(bytes: &[u8], at: usize) -> Section
     ensures { result ≡ section_header bytes.now at }
 {
     Section {
+        name: u32_at(bytes, at),
         kind: u32_at(bytes, at + 4),
         flags: u64_at(bytes, at + 8),
         address: u64_at(bytes, at + 16),

@@ -6,6 +6,7 @@ use Rattle.std.proofs.lemmas.List.FromFn.{fill_by_all}
 use Rattle.byteorder.specs.Numbers.{little_number-reads_back}
 use Rattle.elf_image.specs.declared.section.Section.{Section}
 use Rattle.elf_image.specs.Header as header
+use Rattle.elf_image.specs.Number.{u32_at}
 use Rattle.elf_image.specs.Sections.{section_header, section, sections}
 use Rattle.elf_maker.specs.declared.section.SectionHeader.{SectionHeader}
 use Rattle.elf_maker.specs.Fields.{words, xwords}
@@ -16,6 +17,7 @@ use Rattle.elf_maker.proofs.Places.{word-field, xword-field, drop-next}
 -- the fields of a section header that are read
 abbrev pub as_read : SectionHeader → Section
 as_read s = record {
+  name = 0;
   kind = s.kind;
   flags = s.flags;
   address = s.address;
@@ -35,19 +37,20 @@ pub record IsFitHeader (s : SectionHeader) : Type 0 where
   pub link : s.link < 2 ^ 32
   pub entry_size : s.entry_size < 2 ^ 64
 
-abbrev section_of : (k f a o z l e : ℕ) → Section
-section_of k f a o z l e = record { kind = k; flags = f; address = a; offset = o; size = z; link = l; entry_size = e }
+abbrev section_of : (n k f a o z l e : ℕ) → Section
+section_of n k f a o z l e = record { name = n; kind = k; flags = f; address = a; offset = o; size = z; link = l; entry_size = e }
 
 -- equal fields make equal sections
-same_section : (k k' f f' a a' o o' z z' l l' e e' : ℕ) → k ≡ k' → f ≡ f' → a ≡ a' → o ≡ o' → z ≡ z' → l ≡ l' → e ≡ e' → section_of k f a o z l e ≡ section_of k' f' a' o' z' l' e'
-same_section k k' f f' a a' o o' z z' l l' e e' kind flags address offset size link entry_size =
-    rw (kind, flags, address, offset, size, link, entry_size) refl
+same_section : (n n' k k' f f' a a' o o' z z' l l' e e' : ℕ) → n ≡ n' → k ≡ k' → f ≡ f' → a ≡ a' → o ≡ o' → z ≡ z' → l ≡ l' → e ≡ e' → section_of n k f a o z l e ≡ section_of n' k' f' a' o' z' l' e'
+same_section n n' k k' f f' a a' o o' z z' l l' e e' name kind flags address offset size link entry_size =
+    rw (name, kind, flags, address, offset, size, link, entry_size) refl
 
 -- a header that stands at a place is read there
 pub section_header-is : (bytes rest : List ℕ) (at : ℕ) (s : SectionHeader) → IsFitHeader s → drop at bytes ≡ section_bytes s ++ rest → section_header bytes at ≡ as_read s
 unfolding section_bytes words xwords
 section_header-is bytes rest at s fits stands =
-    same_section _ s.kind _ s.flags _ s.address _ s.offset _ s.size _ s.link _ s.entry_size
+    same_section _ 0 _ s.kind _ s.flags _ s.address _ s.offset _ s.size _ s.link _ s.entry_size
+    (ap (u32_at bytes) (at_front at) ∙ word-field 0 at 0 bytes (section_bytes s ++ rest) stands (little_number-reads_back 4 0 [] (omega arith)))
     (word-field 4 at s.kind bytes (section_bytes s ++ rest) stands (little_number-reads_back 4 s.kind [] (omega (arith, fits.kind))))
     (xword-field 8 at s.flags bytes (section_bytes s ++ rest) stands (little_number-reads_back 8 s.flags [] (omega (arith, fits.flags))))
     (xword-field 16 at s.address bytes (section_bytes s ++ rest) stands (little_number-reads_back 8 s.address [] (omega (arith, fits.address))))
@@ -55,6 +58,9 @@ section_header-is bytes rest at s fits stands =
     (xword-field 32 at s.size bytes (section_bytes s ++ rest) stands (little_number-reads_back 8 s.size [] (omega (arith, fits.size))))
     (word-field 40 at s.link bytes (section_bytes s ++ rest) stands (little_number-reads_back 4 s.link [] (omega (arith, fits.link))))
     (xword-field 56 at s.entry_size bytes (section_bytes s ++ rest) stands (little_number-reads_back 8 s.entry_size [] (omega (arith, fits.entry_size))))
+  where
+    at_front : (n : ℕ) → n ≡ n + 0
+    at_front n = omega arith
 
 -- so are the headers of a table
 pub table-at : (bytes : List ℕ) (at : ℕ) (hs : List SectionHeader) → All IsFitHeader hs → drop at bytes ≡ flat_map section_bytes hs → (i : ℕ) → i < length hs → section_header bytes (at + 64 * i) ≡ as_read (get_or hs i null_header)

@@ -11,3 +11,4 @@ pub mod MergeStep
 pub mod Codes
 pub mod Names
 pub mod Answer
+pub mod NoReturnLemmas

@@ -4,3 +4,4 @@ pub mod Tables
 pub mod Symbols
 pub mod Names
 pub mod Merged
+pub mod NoReturn

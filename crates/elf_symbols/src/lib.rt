@@ -3,10 +3,12 @@
 #![tactic(auto)]
 
 mod merge;
+mod no_return;
 mod read;
 mod seed;
 mod symbol;
 mod table;
 
+pub use no_return::NoReturns;
 pub use read::seeds;
 pub use seed::{Seed, Seeds};

@@ -10,7 +10,7 @@ use Rattle.code_view.specs.FileCode.{FileCode, program_of}
 use Rattle.code_view.specs.declared.tables.AllTables.{AllTables}
 use Rattle.code_view.specs.Tables.{AreAllTables}
 use Rattle.reached_terms.specs.Reached.{Reach}
-use Rattle.reached_cuts.specs.Reach.{IsReachOf}
+use Rattle.file_graph.specs.Reach.{IsReachOf}
 use Rattle.elf_image.specs.declared.fault.ElfError.{ElfError}
 use Rattle.elf_symbols.specs.declared.seed.Seed.{Seed}
 use Rattle.std.specs.declared.alloc.AllocError.{AllocError as Memory}

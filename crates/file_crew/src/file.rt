@@ -5,7 +5,7 @@ ghost use Rattle.std.specs.Thread.{IsSync};
 ghost use Rattle.cfg_model.specs.Program.Reach.{AreSeeds};
 ghost use Rattle.code_view.specs.FileCode.{program_of};
 ghost use Rattle.code_view.specs.Tables.{AreAllTables};
-ghost use Rattle.reached_cuts.specs.Reach.{IsReachOf};
+ghost use Rattle.file_graph.specs.Reach.{IsReachOf};
 ghost use Rattle.file_graph.specs.File.{IsGraphedFile};
 ghost use Rattle.file_graph.specs.Survey.{IsFaultOf};
 ghost use Rattle.file_crew.specs.Inner.{AnswersReach, AnswersGraph, AnswersSurvey};

@@ -8,7 +8,7 @@ ghost use Rattle.code_view.specs.FileCode.{program_of};
 ghost use Rattle.code_view.specs.Tables.{AreAllTables};
 ghost use Rattle.cfg_model.specs.Graph.Graph.{IsGraph};
 ghost use Rattle.chain_index.specs.Found.{AreChainEndsOf};
-ghost use Rattle.reached_cuts.specs.Reach.{IsReachOf};
+ghost use Rattle.file_graph.specs.Reach.{IsReachOf};
 ghost use Rattle.file_graph.specs.Survey.{IsFaultOf, IsSurveyOf};
 ghost use Rattle.file_crew.specs.Inner.{AnswersSeeds};
 

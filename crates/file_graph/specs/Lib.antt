@@ -1,3 +1,3 @@
 pub mod Survey
+pub mod Reach
 pub mod File
-pub mod Inner

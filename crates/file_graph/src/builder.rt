@@ -19,7 +19,7 @@ pub trait Builder {
     ghost use Rattle.cfg_model.specs.Graph.Graph.{IsGraph};
     ghost use Rattle.code_view.specs.FileCode.{program_of};
     ghost use Rattle.code_view.specs.Tables.{AreAllTables};
-    ghost use Rattle.reached_cuts.specs.Reach.{IsReachOf};
+    ghost use Rattle.file_graph.specs.Reach.{IsReachOf};
     ghost use Rattle.file_graph.specs.Survey.{IsFaultOf, IsSurveyOf};
 
     /// What holds of a builder that may be asked.

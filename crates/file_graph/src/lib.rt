@@ -2,12 +2,11 @@
 //!
 //! - `file`: a file with its graph, and the call that makes it on the caller's thread.
 //! - `survey`: what is known of a file before any of its program is followed.
-//! - `graph`: the graph of a file, step by step. `cuts`: the cuts of its jump tables.
+//! - `graph`: the graph of a file, step by step.
 //! - `builder`: who does the parts of this: the caller's thread here, or workers in `file_crew`.
 #![tactic(auto)]
 
 mod builder;
-mod cuts;
 mod file;
 mod graph;
 mod survey;

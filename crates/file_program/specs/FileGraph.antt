@@ -1,11 +1,9 @@
 -- The graph of a file: the least closure from its seeds under its table cuts.
 use Rattle.std.specs.Prelude.{ℕ, List}
-use Rattle.std.specs.FinMap as map
 use Rattle.elf_image.specs.Header.{entry}
 use Rattle.elf_image.specs.Seeds.{seeds}
 use Rattle.cfg_model.specs.declared.graph.Graph.{Graph}
 use Rattle.cfg_model.specs.Program.Instructions.{InstructionMap}
-use Rattle.cfg_model.specs.Program.Reach.{Reached}
 use Rattle.cfg_model.specs.Program.Cuts.{AreCuts}
 use Rattle.cfg_model.specs.Graph.Graph.{IsGraph}
 use Rattle.code_view.specs.Cuts.{Counts, cut_of}
@@ -16,14 +14,9 @@ use Rattle.table_cuts.specs.Extents.{extent_at}
 abbrev pub cut_program : List ℕ → Counts → InstructionMap
 cut_program bytes cuts = program_under bytes (cut_of cuts)
 
--- a is reached from the file's seeds if no table is cut.
-abbrev pub IsReachedUncut : List ℕ → ℕ → Type 0
-IsReachedUncut bytes a = Reached (cut_program bytes map.empty) (seeds bytes) a
-
--- The cuts of the file's jump tables. The tables that count are those whose jumps are reached if no
--- table is cut.
+-- The cuts of the file's jump tables, reached or not.
 abbrev pub AreCutsOf : List ℕ → Counts → Type 0
-AreCutsOf bytes cuts = AreCuts (extent_at bytes) (IsReachedUncut bytes) (cut_of cuts)
+AreCutsOf bytes cuts = AreCuts (extent_at bytes) (cut_of cuts)
 
 -- The graph of the file's program under these cuts, from its seeds.
 abbrev pub IsGraphUnder : List ℕ → Counts → Graph → Type 0

@@ -1,4 +1,3 @@
 pub mod FileSeeds
 pub mod FileGraph
-pub mod Likely
 pub mod Laws

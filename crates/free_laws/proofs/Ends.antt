@@ -36,7 +36,7 @@ use Rattle.cfg_model.proofs.Graphs.LeaderFacts.{has_length, HasLength}
 use Rattle.cfg_model.proofs.Graphs.OneBlock.{one_last}
 use Rattle.cfg_model.proofs.Graphs.Runs.{run_step}
 use Rattle.code_view.specs.Cuts.{CutsFit}
-use Rattle.code_view.specs.Flow.{in_code, flow_by, straight_flow, jump_flow, call_flow, table_flow, kept_entries}
+use Rattle.code_view.specs.Flow.{in_code, flow_by, straight_flow, jump_flow, call_flow, call_fall, table_flow, kept_entries}
 use Rattle.code_view.specs.Program.{program_under}
 use Rattle.code_view.proofs.Lawful.{program-lawful, length-program, flow-program}
 use Rattle.rv_machine.specs.State.{State}
@@ -67,9 +67,10 @@ module _ (bytes : List ℕ) (behind : ℕ) (cut : Option ℕ) (table : Option Ta
   straight_alone raw.Straight next e = refl
   straight_alone (raw.Branch target) next e = absurd cc
   straight_alone (raw.Jump target) next e = absurd (not_jump (in_code bytes target) next e)
-  straight_alone (raw.Call target) next e = absurd (not_call (in_code bytes target) (in_code bytes behind) next e)
+  straight_alone (raw.Call target) next e = absurd (not_call (in_code bytes target) (call_fall bytes target behind) next e)
   straight_alone raw.IndirectCall next e = absurd cc
   straight_alone raw.Return next e = absurd cc
+  straight_alone raw.Unknown next e = absurd cc
   straight_alone (raw.RegisterJump register offset) next e = absurd (not_table table next e)
   straight_alone raw.Stop next e = absurd cc
 
@@ -108,9 +109,10 @@ module _ (bytes : List ℕ) (behind : ℕ) (cut : Option ℕ) (table : Option Ta
   stop_alone raw.Straight e = inr (refl, end_of_straight (is_code bytes behind) e)
   stop_alone (raw.Branch target) e = absurd (end_of_branch (in_code bytes target) (in_code bytes behind) e)
   stop_alone (raw.Jump target) e = absurd (end_of_jump (in_code bytes target) e)
-  stop_alone (raw.Call target) e = absurd (end_of_call (in_code bytes target) (in_code bytes behind) e)
+  stop_alone (raw.Call target) e = absurd (end_of_call (in_code bytes target) (call_fall bytes target behind) e)
   stop_alone raw.IndirectCall e = absurd cc
   stop_alone raw.Return e = absurd cc
+  stop_alone raw.Unknown e = absurd cc
   stop_alone (raw.RegisterJump register offset) e = absurd (end_of_table table e)
   stop_alone raw.Stop e = inl refl
 
@@ -155,6 +157,8 @@ module _ (bytes : List ℕ) (length : ℕ) (state : State) (memory : Bytes) (aft
   stop_traps (insns.ShiftAdd shift zero_extended rd rs1 rs2) stops goes = cc
   stop_traps (insns.Extend kind rd rs1) stops goes = cc
   stop_traps (insns.Extension reads writes) stops goes = cc
+  stop_traps (insns.Away kind reads writes) stops goes = cc
+  stop_traps (insns.Vendor kind shift rd rs1 rs2) stops goes = cc
 
 -- ---- an address of a block
 
@@ -243,6 +247,7 @@ module _ (map : InstructionMap) (seeds : List ℕ) (block : Block) (is : IsBlock
   call_of (LeadsTo.after_indirect goes) e = absurd cc
   call_of (LeadsTo.after_call goes returns) e = absurd cc
   call_of (LeadsTo.table goes kept) e = absurd cc
+  call_of (LeadsTo.landing calls kept) e = absurd cc
 
   call_ends : (edge : Edge) → IsEdge map seeds edge → edge.from ≡ block.start → edge.kind ≡ kinds.Call → block.kind ≡ ends.Call
   call_ends edge way from call =

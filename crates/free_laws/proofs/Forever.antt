@@ -57,6 +57,7 @@ call_or_not kinds.Tail = inr (λ e. cc)
 call_or_not kinds.Call = inl refl
 call_or_not kinds.After = inr (λ e. cc)
 call_or_not kinds.Table = inr (λ e. cc)
+call_or_not kinds.Landing = inr (λ e. cc)
 
 -- a block that may be left elsewhere leaves its function, or ends with a stop
 may_leave : (kind : EndKind) → MayBeLeft kind → (ends_outside kind ≡ true) ⊎ (kind ≡ ends.Stop)

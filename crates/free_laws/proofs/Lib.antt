@@ -4,7 +4,7 @@ mod Writing
 mod OneStep
 mod LiveFrom
 mod Ends
-mod Twins
-mod Forever
-mod Keeping
+pub mod Twins
+pub mod Forever
+pub mod Keeping
 mod ByMask

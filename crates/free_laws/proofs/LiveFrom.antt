@@ -9,7 +9,9 @@ use Rattle.cfg_model.specs.Graph.Graph.{IsGraph}
 use Rattle.cfg_model.proofs.Graphs.OneBlock.{block_unique}
 use Rattle.rv_decode.specs.declared.instructions.Insn.{Insn}
 use Rattle.rv_flow.specs.Placed.{placed_at}
-use Rattle.live_regs.specs.Effects.{reads, writes}
+use Rattle.elf_image.specs.Architecture.{extensions_of}
+use Rattle.live_regs.specs.Effects.{as_read, reads, writes}
+use Rattle.live_regs.proofs.Operands.{still_reads, same_writes}
 use Rattle.live_regs.specs.Run.{placed_from, instructions_of, reads_first, run_writes}
 use Rattle.live_regs.specs.Leaves.{LeadsOn, Leaves}
 use Rattle.live_regs.specs.Live.{IsBlockIn, IsLive}
@@ -29,19 +31,19 @@ module _ (bytes : List ℕ) (graph : Graph) (body : List ℕ) where
 
   -- ---- over one instruction
 
-  split : (block : Block) (a : ℕ) → a < block.end → rest_of block a ≡ (placed_at bytes a).insn ∷ rest_of block (a + (placed_at bytes a).length)
+  split : (block : Block) (a : ℕ) → a < block.end → rest_of block a ≡ as_read (extensions_of bytes) (placed_at bytes a) ∷ rest_of block (a + (placed_at bytes a).length)
   split block a within = more_from bytes block.end a (a + (placed_at bytes a).length) within (inl refl)
 
   -- what the instruction reads is live before it
   pub live_read : (block : Block) (a r : ℕ) → a < block.end → reads (placed_at bytes a).insn r ≡ true → LiveFrom block a r
-  live_read block a r within read = inl (ap (λ run. reads_first run r) (split block a within) ∙ or_left _ _ read)
+  live_read block a r within read = inl (ap (λ run. reads_first run r) (split block a within) ∙ or_left _ _ (still_reads (extensions_of bytes) (placed_at bytes a) r read))
 
   -- so is what is live after it, if it does not write that
   pub live_kept : (block : Block) (a r : ℕ) → a < block.end → writes (placed_at bytes a).insn r ≡ false → LiveFrom block (a + (placed_at bytes a).length) r → LiveFrom block a r
   live_kept block a r within kept (inl read) =
-      inl (ap (λ run. reads_first run r) (split block a within) ∙ or_right (reads (placed_at bytes a).insn r) _ (and_from _ _ (not_from_false _ kept) read))
+      inl (ap (λ run. reads_first run r) (split block a within) ∙ or_right (reads (as_read (extensions_of bytes) (placed_at bytes a)) r) _ (and_from _ _ (not_from_false _ (same_writes (extensions_of bytes) (placed_at bytes a) r ∙ kept)) read))
   live_kept block a r within kept (inr out) =
-      inr (ap (λ run. run_writes run r) (split block a within) ∙ or_from _ _ kept out.0, out.1)
+      inr (ap (λ run. run_writes run r) (split block a within) ∙ or_from _ _ (same_writes (extensions_of bytes) (placed_at bytes a) r ∙ kept) out.0, out.1)
 
   -- at the end of a block what is live out of it is
   pub live_end : (block : Block) (a r : ℕ) → block.end ≤ a → LiveOut block r → LiveFrom block a r

@@ -196,3 +196,5 @@ module _ (file : List ℕ) (length : ℕ) (one : State) (two : RegisterFile) (me
   insn_alike (insns.ShiftAdd shift zero_extended rd rs1 rs2) low agree = EndAlike.trapped
   insn_alike (insns.Extend kind rd rs1) low agree = EndAlike.trapped
   insn_alike (insns.Extension read_from written_to) low agree = EndAlike.trapped
+  insn_alike (insns.Away kind read_from written_to) low agree = EndAlike.trapped
+  insn_alike (insns.Vendor kind shift rd rs1 rs2) low agree = EndAlike.trapped

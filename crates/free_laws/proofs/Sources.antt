@@ -10,7 +10,9 @@ use Rattle.rv_decode.specs.declared.instructions.Insn.{Insn}
 use Rattle.rv_decode.specs.declared.instructions.Insn.TheVariants as insns
 use Rattle.rv_float.specs.Table as float
 use Rattle.rv_flow.specs.declared.placed.Placed.{Placed}
-use Rattle.rv_flow.specs.Placed.{expanded, whole, bad, rv64gc_insn}
+use Rattle.elf_image.specs.declared.extensions.Extensions.{Extensions}
+use Rattle.elf_image.specs.Architecture.{extensions_of}
+use Rattle.rv_flow.specs.Placed.{expanded, whole, bad, float_insn, rv64gc_insn}
 use Rattle.rv_flow.specs.Rv64gc.{rv64gc_placed_by, rv64gc_placed_at}
 
 -- the sources that the machine reads are among 32 registers; an instruction that it traps at has none
@@ -150,21 +152,24 @@ either_sources : (first second : Option Insn) → IfSome first HasSources → If
 either_sources None second h k = k
 either_sources (Some insn) second h k = h
 
-word_sources : (word : Option ℕ) → IfSome (option_and_then rv64gc_insn word) HasSources
-word_sources None = tt
-word_sources (Some w) = either_sources _ _ (base_sources w) (float_sources w)
+left_sources : (e : Extensions) (w : ℕ) → IfSome (float_insn e w) HasSources
+left_sources e w = cond_both e.zfinx None (float.float_instruction w) (λ (o : Option Insn). IfSome o HasSources) (λ _. tt) (λ _. float_sources w)
+
+word_sources : (e : Extensions) (word : Option ℕ) → IfSome (option_and_then (rv64gc_insn e) word) HasSources
+word_sources e None = tt
+word_sources e (Some w) = either_sources _ _ (base_sources w) (left_sources e w)
 
 whole_sources : (insn : Option Insn) → IfSome insn HasSources → IfSome (whole insn).insn HasSources
 whole_sources None h = tt
 whole_sources (Some insn) h = h
 
 module _ (bytes : List ℕ) (a : ℕ) where
-  by-half : (half : Option ℕ) → IfSome (option_map_or (rv64gc_placed_by bytes a) half bad).insn HasSources
+  by-half : (half : Option ℕ) → IfSome (option_map_or (rv64gc_placed_by (extensions_of bytes) bytes a) half bad).insn HasSources
   by-half None = tt
   by-half (Some half) =
       cond_both (half % 4 == 3) _ _ (λ (p : Placed). IfSome p.insn HasSources)
-      (λ _. cond_both (half / 4 % 8 == 7) _ _ (λ (p : Placed). IfSome p.insn HasSources) (λ _. tt) (λ _. whole_sources (option_and_then rv64gc_insn (word_at bytes a)) (word_sources (word_at bytes a))))
-      (λ _. word_sources (expanded half))
+      (λ _. cond_both (half / 4 % 8 == 7) _ _ (λ (p : Placed). IfSome p.insn HasSources) (λ _. tt) (λ _. whole_sources (option_and_then (rv64gc_insn (extensions_of bytes)) (word_at bytes a)) (word_sources (extensions_of bytes) (word_at bytes a))))
+      (λ _. word_sources (extensions_of bytes) (expanded (extensions_of bytes) half))
 
   -- the instruction of RV64GC at an address has its sources among 32 registers
   pub placed_sources : (insn : Insn) → (rv64gc_placed_at bytes a).insn ≡ Some insn → HasSources insn

@@ -104,3 +104,5 @@ module _ (file : List ℕ) (length : ℕ) (state : State) (memory : Bytes) (r : 
   insn_keeps (insns.ShiftAdd shift zero_extended rd rs1 rs2) other = tt
   insn_keeps (insns.Extend kind rd rs1) other = tt
   insn_keeps (insns.Extension read_from written_to) other = tt
+  insn_keeps (insns.Away kind read_from written_to) other = tt
+  insn_keeps (insns.Vendor kind shift rd rs1 rs2) other = tt

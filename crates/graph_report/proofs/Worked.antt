@@ -121,3 +121,21 @@ backslash = refl
 
 first_and_last_visible : name_field (Some (0x20 ∷ 0x21 ∷ 0x7e ∷ 0x7f ∷ 0xff ∷ [])) ≡ codes "\\x20!~\\x7f\\xff"
 first_and_last_visible = refl
+
+-- a call that does not come back, and that lands at 10004 if the callee throws
+abbrev one_landing : Graph
+one_landing = record {
+  entry = 0x10000;
+  functions = record { entry = 0x10000; returns = true; body = 0x10000 ∷ 0x10004 ∷ [] } ∷ record { entry = 0x10008; returns = false; body = 0x10008 ∷ [] } ∷ [];
+  blocks = record { start = 0x10000; end = 0x10004; kind = ends.Call } ∷ record { start = 0x10004; end = 0x10008; kind = ends.Return } ∷ record { start = 0x10008; end = 0x1000c; kind = ends.Stop } ∷ [];
+  edges = record { from = 0x10000; to = 0x10004; kind = kinds.Landing } ∷ record { from = 0x10000; to = 0x10008; kind = kinds.Call } ∷ [];
+}
+
+-- a text with the edge to the pad has version 3, and one without it has version 2
+one_landing_edges : report_text reports.Edges nameless one_landing ≡ codes "cfg-report 3\nentry 0000000000010000\nedges 2\nedge 0000000000010000 0000000000010004 landing\nedge 0000000000010000 0000000000010008 call\nend\n"
+unfolding hex_digits digits
+one_landing_edges = refl
+
+one_landing_blocks : report_text reports.Blocks nameless one_landing ≡ codes "cfg-report 2\nentry 0000000000010000\nblocks 3\nblock 0000000000010000 0000000000010004 call\nblock 0000000000010004 0000000000010008 return\nblock 0000000000010008 000000000001000c stop\nend\n"
+unfolding hex_digits digits
+one_landing_blocks = refl

@@ -6,6 +6,7 @@ use Rattle.std.specs.Option.{option_map}
 use Rattle.cfg_model.specs.declared.graph.Block.{Block}
 use Rattle.cfg_model.specs.declared.graph.Edge.{Edge}
 use Rattle.graph_report.specs.declared.page.TheConstants.{LINE_ROOM, PAGE_ROOM, PIECE}
+use Rattle.graph_report.specs.declared.heading.Heading.{Heading}
 use Rattle.graph_report.specs.declared.kind.ReportKind.{ReportKind}
 use Rattle.graph_report.specs.declared.kind.ReportKind.TheVariants as reports
 use Rattle.graph_report.specs.declared.left.FunctionsLeft.{FunctionsLeft}
@@ -109,7 +110,7 @@ abbrev pub text_left : Names → TextLeft → List ℕ
 text_left names (texts.Graph left) = report_left names left
 text_left names (texts.Live left) = live_left names left
 
--- The heading, with the address where the program starts, unless it was given.
-abbrev pub heading_left : Option ℕ → List ℕ
+-- The heading, unless it was given.
+abbrev pub heading_left : Option Heading → List ℕ
 heading_left None = []
-heading_left (Some entry) = heading entry
+heading_left (Some first) = heading first.lands first.entry

@@ -1,5 +1,5 @@
 -- The lines of a report, one definition a form.
-use Rattle.std.specs.Prelude.{ℕ, List, [], ◌∷◌, ◌++◌, length, codes, decimal}
+use Rattle.std.specs.Prelude.{ℕ, Bool, true, false, List, [], ◌∷◌, ◌++◌, length, codes, decimal}
 use Rattle.std.specs.List.{join_with_byte}
 use Rattle.cfg_model.specs.declared.graph.Block.{Block}
 use Rattle.cfg_model.specs.declared.graph.Edge.{Edge}
@@ -13,9 +13,15 @@ use Rattle.graph_report.specs.Words.{status_word, end_word, edge_word}
 abbrev pub line : List (List ℕ) → List ℕ
 line fields = join_with_byte 32 fields ++ codes "\n"
 
+-- The version of the format, whose words a reader must know: 3 of a text that has an edge to a
+-- landing pad, and 2 of every other.
+abbrev pub version : Bool → List ℕ
+version true = codes "3"
+version false = codes "2"
+
 -- The first line: what this text is, and in which version of the format.
-abbrev pub first_line : List ℕ
-first_line = line (codes "cfg-report" ∷ codes "2" ∷ [])
+abbrev pub first_line : Bool → List ℕ
+first_line lands = line (codes "cfg-report" ∷ version lands ∷ [])
 
 -- Where the program starts.
 abbrev pub entry_line : ℕ → List ℕ

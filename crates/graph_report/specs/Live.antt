@@ -1,5 +1,5 @@
 -- The text of the live registers of a graph.
-use Rattle.std.specs.Prelude.{◌≡◌, ℕ, List, ◌++◌, length, map, zip}
+use Rattle.std.specs.Prelude.{◌≡◌, ℕ, false, List, ◌++◌, length, map, zip}
 use Rattle.std.specs.List.{flat_map, AllZip}
 use Rattle.cfg_model.specs.declared.graph.Function.{Function}
 use Rattle.cfg_model.specs.declared.graph.Graph.{Graph}
@@ -28,4 +28,4 @@ lives_section names functions lives =
 -- The report of the live registers of a graph: the heading, the section, and the last line.
 abbrev pub live_text : Names → Graph → List (List Live) → List ℕ
 live_text names graph lives =
-    heading graph.entry ++ lives_section names graph.functions lives ++ end_line
+    heading false graph.entry ++ lives_section names graph.functions lives ++ end_line

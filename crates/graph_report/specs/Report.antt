@@ -1,8 +1,10 @@
 -- The whole text of a report.
-use Rattle.std.specs.Prelude.{ℕ, List, [], ◌++◌, length}
-use Rattle.std.specs.List.{flat_map}
+use Rattle.std.specs.Prelude.{ℕ, Bool, true, false, List, [], ◌++◌, length}
+use Rattle.std.specs.List.{flat_map, list_any}
 use Rattle.cfg_model.specs.declared.graph.Block.{Block}
 use Rattle.cfg_model.specs.declared.graph.Edge.{Edge}
+use Rattle.cfg_model.specs.declared.graph.EdgeKind.{EdgeKind}
+use Rattle.cfg_model.specs.declared.graph.EdgeKind.TheVariants as kinds
 use Rattle.cfg_model.specs.declared.graph.Function.{Function}
 use Rattle.cfg_model.specs.declared.graph.Graph.{Graph}
 use Rattle.graph_report.specs.declared.kind.ReportKind.{ReportKind}
@@ -12,8 +14,19 @@ use Rattle.graph_report.specs.Line.{first_line, entry_line, functions_line, func
 use Rattle.graph_report.specs.Line.{blocks_line, block_line, edges_line, edge_line, end_line}
 
 -- The two lines that every report begins with.
-abbrev pub heading : ℕ → List ℕ
-heading entry = first_line ++ entry_line entry
+abbrev pub heading : Bool → ℕ → List ℕ
+heading lands entry = first_line lands ++ entry_line entry
+
+-- The kind of an edge from a call to its landing pad.
+abbrev pub is_landing : EdgeKind → Bool
+is_landing kinds.Landing = true
+is_landing _ = false
+
+-- Whether a report of this kind has a line of such an edge.
+abbrev pub shows_landing : ReportKind → List Edge → Bool
+shows_landing reports.Graph edges = list_any (λ edge. is_landing edge.kind) edges
+shows_landing reports.Edges edges = list_any (λ edge. is_landing edge.kind) edges
+shows_landing _ edges = false
 
 -- A function with the blocks of its body.
 abbrev pub function_lines : Names → Function → List ℕ
@@ -44,4 +57,5 @@ sections reports.Live names graph = []
 
 -- The report of a graph: the heading, the sections of its kind, and the last line.
 abbrev pub report_text : ReportKind → Names → Graph → List ℕ
-report_text kind names graph = heading graph.entry ++ sections kind names graph ++ end_line
+report_text kind names graph =
+    heading (shows_landing kind graph.edges) graph.entry ++ sections kind names graph ++ end_line

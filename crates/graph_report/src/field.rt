@@ -72,7 +72,7 @@ pub fn end_field(kind: EndKind) -> LastField
 /// The last field of an edge's line, the word for the kind of the edge.
 #[inline(always)]
 pub fn edge_field(kind: EdgeKind) -> LastField
-    ensures within { result.len ≤ 7 }
+    ensures within { result.len ≤ 9 }
     ensures text { take result.len result.text ≡ codes " " ++ edge_word kind ++ codes "\n" }
 {
     let (text, len) = match kind {
@@ -83,6 +83,7 @@ pub fn edge_field(kind: EdgeKind) -> LastField
         EdgeKind::Call => (b" call\n      ", 6),
         EdgeKind::After => (b" after\n     ", 7),
         EdgeKind::Table => (b" table\n     ", 7),
+        EdgeKind::Landing => (b" landing\n   ", 9),
     };
     LastField { text: *text, len }
 }

@@ -9,6 +9,7 @@
 //! - [`left`]: the three sections of a report and its last line, each from where it stands on.
 //!   [`list_left`]: a section that lists blocks or edges. [`live_left`]: the same of a report of live
 //!   registers. [`lined`]: the loop that puts lines on a page.
+//! - [`heading`]: the two lines that a report begins with.
 //! - [`line`]: each line form. [`field`]: the fields of a line. [`name`]: how a name becomes one.
 //! - [`page`]: the page that lines are put on.
 //! - `specs/`: the format, line by line, as definitions of its bytes.
@@ -16,6 +17,7 @@
 
 mod field;
 mod file_names;
+mod heading;
 mod kind;
 mod left;
 mod line;
@@ -36,4 +38,4 @@ pub use lines::ReportLines;
 pub use made::summary;
 pub use pieces::ReportPieces;
 pub use std::alloc::AllocError as Memory;
-pub use whole::{live_report, report};
+pub use whole::report;

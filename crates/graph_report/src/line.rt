@@ -18,13 +18,18 @@ use crate::name::{begin_name, push_front};
 use crate::page::{LINE_ROOM, PAGE_ROOM, Page};
 use cfg_model::{Block, Edge, Function, Live};
 
-/// Appends the line that says what the text is.
-pub fn push_first(page: &mut Page)
+/// Appends the line that says what the text is; `lands` says whether it has an edge to a landing
+/// pad.
+pub fn push_first(page: &mut Page, lands: bool)
     requires room { length page.old + LINE_ROOM ≤ PAGE_ROOM }
-    ensures text { page.new ≡ page.old ++ first_line }
+    ensures text { page.new ≡ page.old ++ first_line lands }
     ensures line { IsLine page.old page.new }
 {
-    page.push(b"cfg-report 2\n");
+    if lands {
+        page.push(b"cfg-report 3\n");
+    } else {
+        page.push(b"cfg-report 2\n");
+    }
 }
 
 /// Appends the line of the address where the program starts.

@@ -5,6 +5,7 @@ ghost use Rattle.elf_image.specs.Seeds.{seed_name};
 
 use crate::Memory;
 use crate::file_names::FileNames;
+use crate::heading::{Heading, shows_landing};
 use crate::kind::ReportKind;
 use crate::left::ReportLeft;
 use crate::live_left::{LiveLeft, TextLeft};
@@ -20,8 +21,8 @@ use std::marker::Model;
 #[derive(Drop)]
 pub struct ReportLines<'a> {
     pub(crate) names: FileNames<'a>,
-    /// The address that the heading tells, if it is among them.
-    pub(crate) heading: Option<u64>,
+    /// The heading, if it is among them.
+    pub(crate) heading: Option<Heading>,
     pub(crate) left: TextLeft<'a>,
 }
 
@@ -50,7 +51,10 @@ impl<'a> ReportLines<'a> {
     {
         ReportLines {
             names: names.again(),
-            heading: Some(graph.entry),
+            heading: Some(Heading {
+                lands: shows_landing(kind, graph),
+                entry: graph.entry,
+            }),
             left: TextLeft::Graph(ReportLeft::new(graph, kind)),
         }
     }
@@ -65,7 +69,10 @@ impl<'a> ReportLines<'a> {
     {
         ReportLines {
             names: names.again(),
-            heading: Some(graph.entry),
+            heading: Some(Heading {
+                lands: false,
+                entry: graph.entry,
+            }),
             left: TextLeft::Live(LiveLeft::new(graph, lives)),
         }
     }

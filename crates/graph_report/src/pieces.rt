@@ -10,6 +10,7 @@ ghost use Rattle.graph_report.specs.Inner.{heading_left, text_left};
 
 use crate::Memory;
 use crate::file_names::FileNames;
+use crate::heading::Heading;
 use crate::kind::ReportKind;
 use crate::line::{push_entry, push_first};
 use crate::lines::ReportLines;
@@ -136,7 +137,7 @@ impl<'a> ReportPieces<'a> {
 }
 
 /// A page with the heading, if there is one.
-fn first_page(alloc: Global, heading: Option<u64>) -> Result<Page, Memory>
+fn first_page(alloc: Global, heading: Option<Heading>) -> Result<Page, Memory>
     ensures text { IfOk result (λ page. page ≡ heading_left heading) }
     ensures room { IfOk result (λ page. length page ≤ PAGE_ROOM) }
 {
@@ -146,13 +147,13 @@ fn first_page(alloc: Global, heading: Option<u64>) -> Result<Page, Memory>
 }
 
 /// Puts the two lines that every report begins with on a page that is empty, if they are to be given.
-fn push_heading(page: &mut Page, heading: Option<u64>)
+fn push_heading(page: &mut Page, heading: Option<Heading>)
     requires empty { page.old ≡ [] }
     ensures text { page.new ≡ heading_left heading }
     ensures room { length page.new ≤ PAGE_ROOM }
 {
-    if let Some(entry) = heading {
-        push_first(page);
-        push_entry(page, entry);
+    if let Some(heading) = heading {
+        push_first(page, heading.lands);
+        push_entry(page, heading.entry);
     }
 }

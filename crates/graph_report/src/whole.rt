@@ -1,23 +1,21 @@
-//! The whole report of a graph or of its live registers at once.
+//! The whole report of a graph at once.
 
 ghost use Rattle.std.specs.Prelude.{◌≡◌, ◌≢◌, IfOk};
 ghost use Rattle.elf_image.specs.Seeds.{seed_name};
-ghost use Rattle.graph_report.specs.Live.{AreForAll, live_text};
 ghost use Rattle.graph_report.specs.Report.{report_text};
 
 use crate::Memory;
 use crate::file_names::FileNames;
 use crate::kind::ReportKind;
 use crate::pieces::ReportPieces;
-use cfg_model::{AllLives, Graph};
+use cfg_model::Graph;
 use std::alloc::Global;
 
 /// The text of a report of `graph`, or want of memory.
 ///
 /// It has the parts that `kind` names, with functions, blocks and edges in the order of their
 /// lists. A function has the name that its file gives it. A caller that needs no whole text takes
-/// [`ReportPieces`], which this is made of. Live registers are no part of a graph: for those there is
-/// [`live_report`].
+/// [`ReportPieces`], which this is made of. Live registers are no part of a graph.
 /// Time: O(t + f log s) for t bytes of text, f functions and s seeds. Memory: O(t).
 pub fn report(
     alloc: Global,
@@ -29,25 +27,6 @@ pub fn report(
     ensures text { IfOk result (λ v. v.items ≡ report_text kind (seed_name names.now) graph.now) }
 {
     let pieces = ReportPieces::new(alloc, names, graph, kind)?;
-    all_of(alloc, pieces, 0)
-}
-
-/// The text of the report of the live registers `lives` of `graph`, or want of memory.
-///
-/// `lives` has the blocks of each function's body in order. A function has the name that its file
-/// gives it. A caller that needs no whole text takes [`ReportPieces::of_lives`].
-/// Time: O(t + f log s) for t bytes of text, f functions and s seeds. Memory: O(t).
-pub fn live_report(
-    alloc: Global,
-    names: &FileNames,
-    graph: &Graph,
-    lives: &AllLives,
-) -> Result<Vec<u8>, Memory>
-    requires lives { AreForAll graph.now.functions lives.now }
-    ensures text { IfOk result
-        (λ v. v.items ≡ live_text (seed_name names.now) graph.now lives.now) }
-{
-    let pieces = ReportPieces::of_lives(alloc, names, graph, lives)?;
     all_of(alloc, pieces, 0)
 }
 

@@ -2,7 +2,7 @@
 -- more is known than the registers that they use.
 use Rattle.std.proofs.Common.{ℕ, ◌<◌, ◌&&◌, List, [], ◌∷◌, ◌++◌, Option, Some, None, arith}
 use Rattle.std.specs.Prelude.{IfSome}
-use Rattle.std.specs.Option.{option_map_or}
+use Rattle.std.specs.Option.{option_map_or, option_or}
 use Rattle.std.proofs.lemmas.Bool.{cond_both}
 use Rattle.elf_image.specs.declared.extensions.Extensions.{Extensions}
 use Rattle.rv_decode.specs.Fields as fields
@@ -12,6 +12,7 @@ use Rattle.rvc_expand.specs.Halfword.{first_popular, second_popular}
 use Rattle.rv_extensions.specs.Rows as rows
 use Rattle.rv_extensions.specs.Registers as registers
 use Rattle.rv_extensions.specs.Table as table
+use Rattle.rv_extensions.specs.IntegerFloats as integers
 use Rattle.rv_extensions.specs.Forms as forms
 use Rattle.rv_flow.specs.Placed.{rv64gc_insn, word_insn, expanded, compressed_insn}
 use Rattle.jump_table.specs.Inner.Operands.{HasOperands}
@@ -74,7 +75,7 @@ plain_block_rows = (plain, (plain, tt))
 
 plain_imm_rows : AllPlain table.imm_rows
 unfolding table.imm_rows
-plain_imm_rows = (plain, (reads_one, (reads_one, (plain, (plain, (plain, (plain, (plain, (plain, tt)))))))))
+plain_imm_rows = (plain, (reads_one, (reads_one, (plain, (plain, (plain, (plain, (plain, (plain, (plain, (plain, (plain, (plain, tt)))))))))))))
 
 plain_imm_w_rows : AllPlain table.imm_w_rows
 unfolding table.imm_w_rows
@@ -82,7 +83,7 @@ plain_imm_w_rows = (reads_zero, (plain, (plain, tt)))
 
 plain_reg_rows : AllPlain table.reg_rows
 unfolding table.reg_rows
-plain_reg_rows = (reads_two, (reads_two, (reads_two, (plain, (plain, (plain, (plain, (plain, (plain, (plain, (plain, (plain, tt))))))))))))
+plain_reg_rows = (reads_two, (reads_two, (reads_two, (plain, (plain, (plain, (plain, (plain, (plain, (plain, (plain, (plain, (plain, (plain, (plain, (plain, (plain, (plain, tt))))))))))))))))))
 
 plain_reg_w_rows : AllPlain table.reg_w_rows
 unfolding table.reg_w_rows
@@ -90,7 +91,7 @@ plain_reg_w_rows = (reads_two, (reads_two, (reads_two, (reads_two, (plain, (read
 
 plain_amo_rows : AllPlain table.amo_rows
 unfolding table.amo_rows
-plain_amo_rows = (plain, (plain, (plain, (plain, tt))))
+plain_amo_rows = (plain, (plain, (plain, (plain, (plain, tt)))))
 
 plain_system_rows : AllPlain table.system_rows
 unfolding table.system_rows
@@ -116,13 +117,49 @@ plain_vector_crypto_rows : AllPlain table.vector_crypto_rows
 unfolding table.vector_crypto_rows
 plain_vector_crypto_rows = (plain, tt)
 
-pub extension_plain : (e : Extensions) (w : ℕ) → IfSome (table.extension_instruction e w) IsPlain
+plain_vendor_rows : AllPlain table.vendor_rows
+unfolding table.vendor_rows
+plain_vendor_rows = (reads_two, tt)
+
+other_plain : (e : Extensions) (w : ℕ) → IfSome (table.extension_instruction e w) IsPlain
 unfolding table.extension_instruction table.extension_rows
-extension_plain e w =
+other_plain e w =
     let join = append in
     first e table.extension_rows
-    (join _ _ (join _ _ (join _ _ (join _ _ (join _ _ (join _ _ (join _ _ (join _ _ (join _ _ (join _ _ (join _ _ (join _ _ (join _ _ plain_load_rows plain_store_rows) plain_block_rows) plain_imm_rows) plain_imm_w_rows) plain_reg_rows) plain_reg_w_rows) plain_amo_rows) plain_system_rows) plain_fused_rows) plain_half_rows) plain_additional_rows) plain_vector_rows) plain_vector_crypto_rows)
+    (join _ _ (join _ _ (join _ _ (join _ _ (join _ _ (join _ _ (join _ _ (join _ _ (join _ _ (join _ _ (join _ _ (join _ _ (join _ _ (join _ _ plain_load_rows plain_store_rows) plain_block_rows) plain_imm_rows) plain_imm_w_rows) plain_reg_rows) plain_reg_w_rows) plain_amo_rows) plain_system_rows) plain_fused_rows) plain_half_rows) plain_additional_rows) plain_vector_rows) plain_vector_crypto_rows) plain_vendor_rows)
     w
+
+-- floats in integer registers
+plain_integer_fused_rows : AllPlain integers.integer_fused_rows
+unfolding integers.integer_fused_rows
+plain_integer_fused_rows = (plain, (plain, (plain, (plain, (plain, (plain, (plain, (plain, tt))))))))
+
+plain_integer_operation_rows : AllPlain integers.integer_operation_rows
+unfolding integers.integer_operation_rows
+plain_integer_operation_rows = (plain, (plain, (plain, (plain, (plain, (plain, (plain, (plain, (plain, tt)))))))))
+
+plain_integer_half_rows : AllPlain integers.integer_half_rows
+unfolding integers.integer_half_rows
+plain_integer_half_rows = (plain, (plain, (plain, (plain, (plain, (plain, (plain, (plain, (plain, tt)))))))))
+
+plain_integer_scalar_rows : AllPlain integers.integer_scalar_rows
+unfolding integers.integer_scalar_rows
+plain_integer_scalar_rows = (plain, (plain, tt))
+
+integer_plain : (e : Extensions) (w : ℕ) → IfSome (integers.integer_float e w) IsPlain
+unfolding integers.integer_float integers.integer_float_rows
+integer_plain e w =
+    let join = append in
+    first e integers.integer_float_rows
+    (join _ _ (join _ _ (join _ _ plain_integer_fused_rows plain_integer_operation_rows) plain_integer_half_rows) plain_integer_scalar_rows)
+    w
+
+either_plain : (o p : Option Insn) → IfSome o IsPlain → IfSome p IsPlain → IfSome (option_or o p) IsPlain
+either_plain None p first second = second
+either_plain (Some insn) p first second = first
+
+pub extension_plain : (e : Extensions) (w : ℕ) → IfSome (integers.named_instruction e w) IsPlain
+extension_plain e w = either_plain (integers.integer_float e w) (table.extension_instruction e w) (integer_plain e w) (other_plain e w)
 
 -- and of the 16-bit ones
 popular : (h : ℕ) → (second_popular h < 32) × (first_popular h < 32)
@@ -164,11 +201,15 @@ may_be_forms : AllPlain forms.may_be_forms
 unfolding forms.may_be_forms
 may_be_forms = (plain, tt)
 
+stack_forms : AllPlain forms.stack_forms
+unfolding forms.stack_forms
+stack_forms = (plain, (plain, (plain, (plain, (plain, (plain, (plain, (plain, tt))))))))
+
 pub form_plain : (e : Extensions) (half : ℕ) → IfSome (forms.extension_form e half) IsPlain
 unfolding forms.extension_form forms.extension_forms
 form_plain e half =
     let join = append in
-    first e forms.extension_forms (join _ _ (join _ _ memory_forms arithmetic_forms) may_be_forms) half
+    first e forms.extension_forms (join _ _ (join _ _ (join _ _ memory_forms arithmetic_forms) may_be_forms) stack_forms) half
 
 -- ---- any instruction
 
@@ -178,11 +219,11 @@ plain_operands (Some insn) plain = plain.0
 
 -- The instruction that a word is by the extensions that are named, and that of a halfword.
 pub word_operands_fit : (e : Extensions) (w : ℕ) → IfSome (word_insn e w) HasOperands
-word_operands_fit e w = either_fits (rv64gc_insn w) (table.extension_instruction e w) (rv64gc_operands_fit w) (plain_operands (table.extension_instruction e w) (extension_plain e w))
+word_operands_fit e w = either_fits (rv64gc_insn e w) (integers.named_instruction e w) (rv64gc_operands_fit e w) (plain_operands (integers.named_instruction e w) (extension_plain e w))
 
 pub half_operands_fit : (e : Extensions) (half : ℕ) → IfSome (compressed_insn e half) HasOperands
-half_operands_fit e half = go (expanded half)
+half_operands_fit e half = go (expanded e half)
   where
-    go : (o : Option ℕ) → IfSome (option_map_or rv64gc_insn o (forms.extension_form e half)) HasOperands
+    go : (o : Option ℕ) → IfSome (option_map_or (rv64gc_insn e) o (forms.extension_form e half)) HasOperands
     go None = plain_operands (forms.extension_form e half) (form_plain e half)
-    go (Some w) = rv64gc_operands_fit w
+    go (Some w) = rv64gc_operands_fit e w

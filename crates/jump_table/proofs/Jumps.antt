@@ -4,10 +4,12 @@ use Rattle.std.specs.Prelude.{IfSome, ℤ}
 use Rattle.std.proofs.lemmas.Bool.{cond_both}
 use Rattle.rv_decode.specs.declared.instructions.Insn.{Insn}
 use Rattle.rv_decode.specs.declared.instructions.Insn.TheVariants as insns
+use Rattle.rv_decode.specs.declared.instructions.AwayKind.{AwayKind}
+use Rattle.rv_decode.specs.declared.instructions.AwayKind.TheVariants as aways
 use Rattle.rv_flow.specs.declared.raw.RawFlow.{RawFlow}
 use Rattle.rv_flow.specs.declared.raw.RawFlow.TheVariants as raw
 use Rattle.rv_flow.specs.Placed.{placed_at}
-use Rattle.rv_flow.specs.Raw.{address_plus, is_unimp, jalr_flow, pair_target, insn_flow, raw_flow_by, raw_flow_at}
+use Rattle.rv_flow.specs.Raw.{address_plus, is_unimp, jalr_flow, pair_target, insn_flow, away_flow, raw_flow_by, raw_flow_at}
 use Rattle.jump_table.specs.Inner.Operands.{IsRegister, HasOperands}
 use Rattle.jump_table.proofs.Placed.{placed-operands}
 
@@ -23,12 +25,18 @@ jalr-fits rd rs1 imm None h =
     (λ _. cond_both ((rs1 == 1) || (rs1 == 5)) raw.Return (raw.RegisterJump rs1 imm) JumpFits (λ _. tt) (λ _. h))
     (λ _. cond_both ((rd == 6) && (rs1 == 28)) (raw.RegisterJump rs1 imm) raw.IndirectCall JumpFits (λ _. h) (λ _. tt))
 
+away-fits : (kind : AwayKind) → JumpFits (away_flow kind)
+away-fits aways.Return = tt
+away-fits aways.Unknown = tt
+away-fits aways.Call = tt
+
 module _ (bytes : List ℕ) (a : ℕ) where
   insn-fits : (insn : Insn) → HasOperands insn → JumpFits (insn_flow bytes a insn)
   insn-fits (insns.Jal rd offset) h =
       cond_both (rd == 0) (raw.Jump (address_plus a offset)) (raw.Call (address_plus a offset)) JumpFits (λ _. tt) (λ _. tt)
   insn-fits (insns.Jalr rd rs1 imm) h = jalr-fits rd rs1 imm (pair_target bytes a rs1 imm) h.1
   insn-fits (insns.Csr kind rd source csr) h = cond_both (is_unimp kind rd source csr) raw.Stop raw.Straight JumpFits (λ _. tt) (λ _. tt)
+  insn-fits (insns.Away kind reads writes) h = away-fits kind
   insn-fits _ h = tt
 
   by-insn : (insn : Option Insn) → IfSome insn HasOperands → JumpFits (raw_flow_by bytes a insn)

@@ -1,8 +1,20 @@
 -- A search back from a jump, step by step.
-use Rattle.std.proofs.Common.{◌≡◌, ℕ, zero, suc, ◌+◌, ◌-◌, ◌<◌, ◌≤◌, true, false, cond, Option, Some, None, refl, sym, ap, ◌∙◌, arith}
-use Rattle.std.specs.Prelude.{nat_le}
+use Rattle.std.proofs.Common.{◌≡◌, ℕ, zero, suc, ◌+◌, ◌-◌, ◌<◌, ◌≤◌, Bool, true, false, cond, Option, Some, None, is_some, refl, sym, ap, ◌∙◌, inl, inr, arith}
+use Rattle.std.specs.Prelude.{nat_le, IsTrue}
+use Rattle.std.proofs.lemmas.Bool.{cases_lt}
 use Rattle.std.proofs.lemmas.Bool.Decides.{nat_tests}
 use Rattle.jump_table.specs.Nearest.{evens, nearest}
+
+-- what a test of an address that lies before the section says if it fails
+pub not_before : (b : Bool) (x y : ℕ) → (x < y → IsTrue b) → b ≡ false → y ≤ x
+not_before b x y says fails =
+    elim (cases_lt x y) [
+      | inl less ↦ absurd (clash (sym fails ∙ says less))
+      | inr more ↦ more
+    ]
+  where
+    clash : false ≡ true → ⊥
+    clash e = cc
 
 module _ {A : Type 0} (at : ℕ → Option A) (start j : ℕ) where
   -- the first answer at n distances, from the distance `back` on
@@ -48,3 +60,8 @@ module _ {A : Type 0} (at : ℕ → Option A) (start j : ℕ) where
 
   pub nearest-end : (n back : ℕ) → n ≡ 0 → nearest_from back n ≡ None
   nearest-end n back is = ap (λ k. nearest_from back k) is ∙ no_distance back
+
+  -- an answer that is there, whatever it is
+  pub nearest-same : (m n back : ℕ) (o : Option A) → m ≡ suc n → start + back ≤ j → at (j - back) ≡ o → is_some o ≡ true → nearest_from back m ≡ o
+  nearest-same m n back None is within found some = absurd (cc)
+  nearest-same m n back (Some answer) is within found some = nearest-here m n back answer is within found

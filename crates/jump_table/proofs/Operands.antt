@@ -4,11 +4,13 @@ use Rattle.std.specs.Prelude.{IfSome, nat_lt, pos, negsuc, ◌-ℤ◌}
 use Rattle.std.specs.Option.{option_and_then, option_or}
 use Rattle.std.proofs.lemmas.Bool.{cond_both}
 use Rattle.std.proofs.lemmas.Bool.Decides.{nat_tests}
+use Rattle.elf_image.specs.declared.extensions.Extensions.{Extensions}
 use Rattle.rv_decode.specs.Fields as fields
 use Rattle.rv_decode.specs.Table.{Row, holds, first_meaning, instruction, rows, upper_rows, jump_rows, branch_rows, load_rows, store_rows, imm_rows, imm_w_rows, reg_rows, reg_w_rows, atomic_rows_of, atomic_rows, fence_rows, system_rows}
 use Rattle.rv_decode.specs.declared.instructions.Insn.{Insn}
 use Rattle.rv_float.specs.Table as float
-use Rattle.rv_flow.specs.Placed.{rv64gc_insn}
+use Rattle.elf_image.specs.declared.extensions.Extensions.{Extensions}
+use Rattle.rv_flow.specs.Placed.{float_insn, rv64gc_insn}
 use Rattle.jump_table.specs.Inner.Operands.{IsImmediate, HasOperands}
 
 -- What each row of a list means has a property.
@@ -88,7 +90,7 @@ imms = (by_immediate, (by_immediate, (by_immediate, (by_immediate, (by_immediate
 
 imms_w : AllMean HasOperands imm_w_rows
 unfolding imm_w_rows
-imms_w = (rd_fits, (rd_fits, (rd_fits, (rd_fits, tt))))
+imms_w = (read, (read, (read, (read, tt))))
 
 pub three : (w : ℕ) → (fields.rd w < 32) × (fields.rs1 w < 32) × (fields.rs2 w < 32)
 three w = (rd_fits w, rs1_fits w, rs2_fits w)
@@ -173,5 +175,7 @@ either_fits None second h k = k
 either_fits (Some insn) second h k = h
 
 -- The instruction of RV64GC that a word is, by either table.
-pub rv64gc_operands_fit : (w : ℕ) → IfSome (rv64gc_insn w) HasOperands
-rv64gc_operands_fit w = either_fits _ _ (operands_fit w) (float_operands_fit w)
+pub rv64gc_operands_fit : (e : Extensions) (w : ℕ) → IfSome (rv64gc_insn e w) HasOperands
+rv64gc_operands_fit e w =
+    either_fits _ _ (operands_fit w)
+    (cond_both e.zfinx None (float.float_instruction w) (λ (o : Option Insn). IfSome o HasOperands) (λ _. tt) (λ _. float_operands_fit w))

@@ -129,11 +129,11 @@ module _ (bytes : List ℕ) (start j : ℕ) where
 
     pub value-on : (form : Form) (m n : ℕ) (before : Registers) (r : ℕ) → m ≡ suc n
         → value_from form bytes start j m (j - 2 * k) before r
-        ≡ value_from form bytes start j n (j - 2 * step.next) (after_placed form (j - 2 * k) step.insn before) r
+        ≡ value_from form bytes start j n (j - 2 * step.next) (after_placed form bytes (j - 2 * k) step.insn before) r
     value-on form m n before r e =
         ap (λ o. option_map (λ run. after_run form bytes run before r) o) (goes_to m n e)
         ∙ map-map (λ run. (j - 2 * k) ∷ run) (λ run. after_run form bytes run before r) (run_from n (j - 2 * step.next))
-        ∙ ap (λ (insn : Option Insn). value_from form bytes start j n (j - 2 * step.next) (after_placed form (j - 2 * k) insn before) r) (sym is.insn)
+        ∙ ap (λ (insn : Option Insn). value_from form bytes start j n (j - 2 * step.next) (after_placed form bytes (j - 2 * k) insn before) r) (sym is.insn)
 
   -- ---- what a register holds at the jump
 

@@ -26,13 +26,13 @@ use Rattle.jump_table.specs.declared.bound.BoundTest.{BoundTest}
 use Rattle.jump_table.specs.declared.place.Place.{Place}
 use Rattle.jump_table.specs.declared.width.Width.{Width}
 use Rattle.jump_table.specs.declared.width.Width.TheVariants.{Word, Double}
-use Rattle.jump_table.specs.declared.values.Form.TheVariants.{Bounded, Open}
+use Rattle.jump_table.specs.declared.values.Form.TheVariants.{Bounded, Open, Hoisted}
 use Rattle.jump_table.specs.declared.values.Value.{Value}
 use Rattle.jump_table.specs.declared.values.Value.TheVariants.{Entry, EntryPlus}
 use Rattle.jump_table.specs.Bound.{bound_test, run_behind}
 use Rattle.jump_table.specs.Nearest.{evens, nearest}
-use Rattle.jump_table.specs.Values.{bytes_of, at_test, forgotten}
-use Rattle.jump_table.specs.Table.{place_of, value_behind, place_by_test, bounded_place, width_of, place_by_record, declared_place, place_from, open_place, kept_target, target_by_entry, entry_at, entry_target, targets_from, count_of, table_of_count, table_at_place, jump_register, table_without_test, table_through, table_at, table_targets}
+use Rattle.jump_table.specs.Values.{bytes_of, at_test, forgotten, entered}
+use Rattle.jump_table.specs.Table.{place_of, value_behind, place_by_test, bounded_place, width_of, place_by_record, declared_place, place_from, open_place, hoisted_place, table_from, hoisted_table, kept_target, target_by_entry, entry_at, entry_target, targets_from, count_of, table_of_count, table_at_place, jump_register, table_without_test, table_through, table_at, table_targets}
 use Rattle.jump_table.proofs.Operands.{operands_fit_there}
 
 -- ---- options
@@ -251,6 +251,9 @@ module _ (bytes : List ℕ) (start j r : ℕ) where
   place-from : (a : ℕ) → IfSome (place_from bytes start j r a) IsBoundedPlace
   place-from a = after_step (place_of true 1024) (value_behind Open bytes start j r forgotten a) IsBoundedPlace (λ value _. place-open value)
 
+  pub place-hoisted : (q : ℕ) → IfSome (hoisted_place bytes start j r q) IsBoundedPlace
+  place-hoisted q = after_step (place_of true 1024) (value_behind (Hoisted start q) bytes start j r entered q) IsBoundedPlace (λ value _. place-open value)
+
   places-open : IfSome (open_place bytes start j r) IsBoundedPlace
   unfolding open_place
   places-open = nearest-all (place_from bytes start j r) IsBoundedPlace place-from start j (evens 4 31)
@@ -322,6 +325,12 @@ module _ (bytes : List ℕ) where
   either-table None p h k = k
   either-table (Some table) p h k = h
 
+  tables-hoisted : (start j r : ℕ) → AreTables (hoisted_table bytes start j r)
+  unfolding hoisted_table
+  tables-hoisted start j r =
+      nearest-all (table_from bytes start j r) (IsTable bytes)
+      (λ q. tables-at (hoisted_place bytes start j r q) (place-hoisted bytes start j r q)) start j (evens 4 31)
+
   all_tables : (j : ℕ) → AreTables (table_at bytes j)
   unfolding table_at
   all_tables j =
@@ -329,9 +338,11 @@ module _ (bytes : List ℕ) where
       (λ start _. after_step (table_through bytes start j) (jump_register (raw_flow_at bytes j)) (IsTable bytes)
       (λ r _. either-table (option_and_then (table_at_place bytes) (bounded_place bytes start j r)) (table_without_test bytes start j r)
       (tables-at (bounded_place bytes start j r) (places-bounded bytes start j r))
-      (either-table (option_and_then (table_at_place bytes) (declared_place bytes j)) (option_and_then (table_at_place bytes) (open_place bytes start j r))
+      (either-table (option_and_then (table_at_place bytes) (declared_place bytes j)) (option_or (option_and_then (table_at_place bytes) (open_place bytes start j r)) (hoisted_table bytes start j r))
       (tables-at (declared_place bytes j) (places-declared bytes start j r))
-      (tables-at (open_place bytes start j r) (places-open bytes start j r)))))
+      (either-table (option_and_then (table_at_place bytes) (open_place bytes start j r)) (hoisted_table bytes start j r)
+      (tables-at (open_place bytes start j r) (places-open bytes start j r))
+      (tables-hoisted start j r)))))
 
 pub is_table : (bytes : List ℕ) (j : ℕ) (table : Table) → table_at bytes j ≡ Some table → IsTable bytes table
 is_table bytes j table is = there (table_at bytes j) table (IsTable bytes) is (all_tables bytes j)

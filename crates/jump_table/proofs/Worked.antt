@@ -171,13 +171,13 @@ abbrev untested : Registers
 untested = written forgotten 14 (Const 0x20000)
 
 -- `sh2add x10, x10, x14`, `sh2add.uw` and `slli.uw x10, x10, 32`
-scaled_and_added : shift_add_value (Bounded 8) 2 false tested 10 14 ≡ Addr 0x20000 Word
+scaled_and_added : shift_add_value (Bounded 8) [] 2 false tested 10 14 ≡ Addr 0x20000 Word
 scaled_and_added = refl
 
-scaled_in_open_form : shift_add_value Open 3 true untested 10 14 ≡ Addr 0x20000 Double
+scaled_in_open_form : shift_add_value Open [] 3 true untested 10 14 ≡ Addr 0x20000 Double
 scaled_in_open_form = refl
 
-shifted_up : shift_add_value (Bounded 8) 32 true tested 10 0 ≡ High
+shifted_up : shift_add_value (Bounded 8) [] 32 true tested 10 0 ≡ High
 shifted_up = refl
 
 -- `sext.b` of an index below 128, of one that may be 128, and of a constant

@@ -1,15 +1,16 @@
 -- Registers in a list, and what a write of one changes.
 use Rattle.std.proofs.Common.{◌≡◌, ◌≢◌, ℕ, zero, suc, ◌+◌, ◌*◌, ◌/◌, ◌%◌, ◌^◌, ◌<◌, ◌≤◌, ◌⊎◌, ◌==◌, Bool, true, false, cond, List, [], ◌∷◌, length, slice_set, get_or-set_same, get_or-set_other, refl, sym, ap, ◌∙◌, subst, inl, inr, arith}
 use mathlib.Core.Path.{fun_ext}
-use Rattle.std.specs.Prelude.{slice_get, unwrap_or}
+use Rattle.std.specs.Prelude.{nat_lt, slice_get, unwrap_or}
 use Rattle.std.proofs.lemmas.Option.{unwrap_or-slice_get}
 use Rattle.std.proofs.Math.Pow.{pow_mono}
 use Rattle.std.proofs.lemmas.Nat.{div-mul-add}
 use Rattle.std.proofs.lemmas.Bool.{cond-false, cases_lt}
 use Rattle.std.proofs.lemmas.Bool.Decides.{nat_tests}
 use Rattle.jump_table.specs.declared.values.Value.{Value}
-use Rattle.jump_table.specs.declared.values.Value.TheVariants.{Unknown, Const, Index}
-use Rattle.jump_table.specs.Values.{Registers, at_test, written, forgotten, overwritten}
+use Rattle.jump_table.specs.declared.values.Value.TheVariants.{Unknown, Const, Index, Far}
+use Rattle.jump_table.specs.declared.pair.Origin.TheVariants.{Register}
+use Rattle.jump_table.specs.Values.{Registers, at_test, written, forgotten, entered, overwritten}
 use Rattle.jump_table.specs.Inner.Held.{held_by}
 
 -- a choice by one test, where only the second value differs
@@ -142,3 +143,28 @@ module _ (before : Registers) (mask : ℕ) where
       go : (r : ℕ) → (r < n) ⊎ (n ≤ r) → now r ≡ overwritten before mask r
       go r (inl less) = is.below r less
       go r (inr more) = is.above r more ∙ stays r none (no_bit r small (omega arith))
+
+-- ---- what a run of the hoisted form is entered with, register by register
+
+-- Each register below n holds what it was given far before.
+abbrev pub entered_below : ℕ → Registers
+entered_below n r = cond (r == 0) (Const 0) (cond (nat_lt r n) (Far (Register r)) Unknown)
+
+pub entered-none : forgotten ≡ entered_below 0
+entered-none = fun_ext (λ r. let e : nat_lt r 0 ≡ false = grind (arith, nat_tests) in
+    ap (λ b. cond (r == 0) (Const 0) (cond b (Far (Register r)) Unknown)) (sym e))
+
+pub entered-more : (n : ℕ) → written (entered_below n) n (Far (Register n)) ≡ entered_below (n + 1)
+entered-more n = fun_ext (λ r. else_same (r == 0) (Const 0) (cond (r == n) (Far (Register n)) (entered_below n r)) (cond (nat_lt r (n + 1)) (Far (Register r)) Unknown) (λ some. go r some (r == n) refl))
+  where
+    go : (r : ℕ) → (r == 0) ≡ false → (b : Bool) → (r == n) ≡ b → cond b (Far (Register n)) (entered_below n r) ≡ cond (nat_lt r (n + 1)) (Far (Register r)) Unknown
+    go r some true is =
+        let same : n ≡ r = grind (arith, nat_tests) in
+        let e : nat_lt r (n + 1) ≡ true = grind (arith, nat_tests) in
+        ap (λ k. Far (Register k)) same ∙ sym (ap (λ b. cond b (Far (Register r)) Unknown) e)
+    go r some false is =
+        let e : nat_lt r n ≡ nat_lt r (n + 1) = grind (arith, nat_tests) in
+        ap (λ b. cond b (Const 0) (cond (nat_lt r n) (Far (Register r)) Unknown)) some ∙ ap (λ b. cond b (Far (Register r)) Unknown) e
+
+pub entered-all : (n : ℕ) → n ≡ 32 → entered_below n ≡ entered
+entered-all n is = ap entered_below is

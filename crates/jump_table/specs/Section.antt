@@ -1,5 +1,5 @@
 -- The pattern of a jump table is read within the code section of its jump.
-use Rattle.std.specs.Prelude.{ℕ, ◌+◌, ◌==◌, ◌&&◌, Bool, true, false, List, []}
+use Rattle.std.specs.Prelude.{ℕ, ◌+◌, ◌==◌, ◌&&◌, nat_le, Bool, true, false, List, []}
 use Rattle.std.specs.Prelude.{◌∷◌, zero, suc, Option, Some, None, if◌then◌else◌}
 use Rattle.std.specs.Option.{option_map, option_map_or, option_and_then}
 use Rattle.elf_image.specs.Code.{section_start, word_at}
@@ -18,6 +18,13 @@ is_in_section bytes start a = option_map_or (λ s. s == start) (section_start by
 abbrev pub whole_insn_at : List ℕ → ℕ → ℕ → Option Insn
 whole_insn_at bytes start a =
     if is_in_section bytes start a then option_and_then instruction (word_at bytes a) else None
+
+-- The instruction at a, within the section, if it ends at or before this address.
+abbrev pub insn_before : List ℕ → ℕ → ℕ → ℕ → Option Insn
+insn_before bytes start end a =
+    if is_in_section bytes start a && nat_le (a + (placed_at bytes a).length) end
+    then (placed_at bytes a).insn
+    else None
 
 abbrev pub is_straight : RawFlow → Bool
 is_straight raw.Straight = true

@@ -16,13 +16,13 @@ use Rattle.jump_table.specs.declared.place.Place.{Place}
 use Rattle.jump_table.specs.declared.width.Width.{Width}
 use Rattle.jump_table.specs.declared.width.Width.TheVariants.{Word, Double}
 use Rattle.jump_table.specs.declared.values.Form.{Form}
-use Rattle.jump_table.specs.declared.values.Form.TheVariants.{Bounded, Open}
+use Rattle.jump_table.specs.declared.values.Form.TheVariants.{Bounded, Open, Hoisted}
 use Rattle.jump_table.specs.declared.values.Value.{Value}
 use Rattle.jump_table.specs.declared.values.Value.TheVariants.{Entry, EntryPlus}
 use Rattle.jump_table.specs.Bound.{bound_test}
 use Rattle.jump_table.specs.Nearest.{evens, nearest}
 use Rattle.jump_table.specs.Section.{straight_run}
-use Rattle.jump_table.specs.Values.{Registers, bytes_of, at_test, forgotten, after_run}
+use Rattle.jump_table.specs.Values.{Registers, bytes_of, at_test, forgotten, entered, after_run}
 
 -- ---- entries
 
@@ -127,6 +127,13 @@ place_from bytes start j r a =
 unfoldable pub open_place : List ℕ → ℕ → ℕ → ℕ → Option Place
 open_place bytes start j r = nearest (place_from bytes start j r) start j (evens 4 31)
 
+-- The hoisted form: what the jump's register holds after a run from q, if before it each register
+-- holds what the nearest pair set far before.
+abbrev pub hoisted_place : List ℕ → ℕ → ℕ → ℕ → ℕ → Option Place
+hoisted_place bytes start j r q =
+    option_and_then (place_of true 1024)
+    (value_behind (Hoisted start q) bytes start j r entered q)
+
 -- ---- the table
 
 -- A table with at least one target.
@@ -160,13 +167,23 @@ abbrev pub jump_register : RawFlow → Option ℕ
 jump_register (raw.RegisterJump r (pos zero)) = if r == 0 then None else Some r
 jump_register _ = None
 
+-- The hoisted form: the run begins 4 to 64 bytes before the jump, as near to it as there is a place
+-- that has a table.
+abbrev pub table_from : List ℕ → ℕ → ℕ → ℕ → ℕ → Option Table
+table_from bytes start j r q = option_and_then (table_at_place bytes) (hoisted_place bytes start j r q)
+
+unfoldable pub hoisted_table : List ℕ → ℕ → ℕ → ℕ → Option Table
+hoisted_table bytes start j r = nearest (table_from bytes start j r) start j (evens 4 31)
+
 -- The table of the jump at j through register r: of the bounded form, or else of the declared form,
--- or else of the open form.
+-- or else of the open form, or else of the hoisted form.
 abbrev pub table_without_test : List ℕ → ℕ → ℕ → ℕ → Option Table
 table_without_test bytes start j r =
     option_or
     (option_and_then (table_at_place bytes) (declared_place bytes j))
+    (option_or
     (option_and_then (table_at_place bytes) (open_place bytes start j r))
+    (hoisted_table bytes start j r))
 
 abbrev pub table_through : List ℕ → ℕ → ℕ → ℕ → Option Table
 table_through bytes start j r =

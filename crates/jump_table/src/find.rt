@@ -1,16 +1,17 @@
 //! The jump table of a jump.
 
-ghost use Rattle.std.specs.Prelude.{◌≡◌, ◌≤◌, IsTrue, IfSome, is_some, slice_get};
-ghost use Rattle.std.specs.Option.{option_and_then};
+ghost use Rattle.std.specs.Prelude.{◌≡◌, ◌+◌, ◌-◌, ◌*◌, ◌<◌, ◌≤◌, IsTrue, IfSome, is_some, slice_get};
+ghost use Rattle.std.specs.Option.{option_and_then, option_or};
 ghost use Rattle.elf_image.specs.Code.{is_code};
 ghost use Rattle.rv_flow.specs.Raw.{raw_flow_at};
 ghost use Rattle.jump_table.specs.Inner.Operands.{IsRegister};
 ghost use Rattle.jump_table.specs.Table.{table_at_place, jump_register, table_without_test};
-ghost use Rattle.jump_table.specs.Table.{table_through, table_at, table_targets, HasEntry};
+ghost use Rattle.jump_table.specs.Table.{open_place, table_from};
+ghost use Rattle.jump_table.specs.Table.{hoisted_table, table_through, table_at, table_targets, HasEntry};
 
-use crate::approach::Approach;
+use crate::approach::{Approach, MOST_PARCELS};
 use crate::entries::{count_entries, target_at};
-use crate::place::{Place, bounded_place, declared_place, open_place};
+use crate::place::{Place, bounded_place, declared_place, hoisted_place, open_place};
 use crate::table::Table;
 use elf_image::Image;
 use rv_flow::{RawFlow, raw_flow};
@@ -82,7 +83,7 @@ fn place_through(image: &Image, start: u64, j: u64, register: u8) -> Option<Plac
 }
 
 // Where the table of the jump through `register` would stand without its bound test: where the file
-// declares it if that gives a table, and else by the open form.
+// declares it if that gives a table, and else by the code before it.
 fn place_without_test(way: &Approach, register: u8) -> Option<Place>
     requires { IsRegister register }
     ensures { table_without_test way.now.image.now way.now.start way.now.jump register
@@ -90,7 +91,59 @@ fn place_without_test(way: &Approach, register: u8) -> Option<Place>
 {
     match declared_place(way.image, way.jump) {
         Some(place) if has_table(way.image, place) => Some(place),
-        _ => open_place(way, register),
+        _ => undeclared_place(way, register),
+    }
+}
+
+// Where it would stand by the open form if that gives a table, and else by the hoisted form.
+fn undeclared_place(way: &Approach, register: u8) -> Option<Place>
+    requires { IsRegister register }
+    ensures { option_or
+        (option_and_then (table_at_place way.now.image.now)
+        (open_place way.now.image.now way.now.start way.now.jump register))
+        (hoisted_table way.now.image.now way.now.start way.now.jump register)
+        ≡ option_and_then (table_at_place way.now.image.now) result }
+{
+    match open_place(way, register) {
+        Some(place) if has_table(way.image, place) => Some(place),
+        _ => nearest_hoisted(way, register),
+    }
+}
+
+// Where it stands by the hoisted form: by the run nearest to the jump, from 4 up to 64 bytes before
+// it, that tells a place of a table.
+fn nearest_hoisted(way: &Approach, register: u8) -> Option<Place>
+    requires { IsRegister register }
+    ensures { hoisted_table way.now.image.now way.now.start way.now.jump register
+        ≡ option_and_then (table_at_place way.now.image.now) result }
+{
+    for parcels in 2..=MOST_PARCELS {
+        if way.jump - way.start < 2 * parcels as u64 {
+            return None;
+        }
+        if let Some(place) = place_of_table(way, parcels, register) {
+            return Some(place);
+        }
+    }
+    None
+}
+
+// Where it stands by the run that begins this many parcels before the jump, if a table is there.
+fn place_of_table(way: &Approach, parcels: usize, register: u8) -> Option<Place>
+    requires few { parcels < 33 }
+    requires inside { way.now.start + 2 * parcels ≤ way.now.jump }
+    requires register { IsRegister register }
+    ensures value { table_from way.now.image.now way.now.start way.now.jump register
+        (way.now.jump - 2 * parcels)
+        ≡ option_and_then (table_at_place way.now.image.now) result }
+    ensures table { IfSome result
+        (λ place. IsTrue (is_some (table_at_place way.now.image.now place))) }
+{
+    let place = hoisted_place(way, parcels, register)?;
+    if has_table(way.image, place) {
+        Some(place)
+    } else {
+        None
     }
 }
 

@@ -1,5 +1,5 @@
 //! The jump table of a jump through a register: by the pattern of a bounds check, by what the file
-//! declares, or by the pattern without a check.
+//! declares, by the pattern without a check, or by that of an address that was set far before.
 //!
 //! `specs/` says what the pattern is: the bound test, the values that registers hold on the way to
 //! the jump, and the table that they tell.
@@ -9,6 +9,7 @@ mod approach;
 mod bound;
 mod entries;
 mod find;
+mod pair;
 mod place;
 mod run;
 mod step;
@@ -20,6 +21,7 @@ mod words;
 pub use bound::{BoundTest, Comparison};
 pub use entries::entry_target;
 pub use find::{find_table, target_of};
+pub use pair::Origin;
 pub use place::Place;
 pub use table::Table;
 pub use values::{Form, Value};

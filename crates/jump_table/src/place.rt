@@ -5,6 +5,7 @@ ghost use Rattle.jump_table.specs.Inner.Operands.{IsRegister};
 ghost use Rattle.jump_table.specs.Inner.Near.{IsNear};
 ghost use Rattle.jump_table.specs.Table.{place_of, place_by_test};
 ghost use Rattle.jump_table.specs.Table.{bounded_place, declared_place, place_from, open_place};
+ghost use Rattle.jump_table.specs.Table.{hoisted_place};
 
 use crate::approach::{Approach, MOST_PARCELS};
 use crate::bound::{BoundTest, bound_test};
@@ -106,6 +107,25 @@ fn place_from(way: &Approach, parcels: usize, register: u8) -> Option<Place>
     way.steps[parcels]?;
     let value = value_behind(way, parcels, Registers::unknown(), Form::Open, register)?;
     place_of(true, MOST_OPEN_ENTRIES, value)
+}
+
+/// Where the table would stand by the run that begins this many parcels before the jump, if its
+/// address may be set far before the run.
+pub(crate) fn hoisted_place(way: &Approach, parcels: usize, register: u8) -> Option<Place>
+    requires few { parcels < 33 }
+    requires inside { way.now.start + 2 * parcels ≤ way.now.jump }
+    requires register { IsRegister register }
+    ensures { result
+        ≡ hoisted_place way.now.image.now way.now.start way.now.jump register
+        (way.now.jump - 2 * parcels) }
+{
+    way.steps[parcels]?;
+    let form = Form::Hoisted {
+        start: way.start,
+        run: way.jump - 2 * parcels as u64,
+    };
+    let held = value_behind(way, parcels, Registers::entered(), form, register)?;
+    place_of(true, MOST_OPEN_ENTRIES, held)
 }
 
 // Where the table stands, if `bound` of its entries may count: the value of the jump's register

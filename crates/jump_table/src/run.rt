@@ -56,7 +56,7 @@ pub(crate) fn value_behind(
             return Some(registers.get(register));
         }
         let step = way.steps[left]?;
-        registers.pass(form, way.jump - 2 * left as u64, step.insn);
+        registers.pass(form, way.image, way.jump - 2 * left as u64, step.insn);
         left = step.next;
     }
     if left == 0 {

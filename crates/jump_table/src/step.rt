@@ -3,7 +3,7 @@
 ghost use Rattle.std.specs.Prelude.{◌≡◌, IsTrue, IfSome};
 ghost use Rattle.elf_image.specs.Code.{is_code};
 ghost use Rattle.jump_table.specs.Inner.Operands.{HasOperands};
-ghost use Rattle.jump_table.specs.Section.{is_in_section, whole_insn_at};
+ghost use Rattle.jump_table.specs.Section.{is_in_section, whole_insn_at, insn_before};
 ghost use Rattle.jump_table.specs.Inner.Straight.{straight_at, IsLength};
 
 use elf_image::Image;
@@ -37,6 +37,22 @@ pub(crate) fn whole_insn_at(image: &Image, start: u64, a: u64) -> Option<Insn>
 {
     if is_in_section(image, start, a) {
         decode(image.word_at(a)?)
+    } else {
+        None
+    }
+}
+
+/// The instruction at `a`, if it lies in the section that starts at `start` and ends at or before
+/// `end`.
+pub(crate) fn insn_before(image: &Image, start: u64, end: u64, a: u64) -> Option<Insn>
+    ensures { result ≡ insn_before image.now start end a }
+{
+    if !is_in_section(image, start, a) {
+        return None;
+    }
+    let placed = insn_at(image, a);
+    if a <= end && end - a >= u64::from(placed.length) {
+        placed.insn
     } else {
         None
     }

@@ -2,16 +2,21 @@
 
 ghost use Rattle.std.specs.Prelude.{◌≡◌, IfSome, length};
 ghost use Rattle.jump_table.specs.Inner.Operands.{IsRegister, HasOperands};
-ghost use Rattle.jump_table.specs.Values.{at_test, written, forgotten, shifted, addi_value};
-ghost use Rattle.jump_table.specs.Values.{slli_value, srli_value, sum_of, add_value, imm_value};
-ghost use Rattle.jump_table.specs.Values.{reg_value, load_value, zext_w_value, first_part};
+ghost use Rattle.jump_table.specs.Values.{at_test, entered, written, forgotten, shifted};
+ghost use Rattle.jump_table.specs.Values.{addi_value, slli_value, srli_value, sum_of, taken};
+ghost use Rattle.jump_table.specs.Values.{sum_taken, add_value, or_slot, imm_value, imm_w_value};
+ghost use Rattle.jump_table.specs.Values.{reg_value, load_value, lw_value, ld_value};
+ghost use Rattle.jump_table.specs.Values.{zext_w_value, first_part};
 ghost use Rattle.jump_table.specs.Values.{second_part, third_part, shift_add_value, extended};
 ghost use Rattle.jump_table.specs.Values.{keeps_index, extend_value, overwritten, after};
-ghost use Rattle.jump_table.specs.Values.{after_placed};
+ghost use Rattle.jump_table.specs.Values.{after_placed, after_vendor, vendor_value};
 ghost use Rattle.jump_table.specs.Inner.Held.{held_by};
+ghost use Rattle.jump_table.specs.declared.values.Value.TheVariants.{Unknown};
 
+use crate::pair::{Origin, origin_value};
 use crate::width::Width;
-use rv_decode::{ExtendKind, ImmKind, Insn, LoadKind, RegKind};
+use elf_image::Image;
+use rv_decode::{ExtendKind, ImmKind, ImmWKind, Insn, LoadKind, RegKind, VendorKind};
 
 /// Which form of the pattern a run of instructions is looked at for.
 #[derive(Clone, Copy)]
@@ -20,6 +25,13 @@ pub enum Form {
     Bounded(u32),
     /// Without one.
     Open,
+    /// Without one, with addresses that were set far before the run.
+    Hoisted {
+        /// The address of the code section.
+        start: u64,
+        /// The address where the run begins.
+        run: u64,
+    },
 }
 
 /// What is known of a register's value. Sums are modulo 2 to the power 64.
@@ -29,7 +41,7 @@ pub enum Value {
     Unknown,
     /// A constant.
     Const(u64),
-    /// The index: what the bound test compares, or in the open form anything unknown.
+    /// The index: what the bound test compares, or without one anything unknown.
     Index,
     /// The index times 2 to the power 32.
     High,
@@ -49,6 +61,9 @@ pub enum Value {
         /// The constant.
         add: u64,
     },
+    /// What a register or a slot of the stack was given far before the run. A sum takes it for a
+    /// constant, and a shift for the index.
+    Far(Origin),
 }
 
 /// What the 32 registers hold. The place of x0 says nothing: it always holds 0.
@@ -76,6 +91,17 @@ impl Registers {
         Registers {
             values: [Value::Unknown; 32],
         }
+    }
+
+    /// Registers of which each holds what it was given far before the run.
+    pub(crate) fn entered() -> Registers
+        ensures { held_by result.values ≡ entered }
+    {
+        let mut registers = Registers::unknown();
+        for r in 0..32 {
+            registers.set(r, Value::Far(Origin::Register(r)));
+        }
+        registers
     }
 
     /// What register `r` holds.
@@ -110,33 +136,38 @@ impl Registers {
     }
 
     /// Goes past what stands at address `a`.
-    pub(crate) fn pass(&mut self, form: Form, a: u64, insn: Option<Insn>)
+    pub(crate) fn pass(&mut self, form: Form, image: &Image, a: u64, insn: Option<Insn>)
         requires { IfSome insn HasOperands }
-        ensures { held_by self.new.values ≡ after_placed form a insn (held_by self.old.values) }
+        ensures { held_by self.new.values
+            ≡ after_placed form image.now a insn (held_by self.old.values) }
     {
         if let Some(insn) = insn {
-            self.pass_insn(form, a, insn);
+            self.pass_insn(form, image, a, insn);
         }
     }
 
     /// Goes past the instruction `insn` at address `a`.
-    fn pass_insn(&mut self, form: Form, a: u64, insn: Insn)
+    fn pass_insn(&mut self, form: Form, image: &Image, a: u64, insn: Insn)
         requires { HasOperands insn }
-        ensures { held_by self.new.values ≡ after form a insn (held_by self.old.values) }
+        ensures { held_by self.new.values ≡ after form image.now a insn (held_by self.old.values) }
     {
         match insn {
             Insn::Lui { rd, imm } => self.set(rd, Value::Const(imm.cast_unsigned())),
             Insn::Auipc { rd, imm } => self.set(rd, Value::Const(a.wrapping_add_signed(imm))),
             Insn::Load { kind, rd, rs1, imm } => {
-                self.set(rd, load_value(kind, imm, self.get(rs1)));
+                self.set(rd, load_value(form, kind, rs1, imm, self.get(rs1)));
             }
             Insn::Imm { kind, rd, rs1, imm } => {
                 self.set(rd, imm_value(form, kind, imm, self.get(rs1)));
             }
-            Insn::Reg { kind, rd, rs1, rs2 } => self.set(rd, reg_value(kind, self, rs1, rs2)),
+            Insn::ImmW { kind, rd, rs1, imm } => {
+                self.set(rd, imm_w_value(kind, imm, self.get(rs1)));
+            }
+            Insn::Reg { kind, rd, rs1, rs2 } => {
+                self.set(rd, reg_value(form, image, kind, self, rs1, rs2));
+            }
             Insn::Jal { rd, .. }
             | Insn::Jalr { rd, .. }
-            | Insn::ImmW { rd, .. }
             | Insn::RegW { rd, .. }
             | Insn::Atomic { rd, .. }
             | Insn::Csr { rd, .. }
@@ -149,16 +180,78 @@ impl Registers {
                 rs2,
             } => self.set(
                 rd,
-                shift_add_value(form, shift, zero_extended, self, rs1, rs2),
+                shift_add_value(form, image, shift, zero_extended, self, rs1, rs2),
             ),
             Insn::Extend { kind, rd, rs1 } => {
                 self.set(rd, extend_value(form, kind, self.get(rs1)));
             }
-            Insn::Extension { writes, .. } => self.forget(writes),
+            Insn::Extension { writes, .. } | Insn::Away { writes, .. } => self.forget(writes),
+            Insn::Vendor {
+                kind,
+                shift,
+                rd,
+                rs1,
+                rs2,
+            } => self.pass_vendor(form, image, kind, shift, rd, rs1, rs2),
             Insn::Ecall => *self = Registers::unknown(),
             Insn::Branch { .. } | Insn::Store { .. } | Insn::Fence | Insn::FenceI | Insn::Ebreak =>
                 {}
         }
+    }
+}
+
+impl Registers {
+    /// Goes past a word of a vendor.
+    fn pass_vendor(
+        &mut self,
+        form: Form,
+        image: &Image,
+        kind: VendorKind,
+        shift: u8,
+        rd: u8,
+        rs1: u8,
+        rs2: u8,
+    )
+        requires rd { IsRegister rd }
+        requires first { IsRegister rs1 }
+        requires second { IsRegister rs2 }
+        ensures { held_by self.new.values
+            ≡ after_vendor form image.now kind shift rd rs1 rs2 (held_by self.old.values) }
+    {
+        match kind {
+            VendorKind::Other => {
+                self.set(rd, Value::Unknown);
+                self.set(rs1, Value::Unknown);
+                self.set(rs2, Value::Unknown);
+            }
+            _ => self.set(rd, vendor_value(form, image, kind, shift, self, rs1, rs2)),
+        }
+    }
+}
+
+// The value that a word of a vendor computes; the loads by an index load at the offset 0.
+fn vendor_value(
+    form: Form,
+    image: &Image,
+    kind: VendorKind,
+    shift: u8,
+    before: &Registers,
+    rs1: u8,
+    rs2: u8,
+) -> Value
+    requires first { IsRegister rs1 }
+    requires second { IsRegister rs2 }
+    ensures { result ≡ vendor_value form image.now kind shift (held_by before.now.values) rs1 rs2 }
+{
+    let sum = shift_add_value(form, image, shift, false, before, rs2, rs1);
+    let unsigned = shift_add_value(form, image, shift, true, before, rs2, rs1);
+    match kind {
+        VendorKind::Addsl => sum,
+        VendorKind::Lrw => lw_value(0, sum),
+        VendorKind::Lurw => lw_value(0, unsigned),
+        VendorKind::Lrd => ld_value(0, sum),
+        VendorKind::Lurd => ld_value(0, unsigned),
+        VendorKind::Other => Value::Unknown,
     }
 }
 
@@ -184,13 +277,15 @@ fn addi_value(imm: i64, value: Value) -> Value
     }
 }
 
-// What a shift to the left finds: in the open form it takes the unknown for the index.
+// What a shift to the left finds: without a bound test it takes the unknown for the index, and what
+// was set far before.
 fn shifted(form: Form, value: Value) -> Value
     ensures { result ≡ shifted form value }
 {
-    match value {
-        Value::Unknown if matches!(form, Form::Open) => Value::Index,
-        value => value,
+    match (form, value) {
+        (Form::Open | Form::Hoisted { .. }, Value::Unknown) => Value::Index,
+        (Form::Hoisted { .. }, Value::Far(_)) => Value::Index,
+        _ => value,
     }
 }
 
@@ -218,29 +313,75 @@ fn srli_value(amount: i64, value: Value) -> Value
     }
 }
 
-fn reg_value(kind: RegKind, before: &Registers, rs1: u8, rs2: u8) -> Value
+// `addiw` with 0 of a word's entry is that entry.
+fn imm_w_value(kind: ImmWKind, imm: i64, value: Value) -> Value
+    ensures { result ≡ imm_w_value kind imm value }
+{
+    match (kind, value) {
+        (ImmWKind::Addiw, Value::Entry(_, Width::Word)) if imm == 0 => value,
+        _ => Value::Unknown,
+    }
+}
+
+fn reg_value(
+    form: Form,
+    image: &Image,
+    kind: RegKind,
+    before: &Registers,
+    rs1: u8,
+    rs2: u8,
+) -> Value
     requires first { IsRegister rs1 }
     requires second { IsRegister rs2 }
-    ensures { result ≡ reg_value kind (held_by before.now.values) rs1 rs2 }
+    ensures { result ≡ reg_value form image.now kind (held_by before.now.values) rs1 rs2 }
 {
     match kind {
-        RegKind::Add => add_value(before, rs1, rs2),
+        RegKind::Add => add_value(form, image, before, rs1, rs2),
         _ => Value::Unknown,
     }
 }
 
 // `add` with x0 copies.
-fn add_value(before: &Registers, rs1: u8, rs2: u8) -> Value
+fn add_value(form: Form, image: &Image, before: &Registers, rs1: u8, rs2: u8) -> Value
     requires first { IsRegister rs1 }
     requires second { IsRegister rs2 }
-    ensures { result ≡ add_value (held_by before.now.values) rs1 rs2 }
+    ensures { result ≡ add_value form image.now (held_by before.now.values) rs1 rs2 }
 {
     if rs2 == 0 {
         before.get(rs1)
     } else if rs1 == 0 {
         before.get(rs2)
     } else {
-        sum_of(before.get(rs1), before.get(rs2))
+        sum_taken(form, image, before.get(rs1), before.get(rs2))
+    }
+}
+
+// A sum. What was set far before the run is looked up only if the other value can make something of
+// it: a scaled index or an entry.
+fn sum_taken(form: Form, image: &Image, first: Value, second: Value) -> Value
+    ensures { result ≡ sum_taken form image.now first second }
+{
+    match first {
+        Value::Scaled(_) | Value::Entry(..) => sum_of(first, taken(form, image, second)),
+        _ => match second {
+            Value::Scaled(_) | Value::Entry(..) => sum_of(taken(form, image, first), second),
+            _ => Value::Unknown,
+        },
+    }
+}
+
+// What a sum takes for a value.
+fn taken(form: Form, image: &Image, value: Value) -> Value
+    ensures { result ≡ taken form image.now value }
+{
+    match (form, value) {
+        (Form::Hoisted { start, run }, Value::Far(origin)) => {
+            match origin_value(image, start, run, origin) {
+                Some(v) => Value::Const(v),
+                None => Value::Unknown,
+            }
+        }
+        _ => value,
     }
 }
 
@@ -258,17 +399,47 @@ fn sum_of(first: Value, second: Value) -> Value
     }
 }
 
-// `lw` and `ld` of an address in the table, if the index was scaled by as many bytes.
-fn load_value(kind: LoadKind, offset: i64, value: Value) -> Value
-    ensures { result ≡ load_value kind offset value }
+// `lw` and `ld` of an address in the table, if the index was scaled by as many bytes, and `ld` of a
+// slot of the stack.
+fn load_value(form: Form, kind: LoadKind, rs1: u8, offset: i64, value: Value) -> Value
+    ensures { result ≡ load_value form kind rs1 offset value }
 {
     match (kind, value) {
-        (LoadKind::Lw, Value::Addr(v, Width::Word)) => {
-            Value::Entry(v.wrapping_add_signed(offset), Width::Word)
-        }
-        (LoadKind::Ld, Value::Addr(v, Width::Double)) => {
+        (LoadKind::Lw, _) => lw_value(offset, value),
+        (LoadKind::Ld, Value::Addr(_, Width::Double)) => ld_value(offset, value),
+        (LoadKind::Ld, _) => slot_value(form, rs1, offset),
+        _ => Value::Unknown,
+    }
+}
+
+// `lw` of an address in the table.
+fn lw_value(offset: i64, value: Value) -> Value
+    ensures { result ≡ lw_value offset value }
+{
+    match value {
+        Value::Addr(v, Width::Word) => Value::Entry(v.wrapping_add_signed(offset), Width::Word),
+        _ => Value::Unknown,
+    }
+}
+
+// `ld` of an address in the table.
+fn ld_value(offset: i64, value: Value) -> Value
+    ensures { result ≡ ld_value offset value }
+{
+    match value {
+        Value::Addr(v, Width::Double) => {
             Value::Entry(v.wrapping_add_signed(offset), Width::Double)
         }
+        _ => Value::Unknown,
+    }
+}
+
+// What a slot of the stack was given far before the run.
+fn slot_value(form: Form, rs1: u8, offset: i64) -> Value
+    ensures { result ≡ or_slot form rs1 offset Unknown }
+{
+    match form {
+        Form::Hoisted { .. } if rs1 == 2 => Value::Far(Origin::Slot(offset.cast_unsigned())),
         _ => Value::Unknown,
     }
 }
@@ -287,6 +458,7 @@ fn zext_w_value(value: Value) -> Value
 // `zext.w`, `slli` and `add`, one after the other.
 fn shift_add_value(
     form: Form,
+    image: &Image,
     shift: u8,
     zero_extended: bool,
     before: &Registers,
@@ -296,7 +468,7 @@ fn shift_add_value(
     requires first { IsRegister rs1 }
     requires second { IsRegister rs2 }
     ensures { result
-        ≡ shift_add_value form shift zero_extended (held_by before.now.values) rs1 rs2 }
+        ≡ shift_add_value form image.now shift zero_extended (held_by before.now.values) rs1 rs2 }
 {
     let mut value = before.get(rs1);
     if zero_extended {
@@ -306,7 +478,7 @@ fn shift_add_value(
         value = slli_value(i64::from(shift), shifted(form, value));
     }
     if rs2 != 0 {
-        value = sum_of(value, before.get(rs2));
+        value = sum_taken(form, image, value, before.get(rs2));
     }
     value
 }

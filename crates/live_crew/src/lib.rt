@@ -10,4 +10,4 @@ mod pieces;
 pub mod sharing;
 
 pub use by_one::graph_lives;
-pub use sharing::{graph_lives_by, lives_by};
+pub use sharing::graph_lives_by;

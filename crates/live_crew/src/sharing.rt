@@ -1,20 +1,15 @@
 //! The live registers of all functions, made by several workers.
 
-ghost use Rattle.std.specs.Prelude.{◌≡◌, ℕ, ◌*◌, ◌<◌, ◌≤◌, All, Contains, IfOk, List};
+ghost use Rattle.std.specs.Prelude.{◌≡◌, ℕ, ◌*◌, ◌<◌, ◌≤◌, All, IfOk};
 ghost use Rattle.std.specs.Prelude.{length, slice_index_or, vec_len};
 ghost use Rattle.std.specs.List.Sorted.{IsStrictlyIncreasing};
-ghost use Rattle.cfg_model.specs.declared.graph.Function.{Function};
-ghost use Rattle.cfg_model.specs.Graph.Function.{IsFunction};
-ghost use Rattle.cfg_model.specs.Graph.Graph.{IsOutline};
 ghost use Rattle.live_regs.specs.Masks.{AreAllLivesOf};
 ghost use Rattle.live_regs.specs.Noted.{AreEffectsFrom, AreInOrder, AreNotesOf, IsNoted};
 ghost use Rattle.live_crew.specs.Inner.{HasRisingBody};
 
 use crate::by_one::{all_lives, lives_of, piece_count};
 use crate::pieces::pieces_of;
-use cfg_model::{
-    AllLives, Block, Chains, Edge, Function, Functions, Graph, Lives, Memory, Outline,
-};
+use cfg_model::{AllLives, Block, Edge, Function, Graph, Lives, Memory};
 use elf_image::Image;
 use live_regs::{Effects, PIECE_BLOCKS, Program, effects_of_piece};
 use parallel::{MOST_WORKERS, joined_if_made, map_drawn};
@@ -51,38 +46,6 @@ pub fn graph_lives_by<R: Threads + Sync>(
         graph.blocks.as_slice(),
         graph.edges.as_slice(),
         graph.functions.as_slice(),
-        workers,
-    )?;
-    Ok(AllLives::from_vec(all))
-}
-
-/// The live registers of each of these functions of the program `code`, from its outline, in the
-/// order of the functions. Workers, time and memory as of [`graph_lives_by`].
-pub fn lives_by<R: Threads + Sync, C: Chains>(
-    rt: &R,
-    alloc: Global,
-    image: &Image,
-    code: &C,
-    outline: &Outline,
-    functions: &Functions,
-    workers: u32,
-) -> Result<AllLives, Memory>
-    requires program { (seeds : List ℕ)
-        × IsOutline (C.map code.now) seeds outline.now.blocks outline.now.edges
-        × ((f : Function) → Contains functions.now f → IsFunction (C.map code.now) seeds f) }
-    requires some { 1 ≤ workers }
-    requires most { workers ≤ MOST_WORKERS }
-    ensures { IfOk result (AreAllLivesOf image.now outline.now.blocks outline.now.edges
-        functions.now) }
-{
-    let _ = code.has(0);
-    let all = lives_shared(
-        rt,
-        alloc,
-        image,
-        outline.blocks.as_slice(),
-        outline.edges.as_slice(),
-        functions.as_slice(),
         workers,
     )?;
     Ok(AllLives::from_vec(all))

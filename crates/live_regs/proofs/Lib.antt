@@ -1,6 +1,6 @@
 pub mod Masks
 mod Keyed
--- Edges is cited by proofs of live_crew, and Runs by those of free_laws.
+-- Edges is cited by proofs of live_crew, and Runs and Operands by those of free_laws.
 pub mod Edges
 mod Bits
 pub mod Runs
@@ -8,4 +8,4 @@ mod Noted
 mod Added
 mod Gathered
 mod Found
-mod Operands
+pub mod Operands

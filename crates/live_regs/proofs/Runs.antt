@@ -10,7 +10,7 @@ use Rattle.rv_flow.specs.declared.placed.Placed.{Placed}
 use Rattle.rv_flow.specs.Placed.{placed_at, placed_by, whole, whole_insn, bad}
 use Rattle.mask_flow.specs.Reaches.{has_bit}
 use Rattle.live_regs.specs.declared.effects.Effects.{Effects}
-use Rattle.live_regs.specs.Effects.{reads, writes}
+use Rattle.live_regs.specs.Effects.{as_read, reads, writes}
 use Rattle.live_regs.specs.Noted.{AreEffectsOf}
 use Rattle.live_regs.specs.Run.{placed_from, reads_first, run_writes}
 use Rattle.live_regs.proofs.Bits.{zero_bit}
@@ -43,15 +43,15 @@ module _ (bytes : List ℕ) where
     same_from (suc n) zero a p q = none_from (suc n) a (omega arith)
     same_from (suc n) (suc m) a p q =
         let some : 0 < (placed_at bytes a).length = some_bytes a in
-        ap (λ rest. if nat_lt a end then (placed_at bytes a).insn ∷ rest else []) (same_from n m (a + (placed_at bytes a).length) (omega arith) (omega arith))
+        ap (λ rest. if nat_lt a end then as_read (extensions_of bytes) (placed_at bytes a) ∷ rest else []) (same_from n m (a + (placed_at bytes a).length) (omega arith) (omega arith))
 
-    first_from : (n a : ℕ) → a < end → placed_from bytes end (suc n) a ≡ (placed_at bytes a).insn ∷ placed_from bytes end n (a + (placed_at bytes a).length)
+    first_from : (n a : ℕ) → a < end → placed_from bytes end (suc n) a ≡ as_read (extensions_of bytes) (placed_at bytes a) ∷ placed_from bytes end n (a + (placed_at bytes a).length)
     unfolding placed_from
     first_from n a h = cond-true (nat_lt a end) _ [] (lt-ltb a end h)
 
     -- the instructions from a on are the one at a, and those from the address behind it on
     pub more_from : (a b : ℕ) → a < end → (b ≡ a + (placed_at bytes a).length) ⊎ ((end ≤ b) × (end ≤ a + (placed_at bytes a).length))
-        → placed_from bytes end (end - a) a ≡ (placed_at bytes a).insn ∷ placed_from bytes end (end - b) b
+        → placed_from bytes end (end - a) a ≡ as_read (extensions_of bytes) (placed_at bytes a) ∷ placed_from bytes end (end - b) b
     more_from a b h next =
         let some : 0 < (placed_at bytes a).length = some_bytes a in
         let count : end - a ≡ suc (end - a - 1) = omega arith in
@@ -60,7 +60,7 @@ module _ (bytes : List ℕ) where
         (λ (e : b ≡ a + (placed_at bytes a).length). ap (placed_from bytes end (end - a - 1)) (sym e) ∙ same_from (end - a - 1) (end - b) b (omega arith) (omega arith))
         (λ past. none_from (end - a - 1) (a + (placed_at bytes a).length) past.1 ∙ sym (none_from (end - b) b past.0))
         next in
-        ap (λ n. placed_from bytes end n a) count ∙ (first_from (end - a - 1) a h ∙ ap (λ r. (placed_at bytes a).insn ∷ r) rest)
+        ap (λ n. placed_from bytes end n a) count ∙ (first_from (end - a - 1) a h ∙ ap (λ r. as_read (extensions_of bytes) (placed_at bytes a) ∷ r) rest)
 
     -- what was found of the first instructions, and what is left, tell of all of them
     pub record IsToldTo (start a : ℕ) (effects : Effects) : Type 0 where
@@ -97,13 +97,13 @@ module _ (bytes : List ℕ) where
 
     pub told_more : (start a b : ℕ) (old next new : Effects) → a < end → (b ≡ a + (placed_at bytes a).length) ⊎ ((end ≤ b) × (end ≤ a + (placed_at bytes a).length))
         → IsToldTo start a old
-        → ((r : ℕ) → r < 32 → has_bit next.reads r ≡ reads (placed_at bytes a).insn r) → ((r : ℕ) → r < 32 → has_bit next.writes r ≡ writes (placed_at bytes a).insn r)
+        → ((r : ℕ) → r < 32 → has_bit next.reads r ≡ reads (as_read (extensions_of bytes) (placed_at bytes a)) r) → ((r : ℕ) → r < 32 → has_bit next.writes r ≡ writes (as_read (extensions_of bytes) (placed_at bytes a)) r)
         → ((r : ℕ) → r < 32 → has_bit new.reads r ≡ (has_bit old.reads r || (not (has_bit old.writes r) && has_bit next.reads r)))
         → ((r : ℕ) → r < 32 → has_bit new.writes r ≡ (has_bit old.writes r || has_bit next.writes r))
         → IsToldTo start b new
     told_more start a b old next new h step told p q pn qn =
         let run = placed_from bytes end (end - b) b in
-        let insn = (placed_at bytes a).insn in
+        let insn = as_read (extensions_of bytes) (placed_at bytes a) in
         let split = more_from a b h step in
         record {
           reads = λ r low.

@@ -1,6 +1,6 @@
 -- Words of private functions, which no public contract cites.
 use Rattle.std.specs.Prelude.{◌≡◌, ◌≢◌, ◌⊎◌, ℕ, ◌<◌, ◌≤◌, List, [], ◌∷◌, ◌++◌, length}
-use Rattle.std.specs.Prelude.{Option, Some, None, IsSome, Contains, Bool, IsTrue, IsFalse, slice_index, slice_index_or}
+use Rattle.std.specs.Prelude.{Option, Some, None, IsSome, Contains, Bool, IsTrue, IsFalse, slice_index, slice_index_or, if◌then◌else◌}
 use Rattle.cfg_model.specs.declared.graph.Block.{Block}
 use Rattle.cfg_model.specs.declared.graph.Edge.{Edge}
 use Rattle.cfg_model.specs.declared.graph.EdgeKind.TheVariants as kinds
@@ -11,7 +11,8 @@ use Rattle.rv_decode.specs.declared.instructions.Insn.{Insn}
 use Rattle.rv_flow.specs.declared.placed.Placed.{Placed}
 use Rattle.live_regs.specs.declared.effects.Effects.{Effects}
 use Rattle.live_regs.specs.declared.effects.PlacedEffects.{PlacedEffects}
-use Rattle.live_regs.specs.Effects.{reads, writes}
+use Rattle.elf_image.specs.declared.extensions.Extensions.{Extensions}
+use Rattle.live_regs.specs.Effects.{as_read, reads, writes}
 use Rattle.live_regs.specs.declared.gather.Nodes.{Nodes}
 use Rattle.live_regs.specs.Leaves.{LeadsOn, Leaves}
 use Rattle.live_regs.specs.Run.{instructions_of, reads_first, run_writes}
@@ -27,11 +28,15 @@ abbrev pub AreEffectsIf : Option Insn → Option Effects → Type 0
 AreEffectsIf insn None = insn ≡ None
 AreEffectsIf insn (Some effects) = AreInsnEffects insn effects
 
+-- What an AUIPC that writes x0 reads and writes.
+abbrev pub label_effects : Bool → Effects
+label_effects named = record { reads = if named then 128 else 0; writes = 0 }
+
 -- The length of an instruction in its place, and what it reads and writes.
-pub record ArePlacedEffects (placed : Placed) (found : PlacedEffects) : Type 0 where
+pub record ArePlacedEffects (e : Extensions) (placed : Placed) (found : PlacedEffects) : Type 0 where
   pub length : found.length ≡ placed.length
-  pub reads : (r : ℕ) → r < 32 → has_bit found.effects.reads r ≡ reads placed.insn r
-  pub writes : (r : ℕ) → r < 32 → has_bit found.effects.writes r ≡ writes placed.insn r
+  pub reads : (r : ℕ) → r < 32 → has_bit found.effects.reads r ≡ reads (as_read e placed) r
+  pub writes : (r : ℕ) → r < 32 → has_bit found.effects.writes r ≡ writes (as_read e placed) r
 
 -- One of these blocks starts at a.
 abbrev pub HasBlockAt : List Block → ℕ → Type 0

@@ -4,15 +4,17 @@ use Rattle.std.specs.Prelude.{ℕ, zero, suc, ◌+◌, ◌-◌, ◌&&◌, ◌||�
 use Rattle.std.specs.Prelude.{List, [], ◌∷◌, if◌then◌else◌}
 use Rattle.cfg_model.specs.declared.graph.Block.{Block}
 use Rattle.rv_decode.specs.declared.instructions.Insn.{Insn}
+use Rattle.elf_image.specs.Architecture.{extensions_of}
 use Rattle.rv_flow.specs.Placed.{placed_at}
-use Rattle.live_regs.specs.Effects.{reads, writes}
+use Rattle.live_regs.specs.Effects.{as_read, reads, writes}
 
 -- The instructions that are placed one after another from a on, before `end`; so many at the most.
 unfoldable pub placed_from : List ℕ → ℕ → ℕ → ℕ → List (Option Insn)
 placed_from bytes end zero a = []
 placed_from bytes end (suc most) a =
     if nat_lt a end
-    then (placed_at bytes a).insn ∷ placed_from bytes end most (a + (placed_at bytes a).length)
+    then as_read (extensions_of bytes) (placed_at bytes a)
+    ∷ placed_from bytes end most (a + (placed_at bytes a).length)
     else []
 
 -- The instructions of a block: it has a byte at least for each.

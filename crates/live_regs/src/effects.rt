@@ -99,7 +99,7 @@ fn effects_between(image: &Image, start: u64, end: u64) -> Effects
 
 /// What the instruction at an address reads and writes; outside the code there is none.
 fn effects_at(image: &Image, a: u64) -> PlacedEffects
-    ensures { ArePlacedEffects (placed.placed_at image.now a) result }
+    ensures { ArePlacedEffects (extensions_of image.now) (placed.placed_at image.now a) result }
 {
     let Some(half) = image.half_at(a) else {
         return NO_INSN;
@@ -118,7 +118,8 @@ fn effects_at(image: &Image, a: u64) -> PlacedEffects
 
 /// What the 32-bit instruction that a whole word is reads and writes, if the word is there.
 fn effects_of_whole(image: &Image, word: Option<u32>) -> PlacedEffects
-    ensures { ArePlacedEffects (placed.whole (placed.whole_insn (extensions_of image.now) word)) result }
+    ensures { ArePlacedEffects (extensions_of image.now)
+        (placed.whole (placed.whole_insn (extensions_of image.now) word)) result }
 {
     let Some(word) = word else {
         return NO_INSN;
@@ -160,7 +161,8 @@ fn reads_of(insn: Insn) -> u32
             }
         }
         Insn::Float { reads, .. } => register(reads),
-        Insn::Extension { reads, .. } => registers(reads),
+        Insn::Extension { reads, .. } | Insn::Away { reads, .. } => registers(reads),
+        Insn::Vendor { rd, rs1, rs2, .. } => three(rd, rs1, rs2),
     }
 }
 
@@ -174,7 +176,8 @@ fn writes_of(insn: Insn) -> u32
         | Insn::Fence
         | Insn::FenceI
         | Insn::Ecall
-        | Insn::Ebreak => 0,
+        | Insn::Ebreak
+        | Insn::Vendor { .. } => 0,
         Insn::Lui { rd, .. }
         | Insn::Auipc { rd, .. }
         | Insn::Jal { rd, .. }
@@ -189,7 +192,7 @@ fn writes_of(insn: Insn) -> u32
         | Insn::ShiftAdd { rd, .. }
         | Insn::Extend { rd, .. } => register(rd),
         Insn::Float { writes, .. } => register(writes),
-        Insn::Extension { writes, .. } => registers(writes),
+        Insn::Extension { writes, .. } | Insn::Away { writes, .. } => registers(writes),
     }
 }
 
@@ -216,6 +219,14 @@ pub(crate) fn register(number: u8) -> u32
     } else {
         0
     }
+}
+
+/// The mask of three registers.
+fn three(first: u8, second: u8, third: u8) -> u32
+    ensures { (r : ℕ) → r < 32 → has_bit result r
+        ≡ (not (r == 0) && (r == first || (r == second || r == third))) }
+{
+    register(first) | (register(second) | register(third))
 }
 
 /// A mask without the bit of x0.

@@ -19,6 +19,7 @@ use Rattle.cfg_model.specs.Graph.Function.{IsEntry}
 use Rattle.cfg_model.specs.Graph.Graph.{IsOutline}
 use Rattle.cfg_model.specs.Builder.Waits.{IsTarget}
 use Rattle.cfg_model.proofs.Graphs.LeaderFacts.{target_leads}
+use Rattle.cfg_model.proofs.Program.Landing.{call_ends, landing_follows}
 use Rattle.cfg_model.proofs.Graphs.Joined.{leader_starts}
 use Rattle.cfg_model.proofs.Graphs.Lists.{Contains-here}
 use Rattle.cfg_model.proofs.Program.Known.{reached_along, successor_known, target_known, fall_known}
@@ -47,10 +48,12 @@ module _ (map : InstructionMap) (seeds : List ℕ) where
       target_leads map seeds k to r (subst EndsChain (sym h) tt) (IsTarget.onward (successor_by map k to (Jump to) h (Contains-here to [])))
   leads_on r stops (LeadsTo.call {k = k} {to = to} h) = target_leads map seeds k to r (subst EndsChain (sym h) tt) (IsTarget.called h)
   leads_on r stops (LeadsTo.after_indirect {k = k} {to = to} h) =
-      target_leads map seeds k to r (subst EndsChain (sym h) tt) (IsTarget.onward (successor_by map k to (IndirectCall (Some to)) h (Contains-here to [])))
+      target_leads map seeds k to r (subst EndsChain (sym h) tt) (IsTarget.onward (successor_by map k to (IndirectCall (Some to)) h (Contains-append_left (to ∷ []) (targets_at map k) to (Contains-here to []))))
   leads_on r stops (LeadsTo.after_call h back) = record { reached = Reached.past_call r h back; starts = StartsBlock.past_call r h back }
   leads_on r stops (LeadsTo.table {k = k} {to = to} {entries = entries} {full = full} {is_open = is_open} h c) =
       target_leads map seeds k to r (subst EndsChain (sym h) tt) (IsTarget.onward (successor_by map k to (Table entries full is_open) h c))
+  leads_on r stops (LeadsTo.landing {k = k} {to = to} calls c) =
+      target_leads map seeds k to r (call_ends (flow_at map k) calls) (IsTarget.onward (landing_follows map k to calls c))
 
   pub edge_leads : (edge : Edge) → IsEdge map seeds edge → IsLeader map seeds edge.to
   edge_leads edge is = leads_on (reached_along is.from.reached is.ends.runs) is.ends.stops is.leads

@@ -25,6 +25,7 @@ no_tail (LeadsTo.call h) e = cc
 no_tail (LeadsTo.after_indirect h) e = cc
 no_tail (LeadsTo.after_call h back) e = cc
 no_tail (LeadsTo.table h c) e = cc
+no_tail (LeadsTo.landing calls c) e = cc
 
 -- a kind behind that of a jump is behind that of a tail call
 behind_tail : (kind : EdgeKind) → kind ≢ kinds.Tail → 2 < rank kind → 3 < rank kind
@@ -35,6 +36,7 @@ behind_tail kinds.Tail ne lt = absurd (ne refl)
 behind_tail kinds.Call ne lt = omega arith
 behind_tail kinds.After ne lt = omega arith
 behind_tail kinds.Table ne lt = omega arith
+behind_tail kinds.Landing ne lt = omega arith
 
 jump_or_not : (kind : EdgeKind) → (kind ≡ kinds.Jump) ⊎ (kind ≢ kinds.Jump)
 jump_or_not kinds.Jump = inl refl

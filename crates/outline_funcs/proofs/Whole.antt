@@ -52,6 +52,7 @@ call_of e (LeadsTo.call {fall = fall} h) = (fall, h)
 call_of e (LeadsTo.after_indirect h) = cc
 call_of e (LeadsTo.after_call h back) = cc
 call_of e (LeadsTo.table h c) = cc
+call_of e (LeadsTo.landing calls c) = cc
 
 module _ (map : InstructionMap) (seeds : List ℕ) (blocks : List Block) (edges : List Edge) (outline : IsOutline map seeds blocks edges) (entries : List ℕ) (are : AreEntriesBy edges seeds entries) where
   called_entry : (edge : Edge) (a : ℕ) → Contains edges edge → CallsTo edge a → IsEntry map seeds a

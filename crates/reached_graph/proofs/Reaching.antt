@@ -10,7 +10,7 @@ use Rattle.cfg_model.specs.Program.Chain.{GoesOnTo}
 use Rattle.cfg_model.specs.Program.Successors.{successors_of_flow}
 use Rattle.cfg_model.specs.Program.Reach.{Reached}
 use Rattle.cfg_model.specs.Graph.Leader.{StartsBlock}
-use Rattle.cfg_model.proofs.Program.Listed.{none_in, in_cases, head_in}
+use Rattle.cfg_model.proofs.Program.Listed.{none_in, in_cases, head_in, tail_in}
 use Rattle.reached_terms.specs.Sent.{IsSent}
 
 listed : (o : Option ℕ) (s : ℕ) → Contains (option_to_list o) s → o ≡ Some s
@@ -30,8 +30,12 @@ module _ (map : InstructionMap) (seeds : List ℕ) (Holds : ℕ → Type 0) (at_
         | inr in_fall ↦ at_sent s (IsSent.fall r e (listed fall s in_fall))
       ]
   successor_holds k s r holds (Some (Jump target)) e c = at_sent s (IsSent.target r e c)
-  successor_holds k s r holds (Some (Call target fall)) e c = absurd (none_in s c)
-  successor_holds k s r holds (Some (IndirectCall fall)) e c = at_sent s (IsSent.fall r e (listed fall s c))
+  successor_holds k s r holds (Some (Call target fall)) e c = at_sent s (IsSent.target r e (tail_in target s (targets_at map k) c))
+  successor_holds k s r holds (Some (IndirectCall fall)) e c =
+      elim (Contains-append_cases (option_to_list fall) (targets_at map k) s c) [
+        | inl falls ↦ at_sent s (IsSent.fall r e (listed fall s falls))
+        | inr lands ↦ at_sent s (IsSent.target r e lands)
+      ]
   successor_holds k s r holds (Some (Table entries full is_open)) e c = at_sent s (IsSent.target r e c)
   successor_holds k s r holds (Some Return) e c = absurd (none_in s c)
   successor_holds k s r holds (Some Unknown) e c = absurd (none_in s c)
@@ -40,7 +44,7 @@ module _ (map : InstructionMap) (seeds : List ℕ) (Holds : ℕ → Type 0) (at_
   pub reached_holds : {a : ℕ} → Reached map seeds a → Holds a
   reached_holds (Reached.seed {a = a} c) = at_sent a (IsSent.seed c)
   reached_holds (Reached.onward {a = a} {b = b} r successor) = successor_holds a b r (reached_holds r) (flow_at map a) refl successor
-  reached_holds (Reached.called {a = a} {target = target} r call) = at_sent target (IsSent.target r call (head_in target []))
+  reached_holds (Reached.called {a = a} {target = target} r call) = at_sent target (IsSent.target r call (head_in target (targets_at map a)))
   reached_holds (Reached.past_call {a = a} {target = target} {fall = fall} r call back) = at_sent fall (IsSent.past_call r call back)
 
 two_four : ◌≡◌ {A = Option ℕ} (Some 2) (Some 4) → ⊥

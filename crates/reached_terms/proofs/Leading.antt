@@ -1,13 +1,15 @@
 -- Why what is given to a change is so.
 use Rattle.std.proofs.Common.{◌≡◌, ◌⊎◌, ℕ, List, [], ◌∷◌, ◌++◌, Option, Some, None, IsSome, refl, sym, ◌∙◌, subst, arith, ◌+◌, ◌<◌, ◌≤◌, length, take, get_or}
-use Rattle.std.specs.Prelude.{OnOk, Result, Ok, Err, All}
+use Rattle.std.specs.Prelude.{OnOk, Result, Ok, Err, All, IfSome, option_to_list}
 use Rattle.std.proofs.lemmas.List.{get_or_append_left, length_push, take_all, take_more}
-use Rattle.std.proofs.lemmas.List.Elements.{All-push, Contains-push}
-use Rattle.cfg_model.specs.Program.Instructions.{Instruction, InstructionMap, IsLawful, targets_at}
-use Rattle.cfg_model.specs.Program.Successors.{IsSuccessor, IsCall, ReturnsByItself}
+use Rattle.std.proofs.lemmas.List.Elements.{All-nil, All-cons, All-push, Contains-push, Contains-get_or}
+use Rattle.cfg_model.specs.Program.Instructions.{Instruction, InstructionMap, IsLawful, flow_at, targets_at}
+use Rattle.cfg_model.specs.Program.Successors.{IsSuccessor, IsCall, ReturnsByItself, Calls}
 use Rattle.cfg_model.specs.Program.Reach.{Reached}
 use Rattle.cfg_model.specs.Program.Status.{Returns}
 use Rattle.cfg_model.proofs.Program.Along.{returns_along}
+use Rattle.cfg_model.proofs.Program.Landing.{landing_follows, may_land, pad_sent}
+use Rattle.cfg_model.specs.declared.flow.Flow.{Flow}
 use Rattle.reached_terms.specs.declared.marks.Marks.{Marks}
 use Rattle.numbered.specs.Numbering.{IsNumbering}
 use Rattle.reached_terms.specs.Sent.{IsSent}
@@ -101,6 +103,13 @@ module _ (map : InstructionMap) (number : ℕ → ℕ) (count : ℕ) (numbering 
   unfolding number_is
   on_call seeds target fall call reached = record { from = number_is; call = call; reached = reached }
 
+  -- a reached call leads to its landing pad
+  pub on_landing : (seeds : List ℕ) (flow : Flow) → flow_at map k ≡ Some flow → Calls (Some flow) → Reached map seeds k → All (LeadsOn map number seeds n) (targets_at map k)
+  on_landing seeds flow at calls reached i d below =
+      let b = get_or (targets_at map k) i d in
+      let there = Contains-get_or (targets_at map k) i d below in
+      on_successor seeds b (landing_follows map k b (may_land map k flow at calls) there) (IsSent.target reached at (pad_sent (targets_at map k) flow b calls there))
+
   pub on_itself : ReturnsByItself map k → ReturnsBy map number n
   on_itself leaves a a_has a_is = subst (Returns map) (same_place a a_has a_is) (Returns.by_itself leaves)
 
@@ -111,6 +120,15 @@ targets_known map lawful k has = at (map k) refl has
     at : (o : Option Instruction) → map k ≡ o → IsSome o → All (λ b. IsSome (map b)) (targets_at map k)
     at None is there = absurd (cc)
     at (Some i) is there = rw is (lawful k i is).kept
+
+-- the landing pad of a call is all that it keeps
+pub pad_of : (P : ℕ → Type 0) (o : Option ℕ) (kept : List ℕ) → kept ≡ option_to_list o → All P kept → IfSome o P
+pad_of P None kept is all = tt
+pad_of P (Some pad) kept is all = (subst (λ xs. All P xs) is all) 0 pad (omega arith)
+
+pub of_pad : (P : ℕ → Type 0) (o : Option ℕ) (kept : List ℕ) → kept ≡ option_to_list o → IfSome o P → All P kept
+of_pad P None kept is some = subst (λ xs. All P xs) (sym is) (λ k d below. absurd (omega (arith, below)))
+of_pad P (Some pad) kept is some = subst (λ xs. All P xs) (sym is) (All-cons P pad [] some (All-nil P))
 
 -- all of a list, and one more
 pub all_split : (P : ℕ → Type 0) (xs : List ℕ) (x : ℕ) → All P (xs ++ x ∷ []) → All P xs × P x

@@ -11,7 +11,3 @@ pub mod Returning
 pub mod Telling
 pub mod Closing
 pub mod Filtered
-pub mod Marked
-pub mod Ending
-pub mod Widening
-pub mod Resuming

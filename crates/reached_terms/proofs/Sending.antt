@@ -12,6 +12,7 @@ use Rattle.cfg_model.specs.Program.Successors.{IsSuccessor, IsCall}
 use Rattle.cfg_model.specs.Program.Reach.{Reached}
 use Rattle.cfg_model.specs.Graph.Leader.{IsLeader, StartsBlock, targets_by, fall_by}
 use Rattle.cfg_model.proofs.Program.Known.{successor_from_flow, successor_known, target_known, fall_known}
+use Rattle.cfg_model.proofs.Program.Landing.{landing_follows, may_land}
 use Rattle.cfg_model.proofs.Program.Listed.{none_in, in_cases}
 use Rattle.reached_terms.specs.declared.marks.Way.{Way}
 use Rattle.reached_terms.specs.declared.marks.Marks.{Marks}
@@ -33,12 +34,15 @@ sends map k a (Branch taken fall) at there = (
 sends map k a (Jump target) at there = (subst EndsChain (sym at) tt, inl (successor_from_flow map k (Jump target) at a there))
 sends map k a (Call target fall) at there = (
   subst EndsChain (sym at) tt,
-  elim (in_cases target [] a there) [
+  elim (in_cases target (targets_at map k) a there) [
     | inl same ↦ inr (fall, subst (λ t. flow_at map k ≡ Some (Call t fall)) same at)
-    | inr none ↦ absurd (none_in a none)
+    | inr lands ↦ inl (landing_follows map k a (may_land map k (Call target fall) at tt) lands)
   ],
 )
-sends map k a (IndirectCall fall) at there = absurd (none_in a there)
+sends map k a (IndirectCall fall) at there = (
+  subst EndsChain (sym at) tt,
+  inl (landing_follows map k a (may_land map k (IndirectCall fall) at tt) there),
+)
 sends map k a (Table entries full is_open) at there = (subst EndsChain (sym at) tt, inl (successor_from_flow map k (Table entries full is_open) at a there))
 sends map k a Return at there = absurd (none_in a there)
 sends map k a Unknown at there = absurd (none_in a there)
@@ -50,7 +54,7 @@ falls map k a (Straight next) at is = absurd (none-some a is)
 falls map k a (Branch taken fall) at is = (subst EndsChain (sym at) tt, successor_from_flow map k (Branch taken fall) at a (in_second taken fall a is))
 falls map k a (Jump target) at is = absurd (none-some a is)
 falls map k a (Call target fall) at is = absurd (none-some a is)
-falls map k a (IndirectCall fall) at is = (subst EndsChain (sym at) tt, successor_from_flow map k (IndirectCall fall) at a (in_one fall a is))
+falls map k a (IndirectCall fall) at is = (subst EndsChain (sym at) tt, successor_from_flow map k (IndirectCall fall) at a (Contains-append_left (option_to_list fall) (targets_at map k) a (in_one fall a is)))
 falls map k a (Table entries full is_open) at is = absurd (none-some a is)
 falls map k a Return at is = absurd (none-some a is)
 falls map k a Unknown at is = absurd (none-some a is)

@@ -1,5 +1,5 @@
 -- A terminator whose flow is followed.
-use Rattle.std.proofs.Common.{◌≡◌, ℕ, Bool, [], ◌∷◌, ◌++◌, Option, Some, None, refl, sym, ◌∙◌, subst, inl, inr}
+use Rattle.std.proofs.Common.{◌≡◌, ℕ, Bool, [], ◌∷◌, ◌++◌, Option, Some, None, refl, sym, ◌∙◌, subst, inl, inr, ⊎_elim}
 use Rattle.std.specs.Prelude.{IfSome, All, Contains, option_to_list}
 use Rattle.cfg_model.specs.declared.flow.Flow.{Flow}
 use Rattle.cfg_model.specs.declared.flow.Flow.TheVariants.{Branch, Jump, Call, IndirectCall, Table, Return, Unknown, Stop}
@@ -8,6 +8,7 @@ use Rattle.cfg_model.specs.Program.Successors.{LeavesFunction, successors_by}
 use Rattle.cfg_model.proofs.Program.Known.{successor_to_flow}
 use Rattle.cfg_model.proofs.Program.Listed.{none_in, head_in, tail_in, in_cases}
 use Rattle.std.proofs.lemmas.Option.{none-some}
+use Rattle.std.proofs.lemmas.List.Elements.{Contains-append_cases}
 use Rattle.reached_terms.specs.declared.marks.Marks.{Marks}
 use Rattle.reached_terms.specs.Inner.Marks.{IsOn, IsLed, IsCalled, IsVisited, IsCutOff}
 
@@ -67,17 +68,24 @@ module _ (map : InstructionMap) (number : ℕ → ℕ) (m : Marks) (n k : ℕ) (
   pub jump_visited : (target : ℕ) → flow_at map k ≡ Some (Jump target) → IsLed map number m n target → IsVisited map number m k
   jump_visited target at led = visited_from (Jump target) at (λ b there. one_of (IsLed map number m n) target led b there) (λ leaves. absurd leaves) (λ t f call. absurd (cc))
 
-  pub call_visited : (target : ℕ) (fall : Option ℕ) → flow_at map k ≡ Some (Call target fall) → IsCalled map number m n target fall → IsVisited map number m k
-  call_visited target fall at called =
-      visited_from (Call target fall) at (λ b there. absurd (none_in b there)) (λ leaves. absurd leaves)
+  -- all kept targets, one by one
+  kept_led : All (IsLed map number m n) (targets_at map k) → (b : ℕ) → Contains (targets_at map k) b → IsLed map number m n b
+  kept_led led b there = subst (IsLed map number m n) there.2 (led there.0 b there.1)
+
+  pub call_visited : (target : ℕ) (fall : Option ℕ) → flow_at map k ≡ Some (Call target fall) → IsCalled map number m n target fall → All (IsLed map number m n) (targets_at map k) → IsVisited map number m k
+  call_visited target fall at called led =
+      visited_from (Call target fall) at (kept_led led) (λ leaves. absurd leaves)
       (λ t f call. subst (λ u. IsCalled map number m n u f) (target_is call) (subst (λ g. IsCalled map number m n target g) (fall_is call) called))
 
-  pub indirect_visited : (fall : Option ℕ) → flow_at map k ≡ Some (IndirectCall fall) → IfSome fall (IsLed map number m n) → IsVisited map number m k
-  indirect_visited fall at led = visited_from (IndirectCall fall) at (λ b there. any_of (IsLed map number m n) fall led b there) (λ leaves. absurd leaves) (λ t f call. absurd (cc))
+  pub indirect_visited : (fall : Option ℕ) → flow_at map k ≡ Some (IndirectCall fall) → IfSome fall (IsLed map number m n) → All (IsLed map number m n) (targets_at map k) → IsVisited map number m k
+  indirect_visited fall at falls lands =
+      visited_from (IndirectCall fall) at
+      (λ b there. ⊎_elim (λ first. any_of (IsLed map number m n) fall falls b first) (λ pad. kept_led lands b pad) (Contains-append_cases (option_to_list fall) (targets_at map k) b there))
+      (λ leaves. absurd leaves) (λ t f call. absurd (cc))
 
   pub table_visited : (entries : ℕ) (full is_open : Bool) → flow_at map k ≡ Some (Table entries full is_open) → All (IsLed map number m n) (targets_at map k) → IsVisited map number m k
   table_visited entries full is_open at led =
-      visited_from (Table entries full is_open) at (λ b there. subst (IsLed map number m n) there.2 (led there.0 b there.1)) (λ leaves. absurd leaves) (λ t f call. absurd (cc))
+      visited_from (Table entries full is_open) at (kept_led led) (λ leaves. absurd leaves) (λ t f call. absurd (cc))
 
   pub return_visited : flow_at map k ≡ Some Return → IsOn m.returns.items n → IsVisited map number m k
   return_visited at on = visited_from Return at (λ b there. absurd (none_in b there)) (λ leaves. on) (λ t f call. absurd (cc))

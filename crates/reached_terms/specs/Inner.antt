@@ -2,4 +2,3 @@
 pub mod Marks
 pub mod Steps
 pub mod Closing
-pub mod Resuming

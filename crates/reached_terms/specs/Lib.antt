@@ -1,4 +1,3 @@
 pub mod Reached
 pub mod Sent
-pub mod Wider
 pub mod Inner

@@ -10,12 +10,10 @@
 //! - `marks`: what is known of the terminators, and the changes of it.
 //! - `closure`: the closure from the seeds.
 //! - `reached`: what a program reaches, as marks.
-//! - `wider`: what a wider program reaches, found from there.
 #![tactic(auto)]
 
 mod closure;
 mod marks;
 mod reached;
-mod wider;
 
 pub use reached::ReachedTerms;

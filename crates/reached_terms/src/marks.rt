@@ -5,6 +5,7 @@ ghost use Rattle.std.specs.Prelude.{IfOk, OnOk, IsSome, IfSome, All, option_to_l
 ghost use Rattle.cfg_model.specs.Program.Instructions.{InstructionMap, IsLawful, targets_at};
 ghost use Rattle.cfg_model.specs.Program.Chain.{IsTerminator, IsTerminatorOf};
 ghost use Rattle.cfg_model.specs.Program.Reach.{Reached};
+ghost use Rattle.cfg_model.specs.Program.Successors.{MayLand};
 ghost use Rattle.numbered.specs.Numbering.{IsNumbering};
 ghost use Rattle.reached_terms.specs.Sent.{IsSent};
 ghost use Rattle.reached_terms.specs.Inner.Marks.{AreKept, AreRight, AreTold, IsCalled, IsDone};
@@ -291,8 +292,14 @@ impl Marks {
         match code.flow(k) {
             Flow::Branch { taken, fall } => self.branch(code, n, taken, fall),
             Flow::Jump { target } => self.lead(code, n, target),
-            Flow::Call { target, fall } => self.call_from(code, n, target, fall),
-            Flow::IndirectCall { fall } => self.lead_any(code, n, fall),
+            Flow::Call { target, fall } => {
+                self.call_from(code, n, target, fall)?;
+                self.land(code, n, k)
+            }
+            Flow::IndirectCall { fall } => {
+                self.lead_any(code, n, fall)?;
+                self.land(code, n, k)
+            }
             Flow::Table { .. } => self.table(code, n, k),
             Flow::Return | Flow::Unknown => self.mark(n),
             Flow::Stop | Flow::Straight { .. } => Ok(()),
@@ -384,6 +391,21 @@ impl Marks {
             Some(fall) => self.call(code, n, to, fall),
             None => Ok(()),
         }
+    }
+
+    /// A call leads to its landing pad, if it has one.
+    fn land<C: Numbered>(&mut self, code: &C, n: u32, k: u64) -> Result<(), Memory>
+        requires kept { AreKept (C.map code.now) (C.number code.now) self.old }
+        requires number { IsNumberOf (C.map code.now) (C.number code.now) n }
+        requires calls { MayLand (C.map code.now) k }
+        ensures step { OnOk result (Step (C.map code.now) (C.number code.now)
+            (λ seeds. All (LeadsOn (C.map code.now) (C.number code.now) seeds n)
+            (targets_at (C.map code.now) k)) self.old self.new) }
+        ensures led { OnOk result
+            (All (IsLed (C.map code.now) (C.number code.now) self.new n)
+            (targets_at (C.map code.now) k)) }
+    {
+        self.lead_any(code, n, code.landing(k))
     }
 
     /// A table jump leads to each of its kept targets.

@@ -3,12 +3,9 @@
 //!
 //! - `whole_run`: a whole run over any input and any sinks, and what is proved of it.
 //! - `workers`: workers as the maker of what a text shows.
-//! - `safe`: a run in which neither the input nor standard output can fail.
 #![tactic(auto)]
 
-mod safe;
 mod whole_run;
 mod workers;
 
-pub use safe::run_safely;
 pub use whole_run::run;

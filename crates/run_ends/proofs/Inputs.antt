@@ -27,6 +27,7 @@ pub nothing-read : (path : Option (List ℕ)) (IsRead IsMalformed : Type 0) (tel
     → now ≡ Nothing → ¬ IsRead → FileReadFor path IsRead IsMalformed tells now old old faults faults
 nothing-read path IsRead IsMalformed tells now old faults closed never = record {
   opened = nothing-opened path tells now closed;
+  is_open = λ read. absurd (never read);
   untouched = λ _. (refl, refl);
   read_to_end = all-some old (λ bytes small read. absurd (never read));
   too_large = all-some old (λ bytes more read. absurd (never read));
@@ -39,6 +40,7 @@ pub read-alike : (path : Option (List ℕ)) (IsRead OtherRead IsMalformed OtherM
     → FileReadFor path IsRead IsMalformed tells now old new before after → FileReadFor path OtherRead OtherMalformed tells now old new before after
 read-alike path IsRead OtherRead IsMalformed OtherMalformed tells now old new before after reads sound file = record {
   opened = file.opened;
+  is_open = λ read. file.is_open (reads read);
   untouched = file.untouched;
   read_to_end = IfSome_then old file.read_to_end (λ bytes ends small read. ends small (reads read));
   too_large = IfSome_then old file.too_large (λ bytes takes more read. takes more (reads read));

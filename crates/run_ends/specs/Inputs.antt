@@ -21,12 +21,18 @@ abbrev pub OpenedFor : Option (List ℕ) → Bool → Opened → Type 0
 OpenedFor None tells now = now ≡ Nothing
 OpenedFor (Some path) tells now = (now ≡ Nothing) ⊎ (now ≡ Something (told_path tells path))
 
+-- The file that is asked for is the one that is open.
+abbrev pub IsOpenFor : Option (List ℕ) → Bool → Opened → Type 0
+IsOpenFor None tells now = Unit {0}
+IsOpenFor (Some path) tells now = now ≡ Something (told_path tells path)
+
 -- What was done to the input for what is asked for. `IsRead` says that a file was read, and
 -- `IsMalformed` that it was refused, as one of more bytes than the limit is. `old` and `new` are the
 -- bytes that are left before and after, and `before` and `after` the counts of calls that failed.
 pub record FileReadFor (path : Option (List ℕ)) (IsRead IsMalformed : Type 0)
     (tells : Bool) (now : Opened) (old new : Option (List ℕ)) (before after : ℕ) : Type 0 where
   pub opened : OpenedFor path tells now
+  pub is_open : IsRead → IsOpenFor path tells now
   pub untouched : path ≡ None → (new ≡ old) × (after ≡ before)
   pub read_to_end : IfSome old (λ bytes. length bytes ≤ FILE_LIMIT → IsRead → new ≡ Some [])
   pub too_large : IfSome old (λ bytes. FILE_LIMIT < length bytes → IsRead

@@ -136,6 +136,51 @@ pub enum Insn {
         reads: u32,
         writes: u32,
     },
+    /// An instruction of an extension after which control does not go straight on, by the integer
+    /// registers that it uses alone, as masks (chapter "Zc*").
+    Away {
+        kind: AwayKind,
+        reads: u32,
+        writes: u32,
+    },
+    /// A word of a vendor in opcode 0B (custom-0), by its three register fields. Control goes
+    /// straight on after it.
+    Vendor {
+        kind: VendorKind,
+        shift: u8,
+        rd: u8,
+        rs1: u8,
+        rs2: u8,
+    },
+}
+
+/// Where control goes after an instruction of [`Insn::Away`] (chapter "Zc*").
+#[derive(Clone, Copy, Debug, PartialEq, Eq)]
+pub enum AwayKind {
+    /// CM.POPRET and CM.POPRETZ: to the return address that they load.
+    Return,
+    /// CM.JT: to an entry of the table of JVT, which no file tells.
+    Unknown,
+    /// CM.JALT: a call of such an entry.
+    Call,
+}
+
+/// The words of a vendor that compute an entry of a jump table, and all others (XTheadBa and
+/// XTheadMemIdx). Those compute `rs1` plus `rs2`, or its low 32 bits, shifted left by 0 to 3.
+#[derive(Clone, Copy, Debug, PartialEq, Eq)]
+pub enum VendorKind {
+    /// TH.ADDSL: the sum.
+    Addsl,
+    /// TH.LRW: the word at the sum.
+    Lrw,
+    /// TH.LURW: the word at the sum with the low 32 bits of `rs2`.
+    Lurw,
+    /// TH.LRD: the doubleword at the sum.
+    Lrd,
+    /// TH.LURD: the doubleword at the sum with the low 32 bits of `rs2`.
+    Lurd,
+    /// Any other word: it may read and write each of the three registers.
+    Other,
 }
 
 /// The sign and zero extensions of a byte and of a halfword (chapter "B" Extension for Bit Manipulation, "Zbb").

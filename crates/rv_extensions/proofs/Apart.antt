@@ -6,7 +6,7 @@ use Rattle.elf_image.specs.declared.extensions.Extensions.{Extensions}
 use Rattle.rv_decode.specs.Fields.{field}
 use Rattle.rv_decode.specs.declared.instructions.Insn.{Insn}
 use Rattle.rv_float.specs.Table.{is_among}
-use Rattle.rv_extensions.specs.Rows.{Condition, Row, meets, holds, first_meaning}
+use Rattle.rv_extensions.specs.Rows.{Condition, bits, differ, Row, meets, holds, first_meaning}
 use Rattle.rv_extensions.specs.Laws.{AtMostOneHolds}
 
 -- ---- tests that are true or false
@@ -42,7 +42,10 @@ equal_true a b is = grind (arith, nat_tests)
 
 -- whether no word can meet both
 abbrev pub clash : Condition → Condition → Bool
-clash c d = (eqb c.high d.high && eqb c.low d.low) && not (list_any (is_among d.values) c.values)
+clash (bits high low cs) (bits top end ds) =
+    (eqb high top && eqb low end) && not (list_any (is_among ds) cs)
+clash (bits high low cs) (differ a b c d) = false
+clash (differ a b c d) other = false
 
 none_step : (ds : List ℕ) (x v : ℕ) (rest b more : Bool) → eqb x v ≡ b → is_among ds v ≡ false → (rest ≡ true → is_among ds x ≡ false) → (b || rest) ≡ true → is_among ds x ≡ false
 none_step ds x v rest true more is here later h = subst (λ y. is_among ds y ≡ false) (sym (equal_true x v is)) here
@@ -63,10 +66,12 @@ field_at w a b c d h =
     cc
 
 pub clashes : (w : ℕ) (c d : Condition) → clash c d ≡ true → meets w c ≡ true → meets w d ≡ false
-clashes w c d h m =
-    let same = field_at w c.high c.low d.high d.low (and_left (eqb c.high d.high && eqb c.low d.low) (not (list_any (is_among d.values) c.values)) h) in
-    let none = not_true (list_any (is_among d.values) c.values) (and_right (eqb c.high d.high && eqb c.low d.low) (not (list_any (is_among d.values) c.values)) h) in
-    shared (field w d.high d.low) d.values c.values none (subst (λ x. is_among c.values x ≡ true) same m)
+clashes w (bits high low cs) (bits top end ds) h m =
+    let same = field_at w high low top end (and_left (eqb high top && eqb low end) (not (list_any (is_among ds) cs)) h) in
+    let none = not_true (list_any (is_among ds) cs) (and_right (eqb high top && eqb low end) (not (list_any (is_among ds) cs)) h) in
+    shared (field w top end) ds cs none (subst (λ x. is_among cs x ≡ true) same m)
+clashes w (bits high low cs) (differ a b c d) h m = cc
+clashes w (differ a b c d) other h m = cc
 
 -- ---- lists of conditions
 
@@ -128,16 +133,17 @@ one_place (x ∷ xs) a w (suc i) (suc j) r s p q h k = ap suc (one_place xs (and
 
 -- ---- the row that an instruction comes from
 
-abbrev pub Holding : List Row → ℕ → Type 0
-Holding rs w = (i : ℕ) × (r : Row) × (slice_get rs i ≡ Some r) × (holds r w ≡ true)
+abbrev pub Holding : Extensions → List Row → ℕ → Type 0
+Holding e rs w = (i : ℕ) × (r : Row) × (slice_get rs i ≡ Some r) × (holds r w ≡ true) × (r.named e ≡ true)
 
-comes_step : (e : Extensions) (x : Row) (xs : List Row) (w : ℕ) (found : Insn) (b n : Bool) → holds x w ≡ b → (first_meaning e xs w ≡ Some found → Holding xs w) → cond (b && n) (Some (x.meaning w)) (first_meaning e xs w) ≡ Some found → Holding (x ∷ xs) w
-comes_step e x xs w found true n h later is = (zero, x, refl, h)
-comes_step e x xs w found false n h later is = let c = later is in (suc c.0, c.1, c.2, c.3)
+comes_step : (e : Extensions) (x : Row) (xs : List Row) (w : ℕ) (found : Insn) (b n : Bool) → holds x w ≡ b → x.named e ≡ n → (first_meaning e xs w ≡ Some found → Holding e xs w) → cond (b && n) (Some (x.meaning w)) (first_meaning e xs w) ≡ Some found → Holding e (x ∷ xs) w
+comes_step e x xs w found true true h g later is = (zero, x, refl, h, g)
+comes_step e x xs w found true false h g later is = let c = later is in (suc c.0, c.1, c.2, c.3, c.4)
+comes_step e x xs w found false n h g later is = let c = later is in (suc c.0, c.1, c.2, c.3, c.4)
 
-pub comes_from : (e : Extensions) (rs : List Row) (w : ℕ) (found : Insn) → first_meaning e rs w ≡ Some found → Holding rs w
+pub comes_from : (e : Extensions) (rs : List Row) (w : ℕ) (found : Insn) → first_meaning e rs w ≡ Some found → Holding e rs w
 comes_from e [] w found is = absurd (cc)
-comes_from e (x ∷ xs) w found is = comes_step e x xs w found (holds x w) (x.named e) refl (comes_from e xs w found) is
+comes_from e (x ∷ xs) w found is = comes_step e x xs w found (holds x w) (x.named e) refl refl (comes_from e xs w found) is
 
 -- ---- a file that names nothing
 

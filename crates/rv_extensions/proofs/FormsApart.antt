@@ -9,12 +9,19 @@ use Rattle.rv_float.specs.Forms.{float_expansion, float_forms}
 use Rattle.rvc_expand.specs.Table.{expansion, forms, quadrant_0, quadrant_1, quadrant_2}
 use Rattle.rvc_expand.specs.Halfword.{lui_immediate, addi16sp_immediate}
 use Rattle.rv_extensions.specs.Rows.{Row, meets, holds}
-use Rattle.rv_extensions.specs.Forms.{extension_form, extension_forms, memory_forms, arithmetic_forms, may_be_forms}
+use Rattle.rv_extensions.specs.Forms.{extension_form, extension_forms, memory_forms, arithmetic_forms, may_be_forms, stack_forms, takes_doubles}
 use Rattle.rv_extensions.specs.Laws.{FormsAreApart}
 use Rattle.rv_extensions.proofs.Apart.{comes_from, and_left, and_right, equal_true}
 
 abbrev IsNoForm : ℕ → Type 0
 IsNoForm h = (expansion h ≡ None) × (float_expansion h ≡ None)
+
+-- the same of what takes the place of a load or a store of a double
+abbrev IsNoFormUnder : Extensions → ℕ → Type 0
+IsNoFormUnder e h = (expansion h ≡ None) × (takes_doubles e ≡ false → float_expansion h ≡ None)
+
+always : (e : Extensions) (h : ℕ) → IsNoForm h → IsNoFormUnder e h
+always e h none = (none.0, λ keeps. none.1)
 
 -- ---- halfwords by their fields
 
@@ -84,23 +91,102 @@ may_be h is =
     let f = more (field h 7 7) 1 _ d in
     at_may_be h (one (field h 1 0) 1 _ is) (one (field h 15 13) 3 _ a) (one (field h 12 12) 0 _ b) (one (field h 7 7) 1 _ d) (one (field h 6 2) 0 true f)
 
-abbrev EachIsNoForm : List Row → ℕ → Type 0
-EachIsNoForm [] h = Unit {0}
-EachIsNoForm (r ∷ rs) h = (holds r h ≡ true → IsNoForm h) × EachIsNoForm rs h
+at_stack : (h : ℕ) → field h 1 0 ≡ 2 → field h 15 13 ≡ 5 → expansion h ≡ None
+unfolding expansion forms quadrant_0 quadrant_1 quadrant_2
+at_stack h q f = rw (q, f) refl
 
-each : (h : ℕ) → EachIsNoForm extension_forms h
-unfolding extension_forms memory_forms arithmetic_forms may_be_forms
-each h = (memory h _, (memory h _, (memory h _, (memory h _, (memory h _, (unary h _, (unary h _, (unary h _, (unary h _, (unary h _, (unary h _, (multiply h, (may_be h, tt)))))))))))))
+taken : (a b c : Bool) → (a || (b || c)) ≡ false → (b ≡ false) × (c ≡ false)
+taken false false false is = (refl, refl)
+taken false false true is = cc
+taken false true c is = cc
+taken true b c is = cc
 
-at : (rs : List Row) (h i : ℕ) (r : Row) → EachIsNoForm rs h → slice_get rs i ≡ Some r → holds r h ≡ true → IsNoForm h
-at [] h i r none is held = absurd (cc)
-at (x ∷ xs) h zero r none is held =
+pushes : (e : Extensions) (h : ℕ) (rest : Bool) → e.zcmp ≡ true → (is_among (2 ∷ []) (field h 1 0) && (is_among (5 ∷ []) (field h 15 13) && rest)) ≡ true → IsNoFormUnder e h
+pushes e h rest named is = (
+  at_stack h (one (field h 1 0) 2 _ is) (one (field h 15 13) 5 rest (more (field h 1 0) 2 _ is)),
+  λ keeps. let off = (taken e.zfinx e.zcmp e.zcmt keeps).0 in absurd (cc),
+)
+
+jumps : (e : Extensions) (h : ℕ) (rest : Bool) → e.zcmt ≡ true → (is_among (2 ∷ []) (field h 1 0) && (is_among (5 ∷ []) (field h 15 13) && rest)) ≡ true → IsNoFormUnder e h
+jumps e h rest named is = (
+  at_stack h (one (field h 1 0) 2 _ is) (one (field h 15 13) 5 rest (more (field h 1 0) 2 _ is)),
+  λ keeps. let off = (taken e.zfinx e.zcmp e.zcmt keeps).1 in absurd (cc),
+)
+
+abbrev EachIsNoForm : Extensions → List Row → ℕ → Type 0
+EachIsNoForm e [] h = Unit {0}
+EachIsNoForm e (r ∷ rs) h = (holds r h ≡ true → r.named e ≡ true → IsNoFormUnder e h) × EachIsNoForm e rs h
+
+each : (e : Extensions) (h : ℕ) → EachIsNoForm e extension_forms h
+unfolding extension_forms memory_forms arithmetic_forms may_be_forms stack_forms
+each e h = (
+  λ is n. always e h (memory h _ is),
+  (
+    λ is n. always e h (memory h _ is),
+    (
+      λ is n. always e h (memory h _ is),
+      (
+        λ is n. always e h (memory h _ is),
+        (
+          λ is n. always e h (memory h _ is),
+          (
+            λ is n. always e h (unary h _ is),
+            (
+              λ is n. always e h (unary h _ is),
+              (
+                λ is n. always e h (unary h _ is),
+                (
+                  λ is n. always e h (unary h _ is),
+                  (
+                    λ is n. always e h (unary h _ is),
+                    (
+                      λ is n. always e h (unary h _ is),
+                      (
+                        λ is n. always e h (multiply h is),
+                        (
+                          λ is n. always e h (may_be h is),
+                          (
+                            λ is n. pushes e h _ n is,
+                            (
+                              λ is n. pushes e h _ n is,
+                              (
+                                λ is n. pushes e h _ n is,
+                                (
+                                  λ is n. pushes e h _ n is,
+                                  (
+                                    λ is n. pushes e h _ n is,
+                                    (
+                                      λ is n. pushes e h _ n is,
+                                      (λ is n. jumps e h _ n is, (λ is n. jumps e h _ n is, tt)),
+                                    ),
+                                  ),
+                                ),
+                              ),
+                            ),
+                          ),
+                        ),
+                      ),
+                    ),
+                  ),
+                ),
+              ),
+            ),
+          ),
+        ),
+      ),
+    ),
+  ),
+)
+
+at : (e : Extensions) (rs : List Row) (h i : ℕ) (r : Row) → EachIsNoForm e rs h → slice_get rs i ≡ Some r → holds r h ≡ true → r.named e ≡ true → IsNoFormUnder e h
+at e [] h i r none is held named = absurd (cc)
+at e (x ∷ xs) h zero r none is held named =
     let same : x ≡ r = cc in
-    none.0 (ap (λ y. holds y h) same ∙ held)
-at (x ∷ xs) h (suc i) r none is held = at xs h i r none.1 is held
+    none.0 (ap (λ y. holds y h) same ∙ held) (ap (λ (y : Row). y.named e) same ∙ named)
+at e (x ∷ xs) h (suc i) r none is held named = at e xs h i r none.1 is held named
 
 pub forms_are_apart : FormsAreApart
 unfolding extension_form
 forms_are_apart e half found is =
     let from = comes_from e extension_forms half found is in
-    at extension_forms half from.0 from.1 (each half) from.2 from.3
+    at e extension_forms half from.0 from.1 (each e half) from.2 from.3 from.4

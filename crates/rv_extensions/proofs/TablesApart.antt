@@ -2,6 +2,7 @@
 -- other. The rows of the float table are brought into the form of conditions first.
 use Rattle.std.proofs.Common.{◌≡◌, ℕ, zero, suc, Bool, true, false, cond, eqb, not, ◌&&◌, ◌||◌, ◌==◌, if◌then◌else◌, List, [], ◌∷◌, ◌++◌, Option, Some, None, refl, sym, ap, ◌∙◌, slice_get}
 use Rattle.std.specs.List.{list_all, list_any}
+use Rattle.std.specs.Option.{option_or}
 use Rattle.elf_image.specs.declared.extensions.Extensions.{Extensions}
 use Rattle.rv_decode.specs.declared.instructions.Insn.{Insn}
 use Rattle.rv_decode.specs.Table as base
@@ -12,7 +13,9 @@ use Rattle.rv_float.specs.Table.{float_instruction, float_rows, memory_rows, fus
 use Rattle.rv_extensions.specs.Rows.{Condition, Row, meets, holds, first_meaning, bits, opcode_is, funct3_in, funct7_in, rs2_in}
 use Rattle.rv_extensions.specs.Table as table
 use Rattle.rv_extensions.specs.Table.{extension_rows, extension_instruction, rounds}
+use Rattle.rv_extensions.specs.IntegerFloats.{integer_float, integer_float_rows, integer_fused_rows, integer_operation_rows, integer_half_rows, integer_scalar_rows, named_instruction}
 use Rattle.rv_extensions.specs.Laws.{TablesAreApart}
+use Rattle.rv_extensions.proofs.IntegerBy.{not_named}
 use Rattle.rv_extensions.proofs.Apart.{exclude, excluded, passes_at, comes_from, and_left, and_right}
 
 -- ---- rows of the base table as conditions
@@ -33,8 +36,18 @@ all_as w [] = refl
 all_as w (c ∷ cs) = rw (or_false (base.meets w c), all_as w cs) refl
 
 base_apart : list_all (λ (r : Row). list_all (λ (s : base.Row). exclude r.conditions (as_conditions s.conditions)) rows) extension_rows ≡ true
-unfolding rows upper_rows jump_rows branch_rows load_rows store_rows imm_rows imm_w_rows reg_rows reg_w_rows atomic_rows_of atomic_rows fence_rows system_rows extension_rows table.load_rows table.store_rows table.block_rows table.imm_rows table.imm_w_rows table.reg_rows table.reg_w_rows table.amo_rows table.system_rows table.fused_rows table.half_rows table.additional_rows table.vector_rows table.vector_crypto_rows
+unfolding rows upper_rows jump_rows branch_rows load_rows store_rows imm_rows imm_w_rows reg_rows reg_w_rows atomic_rows_of atomic_rows fence_rows system_rows extension_rows table.load_rows table.store_rows table.block_rows table.imm_rows table.imm_w_rows table.reg_rows table.reg_w_rows table.amo_rows table.system_rows table.fused_rows table.half_rows table.additional_rows table.vector_rows table.vector_crypto_rows table.vendor_rows
 base_apart = refl
+
+integers_apart : list_all (λ (r : Row). list_all (λ (s : base.Row). exclude r.conditions (as_conditions s.conditions)) rows) integer_float_rows ≡ true
+unfolding rows upper_rows jump_rows branch_rows load_rows store_rows imm_rows imm_w_rows reg_rows reg_w_rows atomic_rows_of atomic_rows fence_rows system_rows integer_float_rows integer_fused_rows integer_operation_rows integer_half_rows integer_scalar_rows
+integers_apart = refl
+
+no_base_row : (w : ℕ) (rs : List Row) (i : ℕ) (r : Row) → list_all (λ (r : Row). list_all (λ (s : base.Row). exclude r.conditions (as_conditions s.conditions)) rows) rs ≡ true → slice_get rs i ≡ Some r → holds r w ≡ true → base.instruction w ≡ None
+no_base_row w rs i r apart at held =
+    let from_base = passes_at (λ (r : Row). list_all (λ (s : base.Row). exclude r.conditions (as_conditions s.conditions)) rows) rs i r at apart in
+    (none_where_no_row_holds w).1 (λ k s there. sym (all_as w s.conditions)
+    ∙ excluded w r.conditions (as_conditions s.conditions) (passes_at (λ (s : base.Row). exclude r.conditions (as_conditions s.conditions)) rows k s there from_base) held)
 
 -- ---- rows of the float table as conditions
 
@@ -64,7 +77,7 @@ float_conditions =
     float_operation (0x78 ∷ 0x79 ∷ []) (rs2_in (0 ∷ []) ∷ funct3_in (0 ∷ []) ∷ []) ∷ []
 
 float_apart : list_all (λ (r : Row). list_all (exclude r.conditions) float_conditions) extension_rows ≡ true
-unfolding extension_rows table.load_rows table.store_rows table.block_rows table.imm_rows table.imm_w_rows table.reg_rows table.reg_w_rows table.amo_rows table.system_rows table.fused_rows table.half_rows table.additional_rows table.vector_rows table.vector_crypto_rows
+unfolding extension_rows table.load_rows table.store_rows table.block_rows table.imm_rows table.imm_w_rows table.reg_rows table.reg_w_rows table.amo_rows table.system_rows table.fused_rows table.half_rows table.additional_rows table.vector_rows table.vector_crypto_rows table.vendor_rows
 float_apart = refl
 
 and_true : (b : Bool) → (b && true) ≡ b
@@ -102,14 +115,27 @@ no_float : (w : ℕ) (rs : List float.Row) → AllFail rs w → float.first_mean
 no_float w [] fails = refl
 no_float w (r ∷ rs) fails = rw (fails.0) (no_float w rs fails.1)
 
-pub tables_are_apart : TablesAreApart
+-- ---- the tables
+
+other_apart : (e : Extensions) (w : ℕ) (found : Insn) → extension_instruction e w ≡ Some found → (base.instruction w ≡ None) × (float_instruction w ≡ None)
 unfolding extension_instruction float_instruction
-tables_are_apart e w found is =
+other_apart e w found is =
     let from = comes_from e extension_rows w found is in
     let r = from.1 in
-    let from_base = passes_at (λ (r : Row). list_all (λ (s : base.Row). exclude r.conditions (as_conditions s.conditions)) rows) extension_rows from.0 r from.2 base_apart in
     let from_float = passes_at (λ (r : Row). list_all (exclude r.conditions) float_conditions) extension_rows from.0 r from.2 float_apart in (
-      (none_where_no_row_holds w).1 (λ i s at. sym (all_as w s.conditions)
-          ∙ excluded w r.conditions (as_conditions s.conditions) (passes_at (λ (s : base.Row). exclude r.conditions (as_conditions s.conditions)) rows i s at from_base) from.3),
+      no_base_row w extension_rows from.0 r base_apart from.2 from.3,
       no_float w float_rows (fail w r.conditions from.3 float_rows float_conditions (follow w) from_float),
     )
+
+integer_apart : (e : Extensions) (w : ℕ) (found : Insn) → integer_float e w ≡ Some found → base.instruction w ≡ None
+unfolding integer_float
+integer_apart e w found is =
+    let from = comes_from e integer_float_rows w found is in
+    no_base_row w integer_float_rows from.0 from.1 integers_apart from.2 from.3
+
+step : (e : Extensions) (w : ℕ) (found : Insn) (o : Option Insn) → integer_float e w ≡ o → option_or o (extension_instruction e w) ≡ Some found → (base.instruction w ≡ None) × (e.zfinx ≡ false → float_instruction w ≡ None)
+step e w found None none is = let apart = other_apart e w found is in (apart.0, λ off. apart.1)
+step e w found (Some i) some is = (integer_apart e w i some, λ off. let none = not_named e w off in absurd (cc))
+
+pub tables_are_apart : TablesAreApart
+tables_are_apart e w found is = step e w found (integer_float e w) refl is

@@ -7,8 +7,9 @@ use Rattle.rv_float.specs.Table as float
 use Rattle.rv_float.specs.Forms as float_forms
 use Rattle.rvc_expand.specs.Table as compressed
 use Rattle.rv_extensions.specs.Rows.{Row, holds}
-use Rattle.rv_extensions.specs.Table.{extension_rows, extension_instruction}
-use Rattle.rv_extensions.specs.Forms.{extension_forms, extension_form}
+use Rattle.rv_extensions.specs.Table.{extension_rows}
+use Rattle.rv_extensions.specs.IntegerFloats.{integer_float_rows, named_instruction}
+use Rattle.rv_extensions.specs.Forms.{extension_forms, extension_form, takes_doubles}
 
 -- At most one row of a table holds of a word: two that do stand at one place.
 abbrev pub AtMostOneHolds : List Row → Type 0
@@ -18,22 +19,25 @@ AtMostOneHolds rows =
 
 -- So of a word at most one row holds, also of a file that names all extensions.
 abbrev pub AtMostOneRowHolds : Type 0
-AtMostOneRowHolds = AtMostOneHolds extension_rows
+AtMostOneRowHolds = AtMostOneHolds extension_rows × AtMostOneHolds integer_float_rows
 
 abbrev pub AtMostOneFormHolds : Type 0
 AtMostOneFormHolds = AtMostOneHolds extension_forms
 
--- An instruction of an extension is none of the base table, and none of the float table.
+-- An instruction of an extension is none of the base table, and none of the float table, unless the
+-- file has its floats in integer registers.
 abbrev pub TablesAreApart : Type 0
 TablesAreApart =
-    (e : Extensions) (w : ℕ) (found : Insn) → extension_instruction e w ≡ Some found
-    → (base.instruction w ≡ None) × (float.float_instruction w ≡ None)
+    (e : Extensions) (w : ℕ) (found : Insn) → named_instruction e w ≡ Some found
+    → (base.instruction w ≡ None) × (e.zfinx ≡ false → float.float_instruction w ≡ None)
 
--- A 16-bit instruction of an extension is no compressed form of RV64GC.
+-- A 16-bit instruction of an extension is no compressed form of RV64GC, but where the file takes
+-- away the loads and stores of doubles.
 abbrev pub FormsAreApart : Type 0
 FormsAreApart =
     (e : Extensions) (half : ℕ) (found : Insn) → extension_form e half ≡ Some found
-    → (compressed.expansion half ≡ None) × (float_forms.float_expansion half ≡ None)
+    → (compressed.expansion half ≡ None)
+    × (takes_doubles e ≡ false → float_forms.float_expansion half ≡ None)
 
 -- a file that names no extension
 abbrev pub unnamed : Extensions
@@ -44,9 +48,17 @@ unnamed =
       zbs = false;
       zbc = false;
       zbkb = false;
+      zbkc = false;
       zbkx = false;
+      zknd = false;
+      zkne = false;
+      zknh = false;
+      zksed = false;
+      zksh = false;
       zicond = false;
       zcb = false;
+      zcmp = false;
+      zcmt = false;
       zimop = false;
       zcmop = false;
       zacas = false;
@@ -54,15 +66,21 @@ unnamed =
       zawrs = false;
       zicbom = false;
       zicboz = false;
+      zicfiss = false;
+      zicfilp = false;
+      zfinx = false;
+      zhinx = false;
+      zhinxmin = false;
       zfh = false;
       zfhmin = false;
       zfa = false;
       zfbfmin = false;
       zvfh = false;
       vector = false;
+      xthead = false;
     }
 
 -- Without a name nothing is an instruction of an extension.
 abbrev pub UnnamedIsNone : Type 0
 UnnamedIsNone =
-    (w : ℕ) → (extension_instruction unnamed w ≡ None) × (extension_form unnamed w ≡ None)
+    (w : ℕ) → (named_instruction unnamed w ≡ None) × (extension_form unnamed w ≡ None)

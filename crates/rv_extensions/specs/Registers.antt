@@ -46,6 +46,10 @@ ternary w = Extension (bit_or (both (rs1 w) (rs2 w)) (only (rd w))) (only (rd w)
 abbrev pub ternary_pairs : ℕ → Insn
 ternary_pairs w = Extension (bit_or (bit_or (only (rs1 w)) (pair (rs2 w))) (pair (rd w))) (pair (rd w))
 
+-- rs1, rs2 and rs3, which is bits 31 to 27, are read and rd is written
+abbrev pub fused : ℕ → Insn
+fused w = Extension (bit_or (both (rs1 w) (rs2 w)) (only (field w 31 27))) (only (rd w))
+
 -- a vector load or store reads its base, and its stride if bits 27 and 26 tell one
 unfoldable pub vector_memory : ℕ → Insn
 vector_memory w =

@@ -1,16 +1,16 @@
 -- Rows of a table of extensions: what a file has to name, and which bits a word has to have.
-use Rattle.std.specs.Prelude.{ℕ, Bool, ◌==◌, ◌&&◌, if◌then◌else◌, List, [], ◌∷◌, Option, Some, None}
+use Rattle.std.specs.Prelude.{ℕ, Bool, not, ◌==◌, ◌&&◌, if◌then◌else◌, List, [], ◌∷◌, Option, Some, None}
 use Rattle.std.specs.List.{list_all, list_any}
 use Rattle.elf_image.specs.declared.extensions.Extensions.{Extensions}
 use Rattle.rv_decode.specs.Fields.{field}
 use Rattle.rv_decode.specs.declared.instructions.Insn.{Insn}
 use Rattle.rv_float.specs.Table.{is_among}
 
--- a word's bits `high` to `low` are one of these values
-pub record Condition : Type 0 where
-  pub high : ℕ
-  pub low : ℕ
-  pub values : List ℕ
+-- what a word has to meet: its bits `high` to `low` are one of these values; or they differ from its
+-- bits `other_high` to `other_low`
+pub data Condition : Type 0 where
+  bits : (high low : ℕ) → List ℕ → Condition
+  differ : (high low other_high other_low : ℕ) → Condition
 
 -- a row: which files name what it asks for, what a word must meet, and the instruction that such a
 -- word then is
@@ -25,7 +25,9 @@ row named conditions meaning =
 
 -- whether a word meets a condition
 abbrev pub meets : ℕ → Condition → Bool
-meets w c = is_among c.values (field w c.high c.low)
+meets w (bits high low values) = is_among values (field w high low)
+meets w (differ high low other_high other_low) =
+    not (field w high low == field w other_high other_low)
 
 -- whether a row holds of a word: the word meets each condition
 abbrev pub holds : Row → ℕ → Bool
@@ -39,16 +41,13 @@ first_meaning e (r ∷ rs) w =
 
 -- the conditions by the names of their fields
 abbrev pub opcode_is : ℕ → Condition
-opcode_is n = record { high = 6; low = 0; values = n ∷ [] }
+opcode_is n = bits 6 0 (n ∷ [])
 
 abbrev pub funct3_in : List ℕ → Condition
-funct3_in values = record { high = 14; low = 12; values = values }
+funct3_in values = bits 14 12 values
 
 abbrev pub funct7_in : List ℕ → Condition
-funct7_in values = record { high = 31; low = 25; values = values }
+funct7_in values = bits 31 25 values
 
 abbrev pub rs2_in : List ℕ → Condition
-rs2_in values = record { high = 24; low = 20; values = values }
-
-abbrev pub bits : ℕ → ℕ → List ℕ → Condition
-bits high low values = record { high = high; low = low; values = values }
+rs2_in values = bits 24 20 values

@@ -1,15 +1,19 @@
 -- The 32-bit instructions of the extensions that a file may name (RISC-V Unprivileged ISA 20240411,
 -- the chapters of these names, and "RV32/64G Instruction Set Listings" for the opcodes). A group of
 -- rows for each opcode. Which reserved encodings the rows take is this project's profile.
-use Rattle.std.specs.Prelude.{ℕ, zero, suc, ◌+◌, Bool, true, false, ◌&&◌, ◌||◌, List, [], ◌∷◌, ◌++◌, Option}
+use Rattle.std.specs.Prelude.{ℕ, zero, suc, ◌+◌, ◌==◌, Bool, true, false, ◌&&◌, ◌||◌, List, [], ◌∷◌, ◌++◌}
+use Rattle.std.specs.Prelude.{Option, if◌then◌else◌}
 use Rattle.elf_image.specs.declared.extensions.Extensions.{Extensions}
 use Rattle.rv_decode.specs.Fields.{field, rd, rs1, rs2}
 use Rattle.rv_decode.specs.declared.instructions.Insn.{Insn}
-use Rattle.rv_decode.specs.declared.instructions.Insn.TheVariants.{ShiftAdd, Extend}
+use Rattle.rv_decode.specs.declared.instructions.Insn.TheVariants.{ShiftAdd, Extend, Vendor}
 use Rattle.rv_decode.specs.declared.instructions.ExtendKind.{ExtendKind}
 use Rattle.rv_decode.specs.declared.instructions.ExtendKind.TheVariants.{SextB, SextH, ZextH}
-use Rattle.rv_extensions.specs.Rows.{Row, row, Condition, opcode_is, funct3_in, funct7_in, rs2_in}
-use Rattle.rv_extensions.specs.Rows.{bits, first_meaning}
+use Rattle.rv_decode.specs.declared.instructions.VendorKind.{VendorKind}
+use Rattle.rv_decode.specs.declared.instructions.VendorKind.TheVariants.{Addsl, Lrw, Lurw, Lrd}
+use Rattle.rv_decode.specs.declared.instructions.VendorKind.TheVariants.{Lurd, Other}
+use Rattle.rv_extensions.specs.Rows.{Row, row, Condition, bits, opcode_is, funct3_in, funct7_in}
+use Rattle.rv_extensions.specs.Rows.{rs2_in, first_meaning}
 use Rattle.rv_extensions.specs.Registers.{without, to_rd, from_rs1, unary, binary}
 use Rattle.rv_extensions.specs.Registers.{ternary, ternary_pairs, vector_memory}
 use Rattle.rv_extensions.specs.Registers.{vector_result}
@@ -27,6 +31,13 @@ moves_halves e = e.zfh || e.zfhmin || e.zfbfmin
 abbrev pub converts_halves : Extensions → Bool
 converts_halves e = e.zfh || e.zfhmin
 
+-- what Zbc and Zbkc share, and what Zknd and Zkne do
+abbrev pub multiplies : Extensions → Bool
+multiplies e = e.zbc || e.zbkc
+
+abbrev pub schedules : Extensions → Bool
+schedules e = e.zknd || e.zkne
+
 -- ---- meanings that compute
 
 -- rs2 plus rs1 shifted left; rs1 as it is, or its low 32 bits alone
@@ -40,7 +51,29 @@ shift_word w = ShiftAdd (field w 25 20) true (rd w) (rs1 w) 0
 abbrev pub extend : ExtendKind → ℕ → Insn
 extend kind w = Extend kind (rd w) (rs1 w)
 
+-- which of the words of opcode 0B one is, by bits 31 to 27 and funct3 (the vendor's chapters
+-- "XTheadBa" and "XTheadMemIdx")
+abbrev pub indexed_load : ℕ → VendorKind
+indexed_load function =
+    if function == 0b01000 then Lrw
+    else (if function == 0b01010 then Lurw
+    else (if function == 0b01100 then Lrd else (if function == 0b01110 then Lurd else Other)))
+
+abbrev pub vendor_kind : ℕ → ℕ → VendorKind
+vendor_kind function3 function =
+    if function3 == 4 then indexed_load function
+    else (if (function3 == 1) && (function == 0) then Addsl else Other)
+
+abbrev pub vendor_word : ℕ → Insn
+vendor_word w =
+    Vendor (vendor_kind (field w 14 12) (field w 31 27)) (field w 26 25) (rd w) (rs1 w) (rs2 w)
+
 -- ---- conditions
+
+-- so many numbers from the first one on
+abbrev pub counted : ℕ → ℕ → List ℕ
+counted first zero = []
+counted first (suc more) = first ∷ counted (first + 1) more
 
 -- a rounding mode stands in funct3: one of the five, or the dynamic one (chapter "F", "Floating-Point
 -- Control and Status Register")
@@ -86,7 +119,7 @@ block_rows =
     block_row (λ e. e.zicbom) (0 ∷ 1 ∷ 2 ∷ []) ∷
     block_row (λ e. e.zicboz) (4 ∷ []) ∷ []
 
--- ---- opcode 13: OP-IMM ("Zbb", "Zbs", "Zbkb")
+-- ---- opcode 13: OP-IMM ("Zbb", "Zbs", "Zbkb"; the chapter of scalar cryptography)
 
 abbrev pub imm_row : (Extensions → Bool) → List ℕ → ℕ → List Condition → (ℕ → Insn) → Row
 imm_row named f6 f3 amount meaning =
@@ -109,7 +142,15 @@ imm_rows =
     -- REV8
     imm_row rotates (0b011010 ∷ []) 5 (amount_in (0b111000 ∷ []) ∷ []) unary ∷
     -- BREV8
-    imm_row (λ e. e.zbkb) (0b011010 ∷ []) 5 (amount_in (7 ∷ []) ∷ []) unary ∷ []
+    imm_row (λ e. e.zbkb) (0b011010 ∷ []) 5 (amount_in (7 ∷ []) ∷ []) unary ∷
+    -- SHA256SUM0, SHA256SUM1, SHA256SIG0, SHA256SIG1, SHA512SUM0, SHA512SUM1, SHA512SIG0, SHA512SIG1
+    imm_row (λ e. e.zknh) (0b000100 ∷ []) 1 (amount_in (counted 0 8) ∷ []) unary ∷
+    -- SM3P0, SM3P1
+    imm_row (λ e. e.zksh) (0b000100 ∷ []) 1 (amount_in (8 ∷ 9 ∷ []) ∷ []) unary ∷
+    -- AES64IM
+    imm_row (λ e. e.zknd) (0b001100 ∷ []) 1 (amount_in (0 ∷ []) ∷ []) unary ∷
+    -- AES64KS1I, whose rounds are 0 to 10
+    imm_row schedules (0b001100 ∷ []) 1 (amount_in (counted 16 11) ∷ []) unary ∷ []
 
 -- ---- opcode 1B: OP-IMM-32 ("Zba", "Zbb", "Zbkb")
 
@@ -126,7 +167,8 @@ imm_w_rows =
     -- RORIW
     imm_w_row rotates (0x30 ∷ []) 5 [] unary ∷ []
 
--- ---- opcode 33: OP ("Zba", "Zbb", "Zbs", "Zbc", "Zbkb", "Zbkx", "Zicond")
+-- ---- opcode 33: OP ("Zba", "Zbb", "Zbs", "Zbc", "Zbkb", "Zbkc", "Zbkx", "Zicond"; the chapter of
+-- scalar cryptography)
 
 abbrev pub reg_row : (Extensions → Bool) → List ℕ → List ℕ → (ℕ → Insn) → Row
 reg_row named f7 f3 meaning =
@@ -144,8 +186,9 @@ reg_rows =
     reg_row rotates (0x30 ∷ []) (1 ∷ 5 ∷ []) binary ∷
     -- MIN, MINU, MAX, MAXU
     reg_row (λ e. e.zbb) (0x05 ∷ []) (4 ∷ 5 ∷ 6 ∷ 7 ∷ []) binary ∷
-    -- CLMUL, CLMULR, CLMULH
-    reg_row (λ e. e.zbc) (0x05 ∷ []) (1 ∷ 2 ∷ 3 ∷ []) binary ∷
+    -- CLMUL, CLMULH; CLMULR
+    reg_row multiplies (0x05 ∷ []) (1 ∷ 3 ∷ []) binary ∷
+    reg_row (λ e. e.zbc) (0x05 ∷ []) (2 ∷ []) binary ∷
     -- BSET, BINV; BCLR, BEXT
     reg_row (λ e. e.zbs) (0x14 ∷ 0x34 ∷ []) (1 ∷ []) binary ∷
     reg_row (λ e. e.zbs) (0x24 ∷ []) (1 ∷ 5 ∷ []) binary ∷
@@ -154,18 +197,21 @@ reg_rows =
     -- XPERM4, XPERM8
     reg_row (λ e. e.zbkx) (0x14 ∷ []) (2 ∷ 4 ∷ []) binary ∷
     -- CZERO.EQZ, CZERO.NEZ
-    reg_row (λ e. e.zicond) (0x07 ∷ []) (5 ∷ 7 ∷ []) binary ∷ []
+    reg_row (λ e. e.zicond) (0x07 ∷ []) (5 ∷ 7 ∷ []) binary ∷
+    -- AES64DS, AES64DSM; AES64ES, AES64ESM
+    reg_row (λ e. e.zknd) (0x1D ∷ 0x1F ∷ []) (0 ∷ []) binary ∷
+    reg_row (λ e. e.zkne) (0x19 ∷ 0x1B ∷ []) (0 ∷ []) binary ∷
+    -- AES64KS2
+    reg_row schedules (0x3F ∷ []) (0 ∷ []) binary ∷
+    -- SM4ED, SM4KS, whose byte is bits 31 and 30
+    reg_row (λ e. e.zksed) (0x18 ∷ 0x38 ∷ 0x58 ∷ 0x78 ∷ []) (0 ∷ []) binary ∷
+    reg_row (λ e. e.zksed) (0x1A ∷ 0x3A ∷ 0x5A ∷ 0x7A ∷ []) (0 ∷ []) binary ∷ []
 
 -- ---- opcode 3B: OP-32 ("Zba", "Zbb", "Zbkb")
 
 abbrev pub reg_w_row : (Extensions → Bool) → ℕ → List ℕ → List Condition → (ℕ → Insn) → Row
 reg_w_row named f7 f3 second meaning =
     row named (opcode_is 0x3B ∷ funct7_in (f7 ∷ []) ∷ funct3_in f3 ∷ second) meaning
-
--- so many numbers from the first one on
-abbrev pub counted : ℕ → ℕ → List ℕ
-counted first zero = []
-counted first (suc more) = first ∷ counted (first + 1) more
 
 -- x1 to x31
 abbrev pub not_x0 : List ℕ
@@ -184,7 +230,7 @@ reg_w_rows =
     reg_w_row rotates 0x04 (4 ∷ []) (rs2_in (0 ∷ []) ∷ []) (extend ZextH) ∷
     reg_w_row (λ e. e.zbkb) 0x04 (4 ∷ []) (rs2_in not_x0 ∷ []) binary ∷ []
 
--- ---- opcode 2F: AMO ("Zacas", "Zabha")
+-- ---- opcode 2F: AMO ("Zacas", "Zabha", "Zicfiss")
 
 -- AMOSWAP, AMOADD, AMOXOR, AMOAND, AMOOR, AMOMIN, AMOMAX, AMOMINU, AMOMAXU
 abbrev pub fetched_operations : List ℕ
@@ -204,7 +250,9 @@ amo_rows =
     amo_row (λ e. e.zacas) (2 ∷ 3 ∷ []) (0b00101 ∷ []) [] ternary ∷
     -- AMOCAS.Q; pairs begin at even registers
     amo_row (λ e. e.zacas) (4 ∷ []) (0b00101 ∷ []) (bits 7 7 (0 ∷ []) ∷ bits 20 20 (0 ∷ []) ∷ [])
-    ternary_pairs ∷ []
+    ternary_pairs ∷
+    -- SSAMOSWAP.W, SSAMOSWAP.D
+    amo_row (λ e. e.zicfiss) (2 ∷ 3 ∷ []) (0b01001 ∷ []) [] binary ∷ []
 
 -- ---- opcode 73: SYSTEM ("Zawrs", "Zimop")
 
@@ -310,13 +358,18 @@ vector_rows =
 unfoldable pub vector_crypto_rows : List Row
 vector_crypto_rows = row (λ e. e.vector) (opcode_is 0x77 ∷ []) without ∷ []
 
+-- ---- opcode 0B, custom-0: the words of a vendor, by class
+
+unfoldable pub vendor_rows : List Row
+vendor_rows = row (λ e. e.xthead) (opcode_is 0x0B ∷ []) vendor_word ∷ []
+
 -- ---- the table
 
 unfoldable pub extension_rows : List Row
 extension_rows =
     load_rows ++ store_rows ++ block_rows ++ imm_rows ++ imm_w_rows ++ reg_rows ++ reg_w_rows
     ++ amo_rows ++ system_rows ++ fused_rows ++ half_rows ++ additional_rows ++ vector_rows
-    ++ vector_crypto_rows
+    ++ vector_crypto_rows ++ vendor_rows
 
 -- the instruction that a word is by the extensions that a file names, if a row holds
 unfoldable pub extension_instruction : Extensions → ℕ → Option Insn

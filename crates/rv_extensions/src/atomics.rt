@@ -1,5 +1,6 @@
 //! Atomic operations, cache blocks, waits and may-be operations (RISC-V Unprivileged ISA 20240411,
-//! chapters "Zacas", "Zabha", "CMO", "Zawrs" and "Zimop").
+//! chapters "Zacas", "Zabha", "Zicfiss",
+//! "CMO", "Zawrs" and "Zimop").
 
 ghost use Rattle.std.specs.Prelude.{◌≡◌, ◌⊎◌, [], ◌∷◌};
 ghost use Rattle.rv_decode.specs.Fields.{opcode};
@@ -16,16 +17,18 @@ use rvc_expand::bits::field;
 /// The operation of a compare and swap.
 const AMOCAS: u8 = 0b0_0101;
 
+/// That of a swap on a shadow stack.
+const SSAMOSWAP: u8 = 0b0_1001;
+
 /// Atomic operations, by `funct3`, which is the width, and `funct5`.
-#[tactic(auto, using(crate::proofs::ByOpcode::amo_cases_02, crate::proofs::ByOpcode::amo_cases_03, crate::proofs::ByOpcode::amo_cases_none))]
+#[tactic(auto, using(crate::proofs::ByOpcode::amo_cases_none))]
 pub(crate) fn amo(extensions: Extensions, word: u32) -> Option<Insn>
     requires { opcode word ≡ 0x2F }
     ensures { result ≡ extension_instruction extensions word }
 {
-    let compares = extensions.zacas && funct5(word) == AMOCAS;
     match funct3(word) {
         0 | 1 => narrow(extensions, word),
-        2 | 3 => compares.then_some(ternary(word)),
+        2 | 3 => whole(extensions, word),
         4 => quadword(extensions, word),
         _ => None,
     }
@@ -43,6 +46,20 @@ fn narrow(extensions: Extensions, word: u32) -> Option<Insn>
     }
     let compares = funct5(word) == AMOCAS;
     (compares && extensions.zabha && extensions.zacas).then_some(ternary(word))
+}
+
+/// Those on a word or a doubleword: AMOCAS, and SSAMOSWAP of a shadow stack.
+#[tactic(auto, using(crate::proofs::ByOpcode::amo_cases_02, crate::proofs::ByOpcode::amo_cases_03))]
+fn whole(extensions: Extensions, word: u32) -> Option<Insn>
+    requires code { opcode word ≡ 0x2F }
+    requires width { (Fields.funct3 word ≡ 2) ⊎ (Fields.funct3 word ≡ 3) }
+    ensures { result ≡ extension_instruction extensions word }
+{
+    match funct5(word) {
+        AMOCAS => extensions.zacas.then_some(ternary(word)),
+        SSAMOSWAP => extensions.zicfiss.then_some(binary(word)),
+        _ => None,
+    }
 }
 
 /// Whether `funct5` tells an operation that gives back what it found.

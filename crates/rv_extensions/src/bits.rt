@@ -1,7 +1,8 @@
-//! Operations on integer registers: address generation, bit manipulation, conditional zero
-//! (RISC-V Unprivileged ISA 20240411, chapters "B" and "Zicond").
+//! Operations on integer registers: address generation, bit manipulation, conditional zero, scalar
+//! cryptography (RISC-V Unprivileged ISA 20240411, chapters "B" and "Zicond", and that of scalar
+//! cryptography).
 
-ghost use Rattle.std.specs.Prelude.{◌≡◌, Some, None, [], ◌∷◌, if◌then◌else◌};
+ghost use Rattle.std.specs.Prelude.{◌≡◌, ◌==◌, ◌&&◌, ◌||◌, Some, None, [], ◌∷◌, if◌then◌else◌};
 ghost use Rattle.rv_decode.specs.Fields.{opcode};
 ghost use Rattle.rv_decode.specs.Fields;
 ghost use Rattle.rv_float.specs.Table.{is_among};
@@ -16,7 +17,7 @@ use rv_decode::{ExtendKind, Insn};
 use rvc_expand::bits::field;
 
 /// Operations on two registers, by `funct7` and `funct3`.
-#[tactic(auto, using(crate::proofs::ByOpcode::reg_cases_04, crate::proofs::ByOpcode::reg_cases_07, crate::proofs::ByOpcode::reg_cases_20, crate::proofs::ByOpcode::reg_cases_24, crate::proofs::ByOpcode::reg_cases_30, crate::proofs::ByOpcode::reg_cases_34, crate::proofs::ByOpcode::reg_cases_none))]
+#[tactic(auto, using(crate::proofs::ByOpcode::reg_cases_04, crate::proofs::ByOpcode::reg_cases_07, crate::proofs::ByOpcode::reg_cases_20, crate::proofs::ByOpcode::reg_cases_24, crate::proofs::ByOpcode::reg_cases_30, crate::proofs::ByOpcode::reg_cases_34, crate::proofs::ByOpcode::reg_cases_18, crate::proofs::ByOpcode::reg_cases_19, crate::proofs::ByOpcode::reg_cases_1a, crate::proofs::ByOpcode::reg_cases_1b, crate::proofs::ByOpcode::reg_cases_1d, crate::proofs::ByOpcode::reg_cases_1f, crate::proofs::ByOpcode::reg_cases_38, crate::proofs::ByOpcode::reg_cases_3a, crate::proofs::ByOpcode::reg_cases_3f, crate::proofs::ByOpcode::reg_cases_58, crate::proofs::ByOpcode::reg_cases_5a, crate::proofs::ByOpcode::reg_cases_78, crate::proofs::ByOpcode::reg_cases_7a, crate::proofs::ByOpcode::reg_cases_none))]
 pub(crate) fn op(extensions: Extensions, word: u32) -> Option<Insn>
     requires { opcode word ≡ 0x33 }
     ensures { result ≡ extension_instruction extensions word }
@@ -32,6 +33,11 @@ pub(crate) fn op(extensions: Extensions, word: u32) -> Option<Insn>
         0x24 => two(word, matches!(function, 1 | 5) && extensions.zbs),
         0x30 => two(word, matches!(function, 1 | 5) && rotates(extensions)),
         0x34 => two(word, function == 1 && extensions.zbs),
+        0x18 | 0x38 | 0x58 | 0x78 => two(word, function == 0 && extensions.zksed),
+        0x1a | 0x3a | 0x5a | 0x7a => two(word, function == 0 && extensions.zksed),
+        0x19 | 0x1b => two(word, function == 0 && extensions.zkne),
+        0x1d | 0x1f => two(word, function == 0 && extensions.zknd),
+        0x3f => two(word, function == 0 && schedules(extensions)),
         _ => None,
     }
 }
@@ -55,14 +61,23 @@ fn shifted_sum(extensions: Extensions, word: u32) -> Option<Insn>
 }
 
 /// MIN, MINU, MAX and MAXU; CLMUL, CLMULR and CLMULH.
-#[tactic(auto, using(crate::proofs::ByOpcode::reg_cases_05))]
+#[tactic(auto, using(crate::proofs::ByOpcode::least_or_product_is))]
 fn least_or_product(extensions: Extensions, word: u32) -> Option<Insn>
     requires code { opcode word ≡ 0x33 }
     requires function { Fields.funct7 word ≡ 0x05 }
     ensures { result ≡ extension_instruction extensions word }
 {
     let least = is_least_or_greatest(word) && extensions.zbb;
-    two(word, least || is_product(word) && extensions.zbc)
+    two(word, least || multiplies_by(extensions, word))
+}
+
+/// Whether `funct3` tells a product that is named.
+fn multiplies_by(extensions: Extensions, word: u32) -> bool
+    ensures { result ≡ ((is_among (1 ∷ 3 ∷ []) (Fields.funct3 word) && table.multiplies extensions)
+        || (Fields.funct3 word == 2 && extensions.zbc)) }
+{
+    let product = is_product(word) && multiplies(extensions);
+    product || funct3(word) == 2 && extensions.zbc
 }
 
 /// Whether `funct3` tells MIN, MINU, MAX or MAXU.
@@ -72,11 +87,11 @@ fn is_least_or_greatest(word: u32) -> bool
     matches!(funct3(word), 4 | 5 | 6 | 7)
 }
 
-/// Whether it tells CLMUL, CLMULR or CLMULH.
+/// Whether it tells CLMUL or CLMULH.
 fn is_product(word: u32) -> bool
-    ensures { result ≡ is_among (1 ∷ 2 ∷ 3 ∷ []) (Fields.funct3 word) }
+    ensures { result ≡ is_among (1 ∷ 3 ∷ []) (Fields.funct3 word) }
 {
-    matches!(funct3(word), 1 | 2 | 3)
+    matches!(funct3(word), 1 | 3)
 }
 
 /// Whether it tells XNOR, ORN or ANDN.
@@ -148,7 +163,7 @@ fn shifted_word_sum(extensions: Extensions, word: u32) -> Option<Insn>
 }
 
 /// Operations on a register and an immediate, by `funct6`, `funct3` and the amount.
-#[tactic(auto, using(crate::proofs::ByOpcode::imm_cases_0a, crate::proofs::ByOpcode::imm_cases_12, crate::proofs::ByOpcode::imm_cases_18, crate::proofs::ByOpcode::imm_cases_1a, crate::proofs::ByOpcode::imm_cases_none))]
+#[tactic(auto, using(crate::proofs::ByOpcode::imm_cases_04, crate::proofs::ByOpcode::imm_cases_0c, crate::proofs::ByOpcode::imm_cases_0a, crate::proofs::ByOpcode::imm_cases_12, crate::proofs::ByOpcode::imm_cases_18, crate::proofs::ByOpcode::imm_cases_1a, crate::proofs::ByOpcode::imm_cases_none))]
 pub(crate) fn op_imm(extensions: Extensions, word: u32) -> Option<Insn>
     requires { opcode word ≡ 0x13 }
     ensures { result ≡ extension_instruction extensions word }
@@ -160,8 +175,57 @@ pub(crate) fn op_imm(extensions: Extensions, word: u32) -> Option<Insn>
         (0b01_1000, 1) => count_or_extend(extensions, word),
         (0b01_1000, 5) => one(word, rotates(extensions)),
         (0b01_1010, 5) => reverse(extensions, word),
+        (0b00_0100, 1) => digest(extensions, word),
+        (0b00_1100, 1) => key(extensions, word),
         _ => None,
     }
+}
+
+/// The functions of SHA-2 and SM3, by the amount.
+#[tactic(auto, using(crate::proofs::ByOpcode::digest_is))]
+fn digest(extensions: Extensions, word: u32) -> Option<Insn>
+    requires code { opcode word ≡ 0x13 }
+    requires shift { Fields.funct6 word ≡ 0x04 }
+    requires function { Fields.funct3 word ≡ 1 }
+    ensures { result ≡ extension_instruction extensions word }
+{
+    let second = is_sm3(word) && extensions.zksh;
+    one(word, is_sha2(word) && extensions.zknh || second)
+}
+
+/// Whether the amount tells a function of SHA-2.
+#[tactic(auto, using(crate::proofs::ByOpcode::counted_is))]
+fn is_sha2(word: u32) -> bool
+    ensures { result ≡ is_among (table.counted 0 8) (Fields.field word 25 20) }
+{
+    amount(word) < 8
+}
+
+/// Whether it tells SM3P0 or SM3P1.
+fn is_sm3(word: u32) -> bool
+    ensures { result ≡ is_among (8 ∷ 9 ∷ []) (Fields.field word 25 20) }
+{
+    matches!(amount(word), 8 | 9)
+}
+
+/// AES64IM, and AES64KS1I by its round.
+#[tactic(auto, using(crate::proofs::ByOpcode::key_is))]
+fn key(extensions: Extensions, word: u32) -> Option<Insn>
+    requires code { opcode word ≡ 0x13 }
+    requires shift { Fields.funct6 word ≡ 0x0C }
+    requires function { Fields.funct3 word ≡ 1 }
+    ensures { result ≡ extension_instruction extensions word }
+{
+    let second = is_round(word) && schedules(extensions);
+    one(word, amount(word) == 0 && extensions.zknd || second)
+}
+
+/// Whether the amount tells AES64KS1I with a round from 0 to 10.
+#[tactic(auto, using(crate::proofs::ByOpcode::counted_is))]
+fn is_round(word: u32) -> bool
+    ensures { result ≡ is_among (table.counted 16 11) (Fields.field word 25 20) }
+{
+    16 <= amount(word) && amount(word) < 27
 }
 
 /// CLZ, CTZ, CPOP, SEXT.B and SEXT.H.
@@ -231,6 +295,20 @@ fn rotates(extensions: Extensions) -> bool
     ensures { result ≡ table.rotates extensions }
 {
     extensions.zbb || extensions.zbkb
+}
+
+/// Whether what Zbc and Zbkc share is named.
+fn multiplies(extensions: Extensions) -> bool
+    ensures { result ≡ table.multiplies extensions }
+{
+    extensions.zbc || extensions.zbkc
+}
+
+/// Whether what Zknd and Zkne share is named.
+fn schedules(extensions: Extensions) -> bool
+    ensures { result ≡ table.schedules extensions }
+{
+    extensions.zknd || extensions.zkne
 }
 
 /// Bits 25 to 20.

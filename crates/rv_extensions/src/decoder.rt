@@ -3,10 +3,13 @@
 
 ghost use Rattle.std.specs.Prelude.{◌≡◌};
 ghost use Rattle.rv_extensions.specs.Table.{extension_instruction};
+ghost use Rattle.rv_extensions.specs.IntegerFloats.{named_instruction};
 
 use crate::atomics::{amo, block, system};
 use crate::bits::{op, op_32, op_imm, op_imm_32};
 use crate::floats::{fused, load, operation, store};
+use crate::integer_floats::integer_float;
+use crate::meaning::vendor_word;
 use crate::vectors::{vector, vector_crypto};
 use elf_image::Extensions;
 use rv_decode::Insn;
@@ -14,6 +17,8 @@ use rv_decode::fields::opcode;
 
 // The major opcodes, by the ISA manual's names.
 const LOAD_FP: u8 = 0x07;
+
+const CUSTOM_0: u8 = 0x0b;
 
 const MISC_MEM: u8 = 0x0f;
 
@@ -46,12 +51,23 @@ const SYSTEM: u8 = 0x73;
 const OP_VE: u8 = 0x77;
 
 /// The instruction that a 32-bit word encodes by the `extensions` that a file names, or `None` if
-/// no row of them holds of the word. Every instruction of RV64GC is `None` here.
+/// no row of them holds of the word. Every instruction of RV64GC is `None` here, but for operations
+/// on floats if the file has these in integer registers.
 ///
 /// Whether the word's length is 32 bits is not asked: each row's opcode ends in 11, and none ends
 /// in 11111.
-#[tactic(auto, using(crate::proofs::ByOpcode::other_is))]
 pub fn decode_extension(extensions: Extensions, word: u32) -> Option<Insn>
+    ensures { result ≡ named_instruction extensions word }
+{
+    match integer_float(extensions, word) {
+        None => decode_other(extensions, word),
+        insn => insn,
+    }
+}
+
+/// That by the table of all others.
+#[tactic(auto, using(crate::proofs::ByOpcode::other_is, crate::proofs::ByOpcode::vendor_is))]
+fn decode_other(extensions: Extensions, word: u32) -> Option<Insn>
     ensures { result ≡ extension_instruction extensions word }
 {
     match opcode(word) {
@@ -68,6 +84,7 @@ pub fn decode_extension(extensions: Extensions, word: u32) -> Option<Insn>
         AMO => amo(extensions, word),
         MISC_MEM => block(extensions, word),
         SYSTEM => system(extensions, word),
+        CUSTOM_0 => extensions.xthead.then_some(vendor_word(word)),
         _ => None,
     }
 }

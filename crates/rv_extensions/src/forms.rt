@@ -1,4 +1,4 @@
-//! The 16-bit instructions of Zcb and Zcmop (RISC-V Unprivileged ISA 20240411, chapters "Zc*" and
+//! The 16-bit instructions of the extensions, here those of Zcb and Zcmop (RISC-V Unprivileged ISA 20240411, chapters "Zc*" and
 //! "Zimop").
 
 ghost use Rattle.std.specs.Prelude.{◌≡◌, ◌<◌, ◌^◌, true, pos};
@@ -8,6 +8,7 @@ ghost use Rattle.rv_extensions.specs.Forms;
 ghost use Rattle.rv_extensions.specs.Forms.{extension_form};
 
 use crate::meaning::only;
+use crate::stack::stack;
 use elf_image::Extensions;
 use rv_decode::{ExtendKind, ImmKind, Insn, LoadKind, RegKind, StoreKind};
 use rvc_expand::bits::field;
@@ -15,7 +16,7 @@ use rvc_expand::halfword::{first_popular, first_register, second_popular};
 
 /// The instruction that the 16-bit instruction `half` stands for by the `extensions` that a file
 /// names, or `None` if no form of them holds of the halfword.
-#[tactic(auto, using(crate::proofs::ByForm::quadrant_0_none, crate::proofs::ByForm::quadrant_1_none, crate::proofs::ByForm::quadrant_none))]
+#[tactic(auto, using(crate::proofs::ByForm::quadrant_0_none, crate::proofs::ByForm::quadrant_1_none, crate::proofs::ByForm::quadrant_2_none, crate::proofs::ByForm::quadrant_none))]
 pub fn expand_extension(extensions: Extensions, half: u16) -> Option<Insn>
     ensures { result ≡ extension_form extensions half }
 {
@@ -24,6 +25,7 @@ pub fn expand_extension(extensions: Extensions, half: u16) -> Option<Insn>
         (0b00, 0b100) => memory(extensions, half),
         (0b01, 0b100) => arithmetic(extensions, half),
         (0b01, 0b011) => may_be(extensions, half),
+        (0b10, 0b101) => stack(extensions, half),
         _ => None,
     }
 }

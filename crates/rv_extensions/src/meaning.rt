@@ -6,8 +6,8 @@ ghost use Rattle.rv_decode.specs.Fields;
 ghost use Rattle.rv_extensions.specs.Registers as registers;
 ghost use Rattle.rv_extensions.specs.Table as table;
 
-use rv_decode::fields::{funct6, rd, rs1, rs2};
-use rv_decode::{ExtendKind, Insn};
+use rv_decode::fields::{funct3, funct5, funct6, rd, rs1, rs2};
+use rv_decode::{ExtendKind, Insn, VendorKind};
 use rvc_expand::bits::field;
 
 /// The mask of one register; x0 is in no mask.
@@ -19,7 +19,7 @@ pub(crate) fn only(register: u8) -> u32
 }
 
 /// The mask of two registers.
-fn both(first: u8, second: u8) -> u32
+pub(crate) fn both(first: u8, second: u8) -> u32
     requires first { first < 32 }
     requires second { second < 32 }
     ensures { result ≡ both first second }
@@ -113,6 +113,16 @@ pub(crate) fn ternary_pairs(word: u32) -> Insn
     }
 }
 
+/// One that reads `rs1`, `rs2` and bits 31 to 27 and writes `rd`.
+pub(crate) fn fused(word: u32) -> Insn
+    ensures { result ≡ registers.fused word }
+{
+    Insn::Extension {
+        reads: both(rs1(word), rs2(word)) | only(funct5(word)),
+        writes: only(rd(word)),
+    }
+}
+
 /// A vector load or store.
 #[tactic(auto, unfolding(crate::specs::Registers::vector_memory))]
 pub(crate) fn vector_memory(word: u32) -> Insn
@@ -175,5 +185,42 @@ pub(crate) fn extend(word: u32, kind: ExtendKind) -> Insn
         kind,
         rd: rd(word),
         rs1: rs1(word),
+    }
+}
+
+/// A word of a vendor.
+pub(crate) fn vendor_word(word: u32) -> Insn
+    ensures { result ≡ table.vendor_word word }
+{
+    Insn::Vendor {
+        kind: vendor_kind(funct3(word), funct5(word)),
+        shift: field(word, 26, 25) as u8,
+        rd: rd(word),
+        rs1: rs1(word),
+        rs2: rs2(word),
+    }
+}
+
+/// Which of a vendor's words one is, by its `funct3` and its bits 31 to 27.
+fn vendor_kind(function3: u8, function: u8) -> VendorKind
+    ensures { result ≡ table.vendor_kind function3 function }
+{
+    match function3 {
+        4 => indexed_load(function),
+        1 if function == 0 => VendorKind::Addsl,
+        _ => VendorKind::Other,
+    }
+}
+
+/// The same of the loads by an index.
+fn indexed_load(function: u8) -> VendorKind
+    ensures { result ≡ table.indexed_load function }
+{
+    match function {
+        0b0_1000 => VendorKind::Lrw,
+        0b0_1010 => VendorKind::Lurw,
+        0b0_1100 => VendorKind::Lrd,
+        0b0_1110 => VendorKind::Lurd,
+        _ => VendorKind::Other,
     }
 }

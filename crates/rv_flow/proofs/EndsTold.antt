@@ -9,9 +9,7 @@ use Rattle.rv_decode.specs.Table.{instruction}
 use Rattle.rv_decode.specs.declared.instructions.Insn.{Insn}
 use Rattle.rv_decode.proofs.ByOpcode.{jal_is, jalr_cases, branch_cases}
 use Rattle.rv_decode.proofs.ByFields.{jalr_is}
-use Rattle.rv_float.specs.Table.{float_instruction}
-use Rattle.rv_float.specs.Forms.{float_expansion}
-use Rattle.rv_extensions.specs.Table.{extension_instruction}
+use Rattle.rv_extensions.specs.IntegerFloats.{named_instruction}
 use Rattle.rv_extensions.specs.Forms.{extension_form}
 use Rattle.rvc_expand.specs.Bits.{field, placed}
 use Rattle.rvc_expand.specs.Halfword.{first_register, second_register, first_popular, jump_offset, branch_offset}
@@ -20,19 +18,19 @@ use Rattle.rvc_expand.specs.Table.{expansion, quadrant_1, quadrant_2}
 use Rattle.rvc_expand.proofs.Quadrants.{expansion-quadrant_1, expansion-quadrant_2}
 use Rattle.rv_flow.specs.declared.raw.RawFlow.{RawFlow}
 use Rattle.rv_flow.specs.declared.raw.RawFlow.TheVariants as raw
-use Rattle.rv_flow.specs.Placed.{word_insn, rv64gc_insn, compressed_insn}
+use Rattle.rv_flow.specs.Placed.{word_insn, rv64gc_insn, float_insn, float_form, compressed_insn}
 use Rattle.rv_flow.specs.Raw.{raw_flow_by, insn_flow, jalr_flow, pair_target, address_plus}
 use Rattle.rv_flow.specs.Inner.{flow_of_whole, long, jal_flow}
 use Rattle.rv_flow.proofs.Written.{each_word_is_its_instruction}
-use Rattle.rv_flow.proofs.Told.{no_float_67}
+use Rattle.rv_flow.proofs.Told.{no_float_67, no_floats}
 use Rattle.rv_flow.proofs.Extended.{no_extension_67}
 
 -- ---- a word
 
 module _ (e : Extensions) (bytes : List ℕ) (a w : ℕ) where
   -- the word is an instruction of one of the tables
-  by_base : (o : Option Insn) → instruction w ≡ o → flow_of_whole bytes a (word_insn e w) ≡ flow_of_whole bytes a (option_or (option_or o (float_instruction w)) (extension_instruction e w))
-  by_base o is = ap (λ o. flow_of_whole bytes a (option_or (option_or o (float_instruction w)) (extension_instruction e w))) is
+  by_base : (o : Option Insn) → instruction w ≡ o → flow_of_whole bytes a (word_insn e w) ≡ flow_of_whole bytes a (option_or (option_or o (float_insn e w)) (named_instruction e w))
+  by_base o is = ap (λ o. flow_of_whole bytes a (option_or (option_or o (float_insn e w)) (named_instruction e w))) is
 
   pub jal_told : opcode w ≡ 0x6F → flow_of_whole bytes a (word_insn e w) ≡ long (jal_flow a (rd w) (j_offset w))
   jal_told h = by_base _ (jal_is w h)
@@ -41,7 +39,7 @@ module _ (e : Extensions) (bytes : List ℕ) (a w : ℕ) where
   jalr_told h plain = by_base _ (jalr_is w h plain)
 
   pub jalr_none : opcode w ≡ 0x67 → funct3 w ≢ 0 → flow_of_whole bytes a (word_insn e w) ≡ record { length = 2; flow = raw.Stop }
-  jalr_none h other = by_base _ (jalr_cases w h) ∙ rw (ne_eqb _ _ other, no_float_67 w h, no_extension_67 e w h) refl
+  jalr_none h other = by_base _ (jalr_cases w h) ∙ rw (ne_eqb _ _ other, no_floats e w (no_float_67 w h), no_extension_67 e w h) refl
 
   pub branch_told : opcode w ≡ 0x63 → funct3 w ≢ 2 → funct3 w ≢ 3 → flow_of_whole bytes a (word_insn e w) ≡ long (raw.Branch (address_plus a (b_offset w)))
   branch_told h two three = by_base _ (branch_cases w h) ∙ grind (arith, nat_tests)
@@ -87,8 +85,8 @@ module _ (e : Extensions) (bytes : List ℕ) (a h : ℕ) where
   -- the halfword stands for this word, which is this instruction
   by_word : (w : ℕ) (i : Insn) → expansion h ≡ Some w → instruction w ≡ Some i → raw_flow_by bytes a (compressed_insn e h) ≡ insn_flow bytes a i
   by_word w i stands is =
-      ap (λ o. raw_flow_by bytes a (option_map_or rv64gc_insn (option_or o (float_expansion h)) (extension_form e h))) stands
-      ∙ ap (λ o. raw_flow_by bytes a (option_or o (float_instruction w))) is
+      ap (λ o. raw_flow_by bytes a (option_map_or (rv64gc_insn e) (option_or o (float_form e h)) (extension_form e h))) stands
+      ∙ ap (λ o. raw_flow_by bytes a (option_or o (float_insn e w))) is
 
   pub short_jump : field h 1 0 ≡ 1 → field h 15 13 ≡ 5 → jump_offset h < 2 ^ 21 → raw_flow_by bytes a (compressed_insn e h) ≡ raw.Jump (address_plus a (sign_extended 21 (jump_offset h)))
   short_jump q f fits =

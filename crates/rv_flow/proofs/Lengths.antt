@@ -7,10 +7,12 @@ use Rattle.elf_image.specs.Architecture.{extensions_of}
 use Rattle.elf_image.specs.Code.{half_at, word_at}
 use Rattle.rv_decode.specs.declared.instructions.Insn.{Insn}
 use Rattle.rv_decode.specs.declared.instructions.Insn.TheVariants as insns
+use Rattle.rv_decode.specs.declared.instructions.AwayKind.{AwayKind}
+use Rattle.rv_decode.specs.declared.instructions.AwayKind.TheVariants as aways
 use Rattle.rv_flow.specs.declared.raw.RawFlow.{RawFlow}
 use Rattle.rv_flow.specs.declared.raw.RawFlow.TheVariants as raw
 use Rattle.rv_flow.specs.Placed.{word_insn, compressed_insn, whole}
-use Rattle.rv_flow.specs.Raw.{insn_flow, raw_flow_by, jalr_flow, pair_target, is_unimp, is_stub}
+use Rattle.rv_flow.specs.Raw.{insn_flow, away_flow, raw_flow_by, jalr_flow, pair_target, is_unimp, is_stub}
 use Rattle.rv_flow.specs.Straight.{length_where_straight, straight_length_at}
 use Rattle.rv_flow.specs.Inner.{goes_on, goes_on_behind, short_goes_on}
 
@@ -30,6 +32,11 @@ csr_length : (b : Bool) (n : ℕ) → length_where_straight (cond b raw.Stop raw
 csr_length true n = refl
 csr_length false n = refl
 
+away_length : (kind : AwayKind) (n : ℕ) → length_where_straight (away_flow kind) n ≡ None
+away_length aways.Return n = refl
+away_length aways.Unknown n = refl
+away_length aways.Call n = refl
+
 module _ (bytes : List ℕ) (a : ℕ) where
   insn_length : (i : Insn) (n : ℕ) → length_where_straight (insn_flow bytes a i) n ≡ then_some (goes_on i) n
   insn_length (insns.Jal rd offset) n = neither (rd == 0) _ _ n refl refl
@@ -37,6 +44,7 @@ module _ (bytes : List ℕ) (a : ℕ) where
   insn_length (insns.Branch kind rs1 rs2 offset) n = refl
   insn_length insns.Ebreak n = refl
   insn_length (insns.Csr kind rd source csr) n = csr_length (is_unimp kind rd source csr) n
+  insn_length (insns.Away kind reads writes) n = away_length kind n
   insn_length _ n = refl
 
   short_step : (o : Option Insn) → length_where_straight (raw_flow_by bytes a o) 2 ≡ then_some (goes_on_behind o) 2

@@ -5,4 +5,5 @@ pub mod Told
 pub mod Extended
 pub mod EndsTold
 pub mod Stands
+pub mod Kept
 mod Lengths

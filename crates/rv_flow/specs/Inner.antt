@@ -20,6 +20,7 @@ goes_on (insns.Jalr rd rs1 imm) = false
 goes_on (insns.Branch kind rs1 rs2 offset) = false
 goes_on insns.Ebreak = false
 goes_on (insns.Csr kind rd source csr) = not (is_unimp kind rd source csr)
+goes_on (insns.Away kind reads writes) = false
 goes_on _ = true
 
 -- What is no instruction stops.

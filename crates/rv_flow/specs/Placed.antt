@@ -10,31 +10,41 @@ use Rattle.rv_decode.specs.Table.{instruction}
 use Rattle.rvc_expand.specs.Table.{expansion}
 use Rattle.rv_float.specs.Table.{float_instruction}
 use Rattle.rv_float.specs.Forms.{float_expansion}
-use Rattle.rv_extensions.specs.Table.{extension_instruction}
-use Rattle.rv_extensions.specs.Forms.{extension_form}
+use Rattle.rv_extensions.specs.IntegerFloats.{named_instruction}
+use Rattle.rv_extensions.specs.Forms.{extension_form, takes_doubles}
 use Rattle.rv_flow.specs.declared.placed.Placed.{Placed}
 
 -- What is no instruction has the length 2.
 abbrev pub bad : Placed
 bad = record { length = 2; insn = None }
 
--- The instruction of RV64GC that a word is, by the base table or the float table.
-abbrev pub rv64gc_insn : ℕ → Option Insn
-rv64gc_insn word = option_or (instruction word) (float_instruction word)
+-- What the extensions that are named leave of F and D: nothing of their words, if floats stand in
+-- integer registers.
+abbrev pub float_insn : Extensions → ℕ → Option Insn
+float_insn e word = if e.zfinx then None else float_instruction word
+
+-- And none of the four compressed forms, if they are something else or have no registers.
+abbrev pub float_form : Extensions → ℕ → Option ℕ
+float_form e half = if takes_doubles e then None else float_expansion half
+
+-- The instruction of RV64GC that a word is, by the base table or the float table, as far as the
+-- extensions that are named leave it.
+abbrev pub rv64gc_insn : Extensions → ℕ → Option Insn
+rv64gc_insn e word = option_or (instruction word) (float_insn e word)
 
 -- The instruction that a word is by the extensions that are named: one of RV64GC, or else one of
 -- these. At most one table has it.
 abbrev pub word_insn : Extensions → ℕ → Option Insn
-word_insn e word = option_or (rv64gc_insn word) (extension_instruction e word)
+word_insn e word = option_or (rv64gc_insn e word) (named_instruction e word)
 
 -- The word that a halfword stands for in RV64GC, by either table of compressed forms.
-abbrev pub expanded : ℕ → Option ℕ
-expanded half = option_or (expansion half) (float_expansion half)
+abbrev pub expanded : Extensions → ℕ → Option ℕ
+expanded e half = option_or (expansion half) (float_form e half)
 
 -- A 16-bit form of RV64GC stands for the 32-bit instruction that it expands to. Any other halfword is
 -- what the extensions that are named make of it.
 abbrev pub compressed_insn : Extensions → ℕ → Option Insn
-compressed_insn e half = option_map_or rv64gc_insn (expanded half) (extension_form e half)
+compressed_insn e half = option_map_or (rv64gc_insn e) (expanded e half) (extension_form e half)
 
 -- A 32-bit form is an instruction if all its four bytes are there and a row of a table holds.
 abbrev pub whole_insn : Extensions → Option ℕ → Option Insn

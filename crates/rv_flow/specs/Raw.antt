@@ -8,6 +8,8 @@ use Rattle.std.specs.Int.{cast_unsigned, w64}
 use Rattle.elf_image.specs.Code.{section_start, word_at}
 use Rattle.rv_decode.specs.declared.instructions.Insn.{Insn}
 use Rattle.rv_decode.specs.declared.instructions.Insn.TheVariants as insns
+use Rattle.rv_decode.specs.declared.instructions.AwayKind.{AwayKind}
+use Rattle.rv_decode.specs.declared.instructions.AwayKind.TheVariants as aways
 use Rattle.rv_decode.specs.declared.instructions.CsrKind.{CsrKind}
 use Rattle.rv_decode.specs.declared.instructions.CsrKind.TheVariants as csrs
 use Rattle.rv_decode.specs.Table.{instruction}
@@ -70,6 +72,12 @@ is_csrrw _ = false
 abbrev pub is_unimp : CsrKind → ℕ → ℕ → ℕ → Bool
 is_unimp kind rd source csr = is_csrrw kind && (rd == 0) && (source == 0) && (csr == 0xC00)
 
+-- The returns and jumps of Zcmp and Zcmt. No file tells what stands in the table of JVT.
+abbrev pub away_flow : AwayKind → RawFlow
+away_flow aways.Return = raw.Return
+away_flow aways.Unknown = raw.Unknown
+away_flow aways.Call = raw.IndirectCall
+
 abbrev pub insn_flow : List ℕ → ℕ → Insn → RawFlow
 insn_flow bytes a (insns.Jal rd offset) =
     if rd == 0 then raw.Jump (address_plus a offset) else raw.Call (address_plus a offset)
@@ -78,6 +86,7 @@ insn_flow bytes a (insns.Branch kind rs1 rs2 offset) = raw.Branch (address_plus 
 insn_flow bytes a insns.Ebreak = raw.Stop
 insn_flow bytes a (insns.Csr kind rd source csr) =
     if is_unimp kind rd source csr then raw.Stop else raw.Straight
+insn_flow bytes a (insns.Away kind reads writes) = away_flow kind
 insn_flow bytes a _ = raw.Straight
 
 -- What is no instruction stops.

@@ -1,11 +1,12 @@
 //! The length and the flow of an instruction by its bytes. What mostly ends a run of straight
 //! instructions is told by its opcode: jumps, calls, returns and branches are not decoded.
 
-ghost use Rattle.std.specs.Prelude.{◌≡◌, ◌*◌, nat_lt, if◌then◌else◌, pos, ◌-ℤ◌};
+ghost use Rattle.std.specs.Prelude.{◌≡◌, ◌*◌, ◌<◌, ◌^◌, nat_lt, if◌then◌else◌, pos, ◌-ℤ◌};
 ghost use Rattle.elf_image.specs.Architecture.{extensions_of};
-ghost use Rattle.rv_decode.specs.Fields.{opcode};
+ghost use Rattle.rv_decode.specs.Fields.{opcode, sign_extended};
+ghost use Rattle.rvc_expand.specs.Halfword;
 ghost use Rattle.rv_flow.specs.Placed.{word_insn, compressed_insn};
-ghost use Rattle.rv_flow.specs.Raw.{raw_flow_by};
+ghost use Rattle.rv_flow.specs.Raw.{address_plus, raw_flow_by};
 ghost use Rattle.rv_flow.specs.InsnBytes.{AreBytesAt, placed_flow_at};
 ghost use Rattle.rv_flow.specs.Inner.{flow_of_whole, long};
 
@@ -81,14 +82,24 @@ fn short_flow(image: &Image, a: u64, half: u16) -> RawFlow
         (0b01, 0b101) => RawFlow::Jump {
             target: a.wrapping_add_signed(signed(jump_offset(bits), 1 << 20)),
         },
-        (0b01, 0b110 | 0b111) => RawFlow::Branch {
-            target: a.wrapping_add_signed(signed(branch_offset(bits), 1 << 12)),
-        },
+        (0b01, 0b110) => short_branch(a, bits),
+        (0b01, 0b111) => short_branch(a, bits),
         (0b10, 0b100) if second_register(bits) == 0 && first_register(bits) != 0 => {
             let register = first_register(bits) as u8;
             register_flow(image, a, field(bits, 12, 12) as u8, register, 0)
         }
         _ => flow_of(image, a, compressed_insn(image.extensions(), half)),
+    }
+}
+
+/// The flow of a compressed branch.
+fn short_branch(a: u64, half: u32) -> RawFlow
+    ensures flow { result
+        ≡ RawFlow.Branch (address_plus a (sign_extended 13 (Halfword.branch_offset half))) }
+    ensures fits { Halfword.branch_offset half < 2 ^ 13 }
+{
+    RawFlow::Branch {
+        target: a.wrapping_add_signed(signed(branch_offset(half), 1 << 12)),
     }
 }
 

@@ -5,7 +5,8 @@ ghost use Rattle.std.specs.Prelude.{◌≡◌, IsTrue};
 ghost use Rattle.elf_image.specs.Code.{is_code};
 ghost use Rattle.elf_image.specs.Faults.{IsImage};
 ghost use Rattle.rv_flow.specs.Placed.{placed_at, word_insn, rv64gc_insn, expanded};
-ghost use Rattle.rv_flow.specs.Placed.{compressed_insn, whole_insn};
+ghost use Rattle.rv_flow.specs.Placed.{compressed_insn, whole_insn, float_insn, float_form};
+ghost use Rattle.rv_extensions.specs.Forms.{takes_doubles};
 
 use elf_image::{Extensions, Image};
 use rv_decode::{Insn, decode};
@@ -56,48 +57,76 @@ pub fn insn_at(image: &Image, a: u64) -> Placed
 }
 
 // The instruction that a 16-bit form stands for.
-pub(crate) fn compressed_insn(extensions: Extensions, half: u16) -> Option<Insn>
-    ensures { result ≡ compressed_insn extensions half }
+pub(crate) fn compressed_insn(extensions: &Extensions, half: u16) -> Option<Insn>
+    ensures { result ≡ compressed_insn extensions.now half }
 {
-    match expanded(half) {
-        None => expand_extension(extensions, half),
-        Some(word) => rv64gc_insn(word),
+    match expanded(extensions, half) {
+        None => expand_extension(*extensions, half),
+        Some(word) => rv64gc_insn(extensions, word),
     }
 }
 
 // The instruction that a whole word is, if the word is there.
-fn whole_insn(extensions: Extensions, word: Option<u32>) -> Option<Insn>
-    ensures { result ≡ whole_insn extensions word }
+fn whole_insn(extensions: &Extensions, word: Option<u32>) -> Option<Insn>
+    ensures { result ≡ whole_insn extensions.now word }
 {
     word_insn(extensions, word?)
 }
 
 // The instruction that a word is by RV64GC, or else by the extensions.
-pub(crate) fn word_insn(extensions: Extensions, word: u32) -> Option<Insn>
-    ensures { result ≡ word_insn extensions word }
+pub(crate) fn word_insn(extensions: &Extensions, word: u32) -> Option<Insn>
+    ensures { result ≡ word_insn extensions.now word }
 {
-    match rv64gc_insn(word) {
-        None => decode_extension(extensions, word),
+    match rv64gc_insn(extensions, word) {
+        None => decode_extension(*extensions, word),
         insn => insn,
     }
 }
 
-/// The instruction of RV64GC that a word is, by the base table or the float table.
-pub fn rv64gc_insn(word: u32) -> Option<Insn>
-    ensures { result ≡ rv64gc_insn word }
+/// The instruction of RV64GC that a word is, by the base table or the float table, as far as the
+/// extensions that are named leave it.
+pub fn rv64gc_insn(extensions: &Extensions, word: u32) -> Option<Insn>
+    ensures { result ≡ rv64gc_insn extensions.now word }
 {
     match decode(word) {
-        None => decode_float(word),
+        None => float_insn(extensions, word),
         insn => insn,
     }
+}
+
+// The instruction of F or D that a word is, unless floats stand in integer registers.
+fn float_insn(extensions: &Extensions, word: u32) -> Option<Insn>
+    ensures { result ≡ float_insn extensions.now word }
+{
+    if extensions.zfinx {
+        return None;
+    }
+    decode_float(word)
 }
 
 // The word that a halfword stands for in RV64GC, by either table of compressed forms.
-pub(crate) fn expanded(half: u16) -> Option<u32>
-    ensures { result ≡ expanded half }
+pub(crate) fn expanded(extensions: &Extensions, half: u16) -> Option<u32>
+    ensures { result ≡ expanded extensions.now half }
 {
     match expand(half) {
-        None => expand_float(half),
+        None => float_form(extensions, half),
         word => word,
     }
+}
+
+// The load or store of a double that it stands for, unless the extensions take these away.
+fn float_form(extensions: &Extensions, half: u16) -> Option<u32>
+    ensures { result ≡ float_form extensions.now half }
+{
+    if takes_doubles(extensions) {
+        return None;
+    }
+    expand_float(half)
+}
+
+// Whether the compressed loads and stores of doubles are no instructions.
+fn takes_doubles(extensions: &Extensions) -> bool
+    ensures { result ≡ takes_doubles extensions.now }
+{
+    extensions.zfinx || extensions.zcmp || extensions.zcmt
 }

@@ -6,13 +6,13 @@ ghost use Rattle.elf_image.specs.Code.{is_code};
 ghost use Rattle.elf_image.specs.Faults.{IsImage};
 ghost use Rattle.rv_flow.specs.Raw.{raw_flow_at, raw_flow_by, insn_flow, jalr_flow, pair_target};
 ghost use Rattle.rv_flow.specs.Raw.{upper_before, upper_of, word_before, address_plus, is_unimp};
-ghost use Rattle.rv_flow.specs.Raw.{is_stub};
+ghost use Rattle.rv_flow.specs.Raw.{is_stub, away_flow};
 ghost use Rattle.rv_flow.specs.Inner.{is_upper, jal_flow, register_flow};
 
 use crate::placed::insn_at;
 use elf_image::Image;
 use rv_decode::fields::opcode;
-use rv_decode::{CsrKind, Insn, decode};
+use rv_decode::{AwayKind, CsrKind, Insn, decode};
 
 /// The opcodes of LUI and AUIPC (section 2.4.1).
 const LUI: u8 = 0x37;
@@ -31,13 +31,15 @@ pub enum RawFlow {
     Jump { target: u64 },
     /// A call of `target`: JAL or a paired JALR that links to another register.
     Call { target: u64 },
-    /// An unpaired JALR that links to a register other than x0, and is no stub.
+    /// An unpaired JALR that links to a register other than x0, and is no stub; CM.JALT.
     IndirectCall,
-    /// An unpaired JALR through x1 or x5 that links to x0.
+    /// An unpaired JALR through x1 or x5 that links to x0, or a pop of Zcmp that returns.
     Return,
     /// Any other unpaired JALR that links to x0, and one through x28 that links to x6, as the stub
     /// of an indirect function: a jump to `register` plus `offset`.
     RegisterJump { register: u8, offset: i64 },
+    /// A jump to a target that neither the instruction nor a register tells.
+    Unknown,
     /// Control does not go on: EBREAK, `unimp`, or no instruction.
     Stop,
 }
@@ -84,7 +86,18 @@ pub(crate) fn insn_flow(image: &Image, a: u64, insn: Insn) -> RawFlow
                 RawFlow::Straight
             }
         }
+        Insn::Away { kind, .. } => away_flow(kind),
         _ => RawFlow::Straight,
+    }
+}
+
+fn away_flow(kind: AwayKind) -> RawFlow
+    ensures { result ≡ away_flow kind }
+{
+    match kind {
+        AwayKind::Return => RawFlow::Return,
+        AwayKind::Unknown => RawFlow::Unknown,
+        AwayKind::Call => RawFlow::IndirectCall,
     }
 }
 

@@ -1,4 +1,5 @@
-//! The instruction of RV64GC at a code address, whatever extensions a file names.
+//! The instruction of RV64GC at a code address, as far as the extensions that the file names leave
+//! it.
 
 ghost use Rattle.std.specs.Prelude.{◌≡◌, IsTrue};
 ghost use Rattle.std.specs.Option.{option_and_then};
@@ -7,7 +8,7 @@ ghost use Rattle.rv_flow.specs.Placed.{expanded, rv64gc_insn};
 ghost use Rattle.rv_flow.specs.Rv64gc.{rv64gc_half, rv64gc_placed_at};
 
 use crate::placed::{Placed, expanded, rv64gc_insn};
-use elf_image::Image;
+use elf_image::{Extensions, Image};
 use rv_decode::Insn;
 
 /// The instruction of RV64GC at the code address `a`, as [`insn_at`](crate::insn_at) places it.
@@ -25,35 +26,36 @@ pub fn rv64gc_insn_at(image: &Image, a: u64) -> Placed
     if half & 0b11 != 0b11 {
         Placed {
             length: 2,
-            insn: rv64gc_half(half),
+            insn: rv64gc_half(image.extensions(), half),
         }
     } else if half >> 2 & 0b111 == 0b111 {
         bad
     } else {
-        match rv64gc_whole(image.word_at(a)) {
+        match rv64gc_whole(image.extensions(), image.word_at(a)) {
             None => bad,
             insn => Placed { length: 4, insn },
         }
     }
 }
 
-/// The word that a halfword stands for, by either table of compressed forms.
-pub fn rv64gc_word(half: u16) -> Option<u32>
-    ensures { result ≡ expanded half }
+/// The word that a halfword stands for, by either table of compressed forms, as far as the
+/// extensions that are named leave them.
+pub fn rv64gc_word(extensions: &Extensions, half: u16) -> Option<u32>
+    ensures { result ≡ expanded extensions.now half }
 {
-    expanded(half)
+    expanded(extensions, half)
 }
 
 // The instruction that a 16-bit form stands for.
-fn rv64gc_half(half: u16) -> Option<Insn>
-    ensures { result ≡ rv64gc_half half }
+fn rv64gc_half(extensions: &Extensions, half: u16) -> Option<Insn>
+    ensures { result ≡ rv64gc_half extensions.now half }
 {
-    rv64gc_insn(expanded(half)?)
+    rv64gc_insn(extensions, expanded(extensions, half)?)
 }
 
 // The instruction that a whole word is, if the word is there.
-fn rv64gc_whole(word: Option<u32>) -> Option<Insn>
-    ensures { result ≡ option_and_then rv64gc_insn word }
+fn rv64gc_whole(extensions: &Extensions, word: Option<u32>) -> Option<Insn>
+    ensures { result ≡ option_and_then (rv64gc_insn extensions.now) word }
 {
-    rv64gc_insn(word?)
+    rv64gc_insn(extensions, word?)
 }

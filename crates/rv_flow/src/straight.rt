@@ -105,7 +105,7 @@ impl StraightForms {
         ensures answer { result ≡ short_goes_on self.old half }
         ensures kept { self.new ≡ self.old }
     {
-        let goes_on = goes_on_behind(compressed_insn(self.extensions, half));
+        let goes_on = decoded(&self.extensions, half);
         if let Some(place) = self.shorts.get_mut(usize::from(half)) {
             *place = if goes_on {
                 ShortForm::GoesOn
@@ -115,6 +115,13 @@ impl StraightForms {
         }
         goes_on
     }
+}
+
+// Whether control goes straight on after a halfword as a 16-bit instruction, which is decoded.
+fn decoded(extensions: &Extensions, half: u16) -> bool
+    ensures { result ≡ short_goes_on extensions.now half }
+{
+    goes_on_behind(compressed_insn(extensions, half))
 }
 
 // Whether control goes straight on after what is an instruction.
@@ -132,7 +139,11 @@ fn goes_on(insn: Insn) -> bool
     ensures { result ≡ goes_on insn }
 {
     match insn {
-        Insn::Jal { .. } | Insn::Jalr { .. } | Insn::Branch { .. } | Insn::Ebreak => false,
+        Insn::Jal { .. }
+        | Insn::Jalr { .. }
+        | Insn::Branch { .. }
+        | Insn::Ebreak
+        | Insn::Away { .. } => false,
         Insn::Csr {
             kind,
             rd,

@@ -1,10 +1,13 @@
 //! Whether control goes straight on after a word. Most words tell it by their opcode and funct3,
 //! and are not decoded.
 
-ghost use Rattle.std.specs.Prelude.{◌≡◌, is_some};
+ghost use Rattle.std.specs.Prelude.{◌≡◌, is_some, [], ◌∷◌};
 ghost use Rattle.rv_decode.specs.Fields.{opcode};
-ghost use Rattle.rv_extensions.specs.Table.{extension_instruction};
-ghost use Rattle.rv_flow.specs.Placed.{rv64gc_insn, word_insn};
+ghost use Rattle.rv_decode.specs.Fields;
+ghost use Rattle.rv_decode.specs.Table.{instruction};
+ghost use Rattle.rv_float.specs.Table.{is_among};
+ghost use Rattle.rv_extensions.specs.IntegerFloats.{named_instruction};
+ghost use Rattle.rv_flow.specs.Placed.{word_insn};
 ghost use Rattle.rv_flow.specs.Inner.{goes_on_behind};
 
 use crate::placed::word_insn;
@@ -39,9 +42,10 @@ const JALR: u8 = 0x67;
 
 const JAL: u8 = 0x6F;
 
-// Those that no instruction has.
+// The words of a vendor.
 const CUSTOM_0: u8 = 0x0B;
 
+// Those that no instruction has.
 const CUSTOM_1: u8 = 0x2B;
 
 const CUSTOM_2: u8 = 0x5B;
@@ -57,7 +61,7 @@ const OP_VE: u8 = 0x77;
 
 /// Whether control goes straight on after a word, by the extensions that are named: not if it is no
 /// instruction. They are asked only of a word that RV64GC does not have.
-#[tactic(auto, using(crate::proofs::Extended::lui_goes_on, crate::proofs::Extended::auipc_goes_on, crate::proofs::Extended::jal_never, crate::proofs::Extended::jalr_never, crate::proofs::Extended::branch_never, crate::proofs::Extended::load_goes_on, crate::proofs::Extended::store_goes_on, crate::proofs::Extended::store_never, crate::proofs::Extended::addiw_goes_on, crate::proofs::Extended::custom_never, crate::proofs::Extended::vector_goes, crate::proofs::Extended::vector_crypto_goes, crate::proofs::Extended::either, crate::proofs::Told::float_load_word, crate::proofs::Told::float_load_double, crate::proofs::Told::no_float_load, crate::proofs::Told::float_store_word, crate::proofs::Told::float_store_double, crate::proofs::Told::no_float_store))]
+#[tactic(auto, using(crate::proofs::Extended::lui_goes_on, crate::proofs::Extended::auipc_goes_on, crate::proofs::Extended::jal_never, crate::proofs::Extended::jalr_never, crate::proofs::Extended::branch_never, crate::proofs::Extended::load_goes_on, crate::proofs::Extended::store_goes_on, crate::proofs::Extended::store_never, crate::proofs::Extended::addiw_goes_on, crate::proofs::Extended::custom_never, crate::proofs::Extended::vendor_goes, crate::proofs::Extended::imm_either, crate::proofs::Extended::op_either, crate::proofs::Extended::load_either, crate::proofs::Extended::store_either, crate::proofs::Extended::vector_goes, crate::proofs::Extended::vector_crypto_goes))]
 #[inline(always)]
 pub(crate) fn word_goes_on(extensions: &Extensions, word: u32) -> bool
     ensures { result ≡ goes_on_behind (word_insn extensions.now word) }
@@ -67,13 +71,16 @@ pub(crate) fn word_goes_on(extensions: &Extensions, word: u32) -> bool
         JAL | JALR | BRANCH => false,
         LOAD => funct3(word) != 7,
         STORE => funct3(word) < 4,
-        LOAD_FP | STORE_FP => matches!(funct3(word), 2 | 3) || is_extension(extensions, word),
+        LOAD_FP | STORE_FP => {
+            !extensions.zfinx && is_double_or_word(word) || is_extension(extensions, word)
+        }
         OP_IMM => imm_goes_on(word) || is_extension(extensions, word),
         OP_IMM_32 if funct3(word) == 0 => true,
         OP => op_goes_on(word) || is_extension(extensions, word),
         OP_V | OP_VE => extensions.vector,
-        CUSTOM_0 | CUSTOM_1 | CUSTOM_2 | CUSTOM_3 | RESERVED_6B => false,
-        _ => goes_on_behind(word_insn(*extensions, word)),
+        CUSTOM_0 => extensions.xthead,
+        CUSTOM_1 | CUSTOM_2 | CUSTOM_3 | RESERVED_6B => false,
+        _ => goes_on_behind(word_insn(extensions, word)),
     }
 }
 
@@ -81,16 +88,23 @@ pub(crate) fn word_goes_on(extensions: &Extensions, word: u32) -> bool
 #[cold]
 #[inline(never)]
 fn is_extension(extensions: &Extensions, word: u32) -> bool
-    ensures { result ≡ is_some (extension_instruction extensions.now word) }
+    ensures { result ≡ is_some (named_instruction extensions.now word) }
 {
     decode_extension(*extensions, word).is_some()
+}
+
+// Whether the width of a load or a store of a float is a word or a doubleword.
+fn is_double_or_word(word: u32) -> bool
+    ensures { result ≡ is_among (2 ∷ 3 ∷ []) (Fields.funct3 word) }
+{
+    matches!(funct3(word), 2 | 3)
 }
 
 // Operations on a register and an immediate: a shift needs the right bits above its amount.
 #[tactic(auto, using(crate::proofs::Told::imm_goes, crate::proofs::Told::shift_left_goes, crate::proofs::Told::shift_right_goes, crate::proofs::Told::shift_signed_goes, crate::proofs::Told::no_shift))]
 fn imm_goes_on(word: u32) -> bool
     requires { opcode word ≡ OP_IMM }
-    ensures { result ≡ goes_on_behind (rv64gc_insn word) }
+    ensures { result ≡ goes_on_behind (instruction word) }
 {
     match funct3(word) {
         1 => funct6(word) == 0,
@@ -103,7 +117,7 @@ fn imm_goes_on(word: u32) -> bool
 #[tactic(auto, using(crate::proofs::Told::base_goes, crate::proofs::Told::multiply_goes, crate::proofs::Told::negated_goes, crate::proofs::Told::negated_none, crate::proofs::Told::reg_stops))]
 fn op_goes_on(word: u32) -> bool
     requires { opcode word ≡ OP }
-    ensures { result ≡ goes_on_behind (rv64gc_insn word) }
+    ensures { result ≡ goes_on_behind (instruction word) }
 {
     match funct7(word) {
         0x00 | 0x01 => true,

@@ -9,7 +9,9 @@ use Rattle.rv_decode.specs.Table.{Row, holds, first_meaning, instruction, rows, 
 use Rattle.rv_decode.specs.declared.instructions.Insn.{Insn}
 use Rattle.rv_float.specs.Table as float
 use Rattle.rv_flow.specs.declared.placed.Placed.{Placed}
-use Rattle.rv_flow.specs.Placed.{expanded, whole, bad, rv64gc_insn}
+use Rattle.elf_image.specs.declared.extensions.Extensions.{Extensions}
+use Rattle.elf_image.specs.Architecture.{extensions_of}
+use Rattle.rv_flow.specs.Placed.{expanded, whole, bad, float_insn, rv64gc_insn}
 use Rattle.rv_flow.specs.Rv64gc.{rv64gc_placed_by, rv64gc_placed_at}
 use Rattle.rv_machine.specs.Inner.Operands.{WritesRegister}
 
@@ -131,24 +133,27 @@ either_writes : (first second : Option Insn) → IfSome first WritesRegister →
 either_writes None second h k = k
 either_writes (Some insn) second h k = h
 
-word_writes : (word : Option ℕ) → IfSome (option_and_then rv64gc_insn word) WritesRegister
-word_writes None = tt
-word_writes (Some w) = either_writes _ _ (base_writes w) (float_writes w)
+left_writes : (e : Extensions) (w : ℕ) → IfSome (float_insn e w) WritesRegister
+left_writes e w = cond_both e.zfinx None (float.float_instruction w) (λ (o : Option Insn). IfSome o WritesRegister) (λ _. tt) (λ _. float_writes w)
+
+word_writes : (e : Extensions) (word : Option ℕ) → IfSome (option_and_then (rv64gc_insn e) word) WritesRegister
+word_writes e None = tt
+word_writes e (Some w) = either_writes _ _ (base_writes w) (left_writes e w)
 
 whole_writes : (insn : Option Insn) → IfSome insn WritesRegister → IfSome (whole insn).insn WritesRegister
 whole_writes None h = tt
 whole_writes (Some insn) h = h
 
 module _ (bytes : List ℕ) (a : ℕ) where
-  whole-word : (word : Option ℕ) → IfSome (whole (option_and_then rv64gc_insn word)).insn WritesRegister
-  whole-word word = whole_writes (option_and_then rv64gc_insn word) (word_writes word)
+  whole-word : (word : Option ℕ) → IfSome (whole (option_and_then (rv64gc_insn (extensions_of bytes)) word)).insn WritesRegister
+  whole-word word = whole_writes (option_and_then (rv64gc_insn (extensions_of bytes)) word) (word_writes (extensions_of bytes) word)
 
-  by-half : (half : Option ℕ) → IfSome (option_map_or (rv64gc_placed_by bytes a) half bad).insn WritesRegister
+  by-half : (half : Option ℕ) → IfSome (option_map_or (rv64gc_placed_by (extensions_of bytes) bytes a) half bad).insn WritesRegister
   by-half None = tt
   by-half (Some half) =
       cond_both (half % 4 == 3) _ _ (λ (p : Placed). IfSome p.insn WritesRegister)
       (λ _. cond_both (half / 4 % 8 == 7) _ _ (λ (p : Placed). IfSome p.insn WritesRegister) (λ _. tt) (λ _. whole-word (word_at bytes a)))
-      (λ _. word_writes (expanded half))
+      (λ _. word_writes (extensions_of bytes) (expanded (extensions_of bytes) half))
 
   -- the instruction of RV64GC at an address writes one of 32 registers
   pub placed-writes : IfSome (rv64gc_placed_at bytes a).insn WritesRegister

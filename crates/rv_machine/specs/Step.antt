@@ -208,6 +208,8 @@ insn_step file length (insns.ShiftAdd shift zero_extended rd rs1 rs2) state memo
     Traps traps.Unsupported
 insn_step file length (insns.Extend kind rd rs1) state memory = Traps traps.Unsupported
 insn_step file length (insns.Extension reads writes) state memory = Traps traps.Unsupported
+insn_step file length (insns.Away kind reads writes) state memory = Traps traps.Unsupported
+insn_step file length (insns.Vendor kind shift rd rs1 rs2) state memory = Traps traps.Unsupported
 
 -- the trap where no instruction of RV64GC stands: whether one of another extension does, by the
 -- names in the file

@@ -151,9 +151,11 @@ fn insn_step<R: Ram>(image: &Image, cpu: &mut Cpu, ram: &mut R, length: u8, insn
         Insn::Ebreak => Stepped::Trap(Trap::Breakpoint),
         Insn::Csr { .. } => Stepped::Trap(Trap::Csr),
         Insn::Float { .. } => Stepped::Trap(Trap::Float),
-        Insn::ShiftAdd { .. } | Insn::Extend { .. } | Insn::Extension { .. } => {
-            Stepped::Trap(Trap::Unsupported)
-        }
+        Insn::ShiftAdd { .. }
+        | Insn::Extend { .. }
+        | Insn::Extension { .. }
+        | Insn::Away { .. }
+        | Insn::Vendor { .. } => Stepped::Trap(Trap::Unsupported),
     }
 }
 

@@ -9,7 +9,8 @@ use Rattle.cfg_model.specs.Program.Chain.{OnChain}
 use Rattle.cfg_model.specs.Program.Meeting.{IsStop}
 use Rattle.cfg_model.specs.Builder.State.{BuilderState, IsStart, IsParsed, HasEnd, IsAnchored}
 use Rattle.cfg_model.specs.Builder.Event.{Event, Steps, with_settled, entry_with_waiter, entry_with_told, entry_with_return, entry_with_done}
-use Rattle.cfg_model.specs.Builder.Fact.{Fact, Holds, WhereCallFollows}
+use Rattle.cfg_model.specs.Builder.Fact.{Fact, Holds}
+use Rattle.cfg_model.specs.Builder.Waits.{DependsAs, FollowsFrom}
 use Rattle.cfg_model.specs.Builder.Reason.{Reason, May, EndReturns, EndsAStart, WantReason, SettleReason, ParsedReason, TerminatorReason, WaitReason, ReturnedReason, EffectStands, ToldReason, DoneReason}
 use Rattle.cfg_model.specs.Builder.Laws.{FactsLast, ReasonsLast}
 use Rattle.cfg_model.proofs.Program.ChainFacts.{chain_up, chain_on}
@@ -85,6 +86,16 @@ event_grows map seeds lawful old (Event.EdgesDone k) new may step =
 pub facts_last : FactsLast
 facts_last map seeds lawful old event new may step fact h = growth_facts map old new (event_grows map seeds lawful old event new may step) fact h
 
+-- A terminator depends on another one as before, if no fewer targets return.
+module _ (map : InstructionMap) (Less More : ℕ → Type 0) (more : (target : ℕ) → Less target → More target) where
+  follows_more : (k terminator : ℕ) → FollowsFrom map Less k terminator → FollowsFrom map More k terminator
+  follows_more k terminator (FollowsFrom.onward ends to_in end) = FollowsFrom.onward ends to_in end
+  follows_more k terminator (FollowsFrom.past_call {target = target} call back end) = FollowsFrom.past_call call (more target back) end
+
+  pub depends_more : (k terminator : ℕ) (kind : WaitKind) → DependsAs map Less k terminator kind → DependsAs map More k terminator kind
+  depends_more k terminator Follow h = follows_more k terminator h
+  depends_more k terminator Release h = h
+
 -- Reasons grow with what is known.
 module _ (map : InstructionMap) (seeds : List ℕ) (Less More : Fact → Type 0) (more : (fact : Fact) → Less fact → More fact) where
   end_returns_more : (t : ℕ) → EndReturns map Less t → EndReturns map More t
@@ -104,12 +115,8 @@ module _ (map : InstructionMap) (seeds : List ℕ) (Less More : Fact → Type 0)
   stop_more k (inl t) = inl t
   stop_more k (inr (next, goes, known)) = inr (next, goes, more _ known)
 
-  callee_more : (terminator : ℕ) (kind : WaitKind) → WhereCallFollows map (EndReturns map Less) terminator kind → WhereCallFollows map (EndReturns map More) terminator kind
-  callee_more terminator Follow h = λ target fall call. end_returns_more target (h target fall call)
-  callee_more terminator Release h = tt
-
   pub wait_more : (k : ℕ) (w : Waiter) → WaitReason map Less k w → WaitReason map More k w
-  wait_more k w r = record { entered = more _ r.entered; waiter = more _ r.waiter; depends = r.depends; callee = callee_more w.terminator w.kind r.callee }
+  wait_more k w r = record { entered = more _ r.entered; waiter = more _ r.waiter; depends = depends_more map (EndReturns map Less) (EndReturns map More) end_returns_more k w.terminator w.kind r.depends }
 
   pub parsed_more : (s : ℕ) → ParsedReason map Less s → ParsedReason map More s
   parsed_more s r = record { start = more _ r.start; at = r.at; anchored = more _ r.anchored; end = r.end; before = r.before; ends = r.ends; entered = more _ r.entered }

@@ -30,6 +30,7 @@ use Rattle.cfg_model.specs.Builder.Shown.{ShowsGraph}
 use Rattle.cfg_model.specs.Builder.Run.{IsRun}
 use Rattle.cfg_model.specs.Builder.Laws.{ClosedShowsGraph, Confluence, OrdersAgree}
 use Rattle.cfg_model.proofs.Program.Listed.{none_in, in_cases, head_in}
+use Rattle.cfg_model.proofs.Program.Landing.{landing_follows, may_land}
 use Rattle.cfg_model.proofs.Builder.MapFacts.{same_or_other}
 use Rattle.cfg_model.proofs.Program.ChainFacts.{chain_up, chain_on, one_next, goes_up}
 use Rattle.cfg_model.proofs.Builder.StateGrowth.{false_true, none_is_some}
@@ -133,12 +134,12 @@ sent_to map k to (Jump target) e c = by_flow map k to (Jump target) e tt c
 sent_to map k to (Call target fall) e c =
     record {
       ends = call_ends map k target fall e;
-      target = elim (in_cases target [] to c) [
+      target = elim (in_cases target (targets_at map k) to c) [
         | inl same ↦ subst (λ z. IsTarget map k z) same (IsTarget.called e)
-        | inr none ↦ absurd (none_in to none)
+        | inr lands ↦ IsTarget.onward (landing_follows map k to (may_land map k (Call target fall) e tt) lands)
       ];
     }
-sent_to map k to (IndirectCall fall) e c = absurd (none_in to c)
+sent_to map k to (IndirectCall fall) e c = by_flow map k to (IndirectCall fall) e tt (Contains-append_right (option_to_list fall) (targets_at map k) to c)
 sent_to map k to (Table entries full is_open) e c = by_flow map k to (Table entries full is_open) e tt c
 sent_to map k to Return e c = absurd (none_in to c)
 sent_to map k to Unknown e c = absurd (none_in to c)
@@ -155,7 +156,7 @@ falls_to map k to (Straight next) e f = absurd (no_fall to f)
 falls_to map k to (Branch taken fall) e f = by_flow map k to (Branch taken fall) e tt (Contains-append_right (option_to_list taken) (option_to_list fall) to (in_list fall to f))
 falls_to map k to (Jump target) e f = absurd (no_fall to f)
 falls_to map k to (Call target fall) e f = absurd (no_fall to f)
-falls_to map k to (IndirectCall fall) e f = by_flow map k to (IndirectCall fall) e tt (in_list fall to f)
+falls_to map k to (IndirectCall fall) e f = by_flow map k to (IndirectCall fall) e tt (Contains-append_left (option_to_list fall) (targets_at map k) to (in_list fall to f))
 falls_to map k to (Table entries full is_open) e f = absurd (no_fall to f)
 falls_to map k to Return e f = absurd (no_fall to f)
 falls_to map k to Unknown e f = absurd (no_fall to f)

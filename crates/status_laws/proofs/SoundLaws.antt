@@ -14,7 +14,7 @@ use Rattle.cfg_model.specs.Program.Status.{Returns}
 use Rattle.cfg_model.specs.Graph.Leader.{IsLeader, StartsBlock}
 use Rattle.cfg_model.specs.Program.Meeting.{IsStop}
 use Rattle.cfg_model.specs.Builder.State.{BuilderState, EndMap, EndEntry, TerminatorMap, TerminatorEntry, IsNear, IsEntered, IsReturned, WaitsAt}
-use Rattle.cfg_model.specs.Builder.Fact.{Fact, Holds, IsReachedTerminator, IsSoundWait, IsSoundFact, WhereCallFollows}
+use Rattle.cfg_model.specs.Builder.Fact.{Fact, Holds, IsReachedTerminator, IsSoundWait, IsSoundFact}
 use Rattle.cfg_model.specs.Builder.Reason.{EndReturns, EndsAStart, WantReason, ReturnedReason}
 use Rattle.cfg_model.specs.Builder.Kept.{IsKept}
 use Rattle.cfg_model.specs.Builder.Sound.{IsSound, SoundEnds, SoundTerminators}
@@ -29,7 +29,8 @@ use Rattle.cfg_model.proofs.Graphs.LeaderFacts.{reached_along, target_leads}
 use Rattle.cfg_model.specs.Builder.Event.{Event, with_terminator, with_changed, with_settled, entry_with_waiter, entry_with_told, entry_with_return, entry_with_done}
 use Rattle.cfg_model.specs.Program.Reach.{Reached}
 use Rattle.cfg_model.specs.Builder.Waiter.{follower}
-use Rattle.cfg_model.specs.Builder.Waits.{FollowsFrom}
+use Rattle.cfg_model.specs.Builder.Waits.{DependsAs, FollowsFrom}
+use Rattle.split_laws.proofs.FactLaws.{depends_more}
 use Rattle.split_laws.proofs.BlockLaws.{start_from, parsed_start_from, changed_entered}
 use Rattle.split_laws.proofs.ArrivalFacts.{EndsKept, EndsBack, arrival_back, settled_near, settled_moved, settled_stands}
 
@@ -39,9 +40,8 @@ module _ (map : InstructionMap) (seeds : List ℕ) (state : BuilderState) (kept 
       let entry = kept.entries k entered in
       record { reached = reached_along (kept.leaders.0 entry.from entry.start).reached entry.ends.reaches; ends = entry.ends.ends }
 
-  callee_returns : (terminator : ℕ) (kind : WaitKind) → WhereCallFollows map (EndReturns map (Holds map state)) terminator kind → WhereCallFollows map (Returns map) terminator kind
-  callee_returns terminator Follow h = λ target fall call. let back = h target fall call in returns_along back.ends.reaches (kept.returned back.end back.returned)
-  callee_returns terminator Release h = tt
+  depends_truly : (k terminator : ℕ) (kind : WaitKind) → DependsAs map (EndReturns map (Holds map state)) k terminator kind → DependsAs map (Returns map) k terminator kind
+  depends_truly k terminator kind h = depends_more map _ _ (λ target back. returns_along back.ends.reaches (kept.returned back.end back.returned)) k terminator kind h
 
   sound_stop : (k : ℕ) → IsStop map (λ s. Holds map state (Fact.Start s)) k → IsStop map (IsLeader map seeds) k
   sound_stop k (inl ends) = inl ends
@@ -59,7 +59,7 @@ module _ (map : InstructionMap) (seeds : List ℕ) (state : BuilderState) (kept 
         terminators = record {
           entries = entry_reached;
           returned = kept.returned;
-          waits = λ k w h. let reason = kept.waits k w h in record { depends = reason.depends; waiter = entry_reached w.terminator reason.waiter; callee = callee_returns w.terminator w.kind reason.callee };
+          waits = λ k w h. let reason = kept.waits k w h in record { depends = depends_truly k w.terminator w.kind reason.depends; waiter = entry_reached w.terminator reason.waiter };
         };
       }
 
@@ -128,9 +128,8 @@ module _ (map : InstructionMap) (seeds : List ℕ) where
   end_returns : (t : ℕ) → EndReturns map (IsSoundFact map seeds) t → Returns map t
   end_returns t back = returns_along back.ends.reaches back.returned
 
-  sound_callee : (terminator : ℕ) (kind : WaitKind) → WhereCallFollows map (EndReturns map (IsSoundFact map seeds)) terminator kind → WhereCallFollows map (Returns map) terminator kind
-  sound_callee terminator Follow h = λ target fall call. end_returns target (h target fall call)
-  sound_callee terminator Release h = tt
+  depends_soundly : (k terminator : ℕ) (kind : WaitKind) → DependsAs map (EndReturns map (IsSoundFact map seeds)) k terminator kind → DependsAs map (Returns map) k terminator kind
+  depends_soundly k terminator kind h = depends_more map _ _ end_returns k terminator kind h
 
   wanted_soundly : (s : ℕ) → WantReason map seeds (IsSoundFact map seeds) s → IsLeader map seeds s
   wanted_soundly s (WantReason.seed c) = record { reached = Reached.seed c; starts = StartsBlock.seed c }
@@ -151,9 +150,9 @@ module _ (map : InstructionMap) (seeds : List ℕ) where
       by : (at : ℕ) → Returns map at → IsSoundWait map seeds at (follower k) → Returns map k
       by at back wait = on wait.depends
         where
-          on : FollowsFrom map at k → Returns map k
+          on : FollowsFrom map (Returns map) at k → Returns map k
           on (FollowsFrom.onward ends to_in end) = Returns.onward to_in (returns_along end.reaches back)
-          on (FollowsFrom.past_call {target = target} {fall = fall} call end) = Returns.past_call call (wait.callee target (Some fall) call) (returns_along end.reaches back)
+          on (FollowsFrom.past_call call callee end) = Returns.past_call call callee (returns_along end.reaches back)
 
   -- a change that keeps entries, marks and waiters
   kept_by : (terminators : TerminatorMap) (k : ℕ) (change : TerminatorEntry → TerminatorEntry) → ((entry : TerminatorEntry) → Marked (Some (change entry)) → Marked (Some entry) ⊎ Returns map k) → ((w : Waiter) (entry : TerminatorEntry) → Waiting w (Some (change entry)) → Waiting w (Some entry) ⊎ IsSoundWait map seeds k w) → TerminatorsBack map seeds terminators (with_changed terminators k change)
@@ -213,7 +212,7 @@ events_keep_sound map seeds lawful old (Event.Settle k x) new sound reason step 
 events_keep_sound map seeds lawful old (Event.Terminator k) new sound reason step =
     subst (IsSound map seeds) (sym step) (with_terminators map seeds old (with_terminator old.terminators k) sound (entered_by map seeds old.terminators k (end_reached map seeds k (EndsAStart.start reason.start reason.ends))))
 events_keep_sound map seeds lawful old (Event.Wait k w) new sound reason step =
-    subst (IsSound map seeds) (sym step) (with_terminators map seeds old (with_changed old.terminators k (entry_with_waiter w)) sound (kept_by map seeds old.terminators k (entry_with_waiter w) (λ entry h. inl h) (λ v entry h. elim (waiter_waits_by w v entry (maps.contains_key entry.waiters w) h) [ inl before ↦ inl before | inr e ↦ inr (subst (IsSoundWait map seeds k) (sym e) (record { depends = reason.depends; waiter = reason.waiter; callee = sound_callee map seeds w.terminator w.kind reason.callee })) ])))
+    subst (IsSound map seeds) (sym step) (with_terminators map seeds old (with_changed old.terminators k (entry_with_waiter w)) sound (kept_by map seeds old.terminators k (entry_with_waiter w) (λ entry h. inl h) (λ v entry h. elim (waiter_waits_by w v entry (maps.contains_key entry.waiters w) h) [ inl before ↦ inl before | inr e ↦ inr (subst (IsSoundWait map seeds k) (sym e) (record { depends = depends_soundly map seeds k w.terminator w.kind reason.depends; waiter = reason.waiter })) ])))
 events_keep_sound map seeds lawful old (Event.Returned k) new sound reason step =
     subst (IsSound map seeds) (sym step) (with_terminators map seeds old (with_changed old.terminators k entry_with_return) sound (kept_by map seeds old.terminators k entry_with_return (λ entry h. inr (returned_soundly map seeds k reason)) (λ v entry h. inl h)))
 events_keep_sound map seeds lawful old (Event.Told k w) new sound reason step =

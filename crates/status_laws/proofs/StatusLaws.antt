@@ -12,7 +12,7 @@ use Rattle.cfg_model.specs.Builder.Waits.{FollowsFrom}
 use Rattle.cfg_model.specs.Builder.State.{BuilderState, TerminatorMap, TerminatorEntry, IsReturned, IsDone, WaitsAt, IsTold}
 use Rattle.cfg_model.specs.Builder.Event.{Event, Steps, with_terminator, with_changed, new_entry, entry_with_waiter, entry_with_told, entry_with_return, entry_with_done}
 use Rattle.cfg_model.specs.Builder.Fact.{Fact, Holds}
-use Rattle.cfg_model.specs.Builder.Reason.{May, ReturnedReason, WaitReason, DoneReason, ToldReason}
+use Rattle.cfg_model.specs.Builder.Reason.{May, EndReturns, ReturnedReason, WaitReason, DoneReason, ToldReason}
 use Rattle.cfg_model.specs.Builder.Laws.{EventsKeepStatus}
 use Rattle.cfg_model.specs.Builder.Kept.{KeepsStatus, ReturnedReturn, WaitsHold}
 use Rattle.cfg_model.proofs.Builder.StateGrowth.{same_waiter, waiter_here, waiter_apart, false_true, no_waiter, no_told}
@@ -31,10 +31,9 @@ returns_for map state returned waits k reason =
     by : (at : ℕ) → Returns map at → WaitReason map (Holds map state) at (follower k) → Returns map k
     by at back wait = on wait.depends
       where
-        on : FollowsFrom map at k → Returns map k
+        on : FollowsFrom map (EndReturns map (Holds map state)) at k → Returns map k
         on (FollowsFrom.onward ends to_in end) = Returns.onward to_in (returns_along end.reaches back)
-        on (FollowsFrom.past_call {target = target} {fall = fall} call end) =
-            let callee = wait.callee target (Some fall) call in
+        on (FollowsFrom.past_call call callee end) =
             Returns.past_call call (returns_along callee.ends.reaches (returned callee.end callee.returned)) (returns_along end.reaches back)
 
 -- The reads, of one entry.

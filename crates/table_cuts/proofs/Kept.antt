@@ -16,14 +16,13 @@ use Rattle.cfg_model.proofs.Builder.MapFacts.{same_or_other, get_here, get_apart
 use Rattle.code_view.specs.Cuts.{Counts, cut_of, CutsFit}
 use Rattle.table_cuts.specs.Extents.{extent_of, extent_at}
 use Rattle.code_view.specs.declared.table_jump.TableJump.{TableJump}
-use Rattle.code_view.specs.Tables.{AreTablesOf, addresses_of}
+use Rattle.code_view.specs.Tables.{HasTable, AreAllTables, AreTablesOf, addresses_of}
 use Rattle.table_cuts.specs.Inner.{IsBaseOf, AreBases, IsInside, IsCutBy, CutBy}
 use Rattle.code_view.proofs.Sought.{same_length, jump_is}
 use Rattle.table_cuts.proofs.Found.{table_is}
 
 -- A jump whose table is cut to this many entries.
-pub record IsCutJump (bytes jumps bases : List ℕ) (j kept : ℕ) : Type 0 where
-  pub counts : Contains jumps j
+pub record IsCutJump (bytes bases : List ℕ) (j kept : ℕ) : Type 0 where
   pub table : Table
   pub at_jump : table_at bytes j ≡ Some table
   pub cut : IsCutBy bases (extent_of table) kept
@@ -34,7 +33,7 @@ IsSettled bytes jumps bases cuts k = (d : ℕ) (table : Table) → table_at byte
 
 -- What the cuts are once the first i jumps were seen.
 pub record AreSettled (bytes jumps bases : List ℕ) (cuts : Counts) (i : ℕ) : Type 0 where
-  pub sound : (j kept : ℕ) → cut_of cuts j ≡ Some kept → IsCutJump bytes jumps bases j kept
+  pub sound : (j kept : ℕ) → cut_of cuts j ≡ Some kept → IsCutJump bytes bases j kept
   pub complete : (k : ℕ) → k < i → IsSettled bytes jumps bases cuts k
 
 -- What a cut leaves is one entry at least.
@@ -51,7 +50,7 @@ module _ (bytes jumps bases : List ℕ) where
   }
 
   -- A table that the bases do not cut has no cut.
-  uncut : (cuts : Counts) (j : ℕ) → ((kept : ℕ) → cut_of cuts j ≡ Some kept → IsCutJump bytes jumps bases j kept) → (table : Table) → table_at bytes j ≡ Some table
+  uncut : (cuts : Counts) (j : ℕ) → ((kept : ℕ) → cut_of cuts j ≡ Some kept → IsCutJump bytes bases j kept) → (table : Table) → table_at bytes j ≡ Some table
       → ((kept : ℕ) → ¬ IsCutBy bases (extent_of table) kept) → (o : Option ℕ) → cut_of cuts j ≡ o → CutBy bases (extent_of table) o
   uncut cuts j sound table at none None is = none
   uncut cuts j sound table at none (Some kept) is =
@@ -80,11 +79,10 @@ module _ (bytes jumps bases : List ℕ) where
         abbrev after : Counts
         after = map.insert cuts (get_or jumps i e) kept
 
-        sound-at : (q n : ℕ) → (q ≡ get_or jumps i e) ⊎ (q ≢ get_or jumps i e) → cut_of after q ≡ Some n → IsCutJump bytes jumps bases q n
+        sound-at : (q n : ℕ) → (q ≡ get_or jumps i e) ⊎ (q ≢ get_or jumps i e) → cut_of after q ≡ Some n → IsCutJump bytes bases q n
         sound-at q n (inl same) at =
             let value : kept ≡ n = same_Some kept n (sym (get_here cuts (get_or jumps i e) kept) ∙ ap (cut_of after) (sym same) ∙ at) in
             record {
-              counts = subst (Contains jumps) (sym same) (Contains-get_or jumps i e inside);
               table = found;
               at_jump = ap (table_at bytes) same ∙ is;
               cut = subst (IsCutBy bases (extent_of found)) value cut;
@@ -112,7 +110,7 @@ module _ (bytes jumps bases : List ℕ) where
 
 -- ---- all jumps
 
-module _ (bytes jumps bases : List ℕ) (are : AreBases bytes jumps bases) where
+module _ (bytes jumps bases : List ℕ) (listed : (j : ℕ) → HasTable bytes j → Contains jumps j) (are : AreBases bytes jumps bases) where
   module _ (cuts : Counts) (i : ℕ) (all : i ≡ length jumps) (settled : AreSettled bytes jumps bases cuts i) where
     pub settled-fits : CutsFit bytes (cut_of cuts)
     settled-fits j kept is =
@@ -124,25 +122,26 @@ module _ (bytes jumps bases : List ℕ) (are : AreBases bytes jumps bases) where
           within = omega (arith, cut.cut.fewer);
         }
 
-    abbrev Counted : ℕ → Type 0
-    Counted j = Contains jumps j
-
     -- A base inside a table by the extents is one by the tables.
-    base_by_extents : (jump b : ℕ) (o : Option Table) → table_at bytes jump ≡ o → (other : Extent) → option_map extent_of o ≡ Some other → other.base ≡ b → Contains jumps jump → IsBaseOf bytes jumps b
-    base_by_extents jump b None at other is base counts = absurd (none-some other is)
-    base_by_extents jump b (Some table) at other is base counts =
-        record { jump = jump; counts = counts; table = table; at_jump = at; base = ap (λ (e : Extent). e.base) (same_Some (extent_of table) other is) ∙ base }
+    base_by_extents : (jump b : ℕ) (o : Option Table) → table_at bytes jump ≡ o → (other : Extent) → option_map extent_of o ≡ Some other → other.base ≡ b → IsBaseOf bytes jumps b
+    base_by_extents jump b None at other is base = absurd (none-some other is)
+    base_by_extents jump b (Some table) at other is base = record {
+      jump = jump;
+      counts = listed jump (record { table = table; at_jump = at });
+      table = table;
+      at_jump = at;
+      base = ap (λ (e : Extent). e.base) (same_Some (extent_of table) other is) ∙ base;
+    }
 
-    to-inside : (table : Table) (b : ℕ) → IsBaseInside (extent_at bytes) Counted (extent_of table) b → Contains bases b × IsInside (extent_of table) b
+    to-inside : (table : Table) (b : ℕ) → IsBaseInside (extent_at bytes) (extent_of table) b → Contains bases b × IsInside (extent_of table) b
     to-inside table b h =
-        (are.complete b (base_by_extents h.jump b (table_at bytes h.jump) refl h.other h.at_jump h.base h.counts), record { above = h.above; below = h.below })
+        (are.complete b (base_by_extents h.jump b (table_at bytes h.jump) refl h.other h.at_jump h.base), record { above = h.above; below = h.below })
 
-    from-inside : (table : Table) (b : ℕ) → Contains bases b → IsInside (extent_of table) b → IsBaseInside (extent_at bytes) Counted (extent_of table) b
+    from-inside : (table : Table) (b : ℕ) → Contains bases b → IsInside (extent_of table) b → IsBaseInside (extent_at bytes) (extent_of table) b
     from-inside table b there inside =
         let of = are.sound b there in
         record {
           jump = of.jump;
-          counts = of.counts;
           other = extent_of of.table;
           at_jump = ap (option_map extent_of) of.at_jump;
           base = of.base;
@@ -150,11 +149,10 @@ module _ (bytes jumps bases : List ℕ) (are : AreBases bytes jumps bases) where
           below = inside.below;
         }
 
-    forward : (j kept : ℕ) → cut_of cuts j ≡ Some kept → IsCutTo (extent_at bytes) Counted j kept
+    forward : (j kept : ℕ) → cut_of cuts j ≡ Some kept → IsCutTo (extent_at bytes) j kept
     forward j kept is =
         let cut = settled.sound j kept is in
         record {
-          counts = cut.counts;
           table = extent_of cut.table;
           at_jump = ap (option_map extent_of) cut.at_jump;
           base = cut.cut.base;
@@ -165,8 +163,8 @@ module _ (bytes jumps bases : List ℕ) (are : AreBases bytes jumps bases) where
         }
 
     -- A cut by the extents is one by the tables.
-    by-bases : (table : Table) (base kept : ℕ) → IsBaseInside (extent_at bytes) Counted (extent_of table) base
-        → ((b : ℕ) → IsBaseInside (extent_at bytes) Counted (extent_of table) b → base ≤ b)
+    by-bases : (table : Table) (base kept : ℕ) → IsBaseInside (extent_at bytes) (extent_of table) base
+        → ((b : ℕ) → IsBaseInside (extent_at bytes) (extent_of table) b → base ≤ b)
         → kept ≡ kept_before (extent_of table) base → kept < table.count → IsCutBy bases (extent_of table) kept
     by-bases table base kept inside least entries fewer =
         let p = to-inside table base inside in
@@ -188,23 +186,24 @@ module _ (bytes jumps bases : List ℕ) (are : AreBases bytes jumps bases) where
         let same : cut.base ≡ by.base = omega arith in
         ap (λ m. Some m) (cut.entries ∙ ap (kept_before table) same ∙ sym by.entries)
 
-    backward-at : (j kept : ℕ) → IsCutTo (extent_at bytes) Counted j kept → (o : Option Table) → table_at bytes j ≡ o → cut_of cuts j ≡ Some kept
+    backward-at : (j kept : ℕ) → IsCutTo (extent_at bytes) j kept → (o : Option Table) → table_at bytes j ≡ o → cut_of cuts j ≡ Some kept
     backward-at j kept h None at = absurd (none-some h.table (ap (option_map extent_of) (sym at) ∙ h.at_jump))
     backward-at j kept h (Some table) at =
         let same : h.table ≡ extent_of table = same_Some h.table (extent_of table) (sym h.at_jump ∙ ap (option_map extent_of) at) in
-        let k = h.counts.0 in
-        let below : k < i = omega (arith, h.counts.1) in
+        let there = listed j (record { table = table; at_jump = at }) in
+        let k = there.0 in
+        let below : k < i = omega (arith, there.1) in
         let by : CutBy bases (extent_of table) (cut_of cuts j) =
-        subst (λ q. CutBy bases (extent_of table) (cut_of cuts q)) h.counts.2 (settled.complete k below j table (ap (table_at bytes) h.counts.2 ∙ at)) in
+        subst (λ q. CutBy bases (extent_of table) (cut_of cuts q)) there.2 (settled.complete k below j table (ap (table_at bytes) there.2 ∙ at)) in
         same_cut (extent_of table) kept
         (by-bases table h.base kept
-        (subst (λ e. IsBaseInside (extent_at bytes) Counted e h.base) same h.inside)
-        (subst (λ e. (b : ℕ) → IsBaseInside (extent_at bytes) Counted e b → h.base ≤ b) same h.least)
+        (subst (λ e. IsBaseInside (extent_at bytes) e h.base) same h.inside)
+        (subst (λ e. (b : ℕ) → IsBaseInside (extent_at bytes) e b → h.base ≤ b) same h.least)
         (h.entries ∙ ap (λ (e : Extent). kept_before e h.base) same)
         (subst (λ (e : Extent). kept < e.count) same h.fewer))
         (cut_of cuts j) by
 
-    pub settled-cuts : AreCuts (extent_at bytes) (λ j. Contains jumps j) (cut_of cuts)
+    pub settled-cuts : AreCuts (extent_at bytes) (cut_of cuts)
     settled-cuts j kept = (forward j kept, λ h. backward-at j kept h (table_at bytes j) refl)
 
 -- ---- with the tables that were found
@@ -234,8 +233,10 @@ module _ (jumps : List TableJump) (bases : List ℕ) where
     every : i ≡ length (addresses_of jumps)
     every = omega (arith, all, same_length jumps)
 
-    pub cuts-all : (bytes : List ℕ) → AreTablesOf bytes jumps → AreCuts (extent_at bytes) (λ j. Contains (addresses_of jumps) j) (cut_of cuts)
-    cuts-all bytes tables = settled-cuts bytes (addresses_of jumps) bases (are bytes tables) cuts i every (have bytes tables)
+    pub cuts-all : (bytes : List ℕ) → AreAllTables bytes jumps → AreCuts (extent_at bytes) (cut_of cuts)
+    cuts-all bytes all_of =
+        settled-cuts bytes (addresses_of jumps) bases all_of.all_jumps (are bytes all_of.tables) cuts i every (have bytes all_of.tables)
 
-    pub cuts-fit : (bytes : List ℕ) → AreTablesOf bytes jumps → CutsFit bytes (cut_of cuts)
-    cuts-fit bytes tables = settled-fits bytes (addresses_of jumps) bases (are bytes tables) cuts i every (have bytes tables)
+    pub cuts-fit : (bytes : List ℕ) → AreAllTables bytes jumps → CutsFit bytes (cut_of cuts)
+    cuts-fit bytes all_of =
+        settled-fits bytes (addresses_of jumps) bases all_of.all_jumps (are bytes all_of.tables) cuts i every (have bytes all_of.tables)

@@ -1,10 +1,10 @@
-//! Where jump tables overlap: how many entries are kept of each, by the tables that count.
+//! Where jump tables overlap: how many entries are kept of each.
 //!
 //! The entries of a table lie one after another, and the bound test before its jump may allow more
 //! than belong to it. A table ends at the latest where the next one begins, so it is cut there.
 //!
 //! - `bases`: where tables begin.
-//! - `cuts`: the cuts of given tables. Who found them does not matter.
+//! - `cuts`: the cuts of all tables of some code, reached or not.
 #![tactic(auto)]
 
 mod bases;

@@ -9,10 +9,10 @@
 //! - `report_text`, `live_names`: the text of a graph, and of live registers, that are given.
 //! - `shared_text`: the text of a report by several workers, and which reports are worth that.
 //! - `command_lines`: what words ask for.
-//! - `one_run`: a run of the program. `safe_run`: one in which nothing can fail.
+//! - `one_run`: a run of the program.
 //! - `long_row`: a report of many lines. `shared_runs`: runs whose text workers share.
 //! - `rounds`: reports whose text is made in many rounds.
-//! - `several_workers`, `yardstick`: workers against one thread, and against another builder.
+//! - `several_workers`: workers against one thread.
 //! - `gated_runs`: runs whose workers gates hold: that they work at the same time, and steal.
 #![tactic(auto)]
 
@@ -35,12 +35,8 @@ mod rounds;
 #[cfg(test)]
 mod row_files;
 #[cfg(test)]
-mod safe_run;
-#[cfg(test)]
 mod several_workers;
 #[cfg(test)]
 mod shared_runs;
 #[cfg(test)]
 mod shared_text;
-#[cfg(test)]
-mod yardstick;

@@ -1,21 +1,21 @@
-//! The report of live registers at once, with names. The masks are worked out by hand from the
+//! The report of live registers, with names. The masks are worked out by hand from the
 //! instructions.
 
 use crate::asserts::same;
 use crate::report_text::NAMED_FILE;
 use file_graph::file_graph;
-use graph_report::{FileNames, live_report};
+use graph_report::{FileNames, ReportLines};
 use live_crew::graph_lives;
 use std::alloc::Global;
 use std::test::Fail;
 
-/// The report of the live registers of a file at once, without a run.
+/// The report of the live registers of a file, without a run.
 fn live_text(alloc: Global, bytes: &[u8]) -> Result<Vec<u8>, Fail> {
     let file = file_graph(alloc, Vec::from_slice(alloc, bytes)?)?;
     let (image, graph) = (file.image(), file.graph());
     let lives = graph_lives(alloc, image, graph)?;
     let names = FileNames::new(image, file.seeds());
-    Ok(live_report(alloc, &names, graph, &lives)?)
+    Ok(ReportLines::of_lives(&names, graph, &lives).text(alloc)?)
 }
 
 /// A jump to another function reads all, as a return does, and where execution stops nothing is

@@ -9,7 +9,7 @@ use big_case::big_file;
 use cfg_io::MemSink;
 use cfg_run::Status;
 use chain_index::ChainIndex;
-use code_view::{Code, Cuts};
+use code_view::{Calls, Code, Cuts};
 use core_state::WorkKind;
 use crew::{Gate, OpenGate, work};
 use elf_image::{Image, u64_at};
@@ -33,8 +33,9 @@ fn leave_nothing<R: Threads + Wait + Abort + AllocGlobal + Sync>(
     let image = Image::parse(alloc, file)?;
     let seeds = seeds(alloc, &image)?;
     let index = ChainIndex::new(alloc, &image)?;
+    let calls = Calls::of(alloc, &image)?;
     let none = Cuts::none(alloc);
-    let code = Code::new(&image, &index, &none);
+    let code = Code::new(&image, &index, &calls, &none);
     let state = work(rt, alloc, &code, seeds.addresses(), workers, &OpenGate)?;
     holds(rt, state.left(&code, seeds.addresses()).is_none());
     Ok(())
@@ -86,7 +87,7 @@ fn unreached_tables_agree(rt: HostRuntime) -> Result<(), Fail> {
 }
 
 /// Gives the symbol with this value another low byte.
-pub(crate) fn move_symbol(bytes: &mut [u8], value: u64, low: u8) {
+fn move_symbol(bytes: &mut [u8], value: u64, low: u8) {
     for at in 0..bytes.len().saturating_sub(8) {
         if u64_at(bytes, at) == value {
             bytes[at] = low;

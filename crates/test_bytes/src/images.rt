@@ -231,6 +231,7 @@ fn tables(rt: HostRuntime) -> Result<(), Fail> {
     let image = Image::parse(rt.alloc(), Vec::from_slice(rt.alloc(), &RET_FILE)?)?;
     same(&rt, &image.section_count(), &3);
     let code = Section {
+        name: 0,
         kind: 1,
         flags: 6,
         address: 0x10000,

@@ -6,7 +6,8 @@
 //! - `transfer`: whole readings and writings (`cfg_io`).
 //! - `images`: judging and reading an executable (`elf_image`).
 //! - `profiles`: what attributes and declared tables say (`elf_image`).
-//! - `symbols`: the functions that its symbols name (`elf_symbols`).
+//! - `landings`: where calls land by frames and exception tables (`landing_pads`).
+//! - `symbols`: the functions that its symbols name, and those that do not return (`elf_symbols`).
 //! - `making`: executables made from their parts (`elf_maker`).
 //! - `large`: large executables made from one number (`big_case`).
 //! - `small_files`: the files that these tests share.
@@ -16,6 +17,8 @@
 mod asserts;
 #[cfg(test)]
 mod images;
+#[cfg(test)]
+mod landings;
 #[cfg(test)]
 mod large;
 #[cfg(test)]

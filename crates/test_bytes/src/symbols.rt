@@ -6,8 +6,8 @@ ghost use Rattle.elf_symbols.specs.Seeds.{name_in, LiesIn};
 use crate::asserts::{same, same_at};
 use crate::small_files::{NAMES_FILE, RET_FILE, TWO_FILE, edited};
 use elf_image::{ElfError, Image, Span};
-use elf_symbols::{Seeds, seeds};
-use std::alloc::Global;
+use elf_symbols::{NoReturns, Seeds, seeds};
+use std::alloc::{AllocError, Global};
 use std::process::Abort;
 use std::test::Fail;
 
@@ -133,5 +133,70 @@ fn faults(rt: HostRuntime) -> Result<(), Fail> {
         let image = edited_image(rt.alloc(), &NAMES_FILE, edits)?;
         same_at(&rt, &number, &verdict(rt.alloc(), &image), want);
     }
+    Ok(())
+}
+
+/// The file with other names of the functions at 10000, 10000, 10001 and 10004 (hexadecimal), in a
+/// string table at its end.
+fn renamed(alloc: Global, names: &[&[u8]; 4]) -> Result<Vec<u8>, AllocError> {
+    let mut bytes = edited(alloc, &NAMES_FILE, &[(488, 0x10), (489, 2)])?;
+    let mut strings = Vec::from_slice(alloc, b"\0")?;
+    for (i, name) in names.iter().enumerate() {
+        if let Some(place) = bytes.get_mut(96 + 24 * i) {
+            *place = u8::try_from(strings.len()).unwrap_or(0);
+        }
+        strings.extend_from_slice(name)?;
+        strings.extend_from_slice(b"\0")?;
+    }
+    if let Some(size) = bytes.get_mut(496) {
+        *size = u8::try_from(strings.len()).unwrap_or(0);
+    }
+    bytes.extend_from_slice(&strings)?;
+    Ok(bytes)
+}
+
+/// Names of those functions, and whether those at 10000, 10001 and 10004 do not return. A symbol at
+/// an odd address is no seed.
+static NO_RETURNS: [([&[u8]; 4], [bool; 3]); 14] = [
+    (
+        [b"_Unwind_Resume", b"x", b"longjmp", b"y"],
+        [true, false, false],
+    ),
+    ([b"x", b"longjmp", b"", b"_longjmp"], [true, false, true]),
+    ([b"x", b"y", b"", b"siglongjmp"], [false, false, true]),
+    ([b"x", b"y", b"", b"__longjmp"], [false, false, true]),
+    ([b"x", b"y", b"", b"__longjmp_chk"], [false, false, true]),
+    ([b"x", b"y", b"", b"____longjmp_chk"], [false, false, true]),
+    ([b"x", b"y", b"", b"___longjmp_chk"], [false, false, false]),
+    (
+        [b"x", b"y", b"", b"_____longjmp_chk"],
+        [false, false, false],
+    ),
+    ([b"x", b"y", b"", b"longjmp_"], [false, false, false]),
+    ([b"x", b"y", b"", b"longjm"], [false, false, false]),
+    ([b"x", b"y", b"", b"Longjmp"], [false, false, false]),
+    (
+        [b"x", b"y", b"", b"_Unwind_Resume_or_Rethrow"],
+        [false, false, false],
+    ),
+    (
+        [b"exit", b"abort", b"", b"__cxa_throw"],
+        [false, false, false],
+    ),
+    ([b"", b"", b"", b""], [false, false, false]),
+];
+
+#[test]
+fn no_returns(rt: HostRuntime) -> Result<(), Fail> {
+    let alloc = rt.alloc();
+    for (number, (names, want)) in NO_RETURNS.iter().enumerate() {
+        let image = Image::parse(alloc, renamed(alloc, names)?)?;
+        let found = NoReturns::of(alloc, &image)?;
+        let got = [found.has(0x10000), found.has(0x10001), found.has(0x10004)];
+        same_at(&rt, &number, &got, want);
+    }
+    // A name past the string table, as a fault of the file.
+    let image = edited_image(alloc, &NAMES_FILE, &[(96, 11)])?;
+    same(&rt, &NoReturns::of(alloc, &image).is_err(), &true);
     Ok(())
 }

@@ -1,11 +1,10 @@
-//! Whole readings and writings over objects in memory that fail at a given call, or never.
-ghost use Rattle.std.specs.Prelude.{◌≡◌, ◌≤◌, true, IsErrOf, OnErr};
+//! Whole readings and writings over objects in memory that fail at a given call, or do not.
 ghost use Rattle.cfg_io.specs.Opened.{IsOpened};
 
 use crate::asserts::{holds, holds_at, same};
 use cfg_io::{
-    CountSink, Failed, FileInput, Input, MAX_LIMIT, MemInput, MemSink, ReadEnd, SafeInput, Sink,
-    StdSink, read_whole, write_whole,
+    Failed, FileInput, Input, MAX_LIMIT, MemInput, MemSink, ReadEnd, Sink, StdSink, read_whole,
+    write_whole,
 };
 use std::alloc::Global;
 use std::process::Abort;
@@ -103,46 +102,6 @@ fn a_sink_fails_at_its_calls(rt: HostRuntime) -> Result<(), Fail> {
         );
     }
     Ok(())
-}
-
-#[test]
-fn an_input_that_never_fails(rt: HostRuntime) -> Result<(), Fail> {
-    let bytes = sample(&rt, 70_000)?;
-    let mut input = SafeInput::new(bytes.clone()?);
-    input.open("any path")?;
-    let mut buf = [9; 4];
-    same(&rt, &input.read(&mut buf)?, &4);
-    same(&rt, &buf, &[0, 1, 2, 3]);
-    let rest = read_safely(rt.alloc(), &mut input, 70_000)?;
-    holds(&rt, rest.as_slice() == bytes.get(4..).ok_or("short")?);
-    Ok(())
-}
-
-// No read fails, whatever the bytes are.
-#[tactic(auto, using(crate::proofs::Faults::none_rose))]
-fn read_safely(alloc: Global, input: &mut SafeInput, limit: usize) -> Result<Vec<u8>, ReadEnd>
-    requires is_opened { input.old.is_open ≡ true }
-    requires small { limit ≤ MAX_LIMIT }
-    ensures no_fault { IsErrOf result ReadEnd.Read → ⊥ }
-{
-    read_whole(alloc, input, limit)
-}
-
-#[test]
-fn a_sink_that_counts(rt: HostRuntime) -> Result<(), Fail> {
-    let mut sink = CountSink::new();
-    same(&rt, &sink.write(b"four")?, &4);
-    write_safely(&mut sink, &sample(&rt, 70_000)?)?;
-    same(&rt, &sink.count(), &70_004);
-    Ok(())
-}
-
-// All is written, whatever it is.
-#[tactic(auto, using(crate::proofs::Faults::none_rose))]
-fn write_safely(sink: &mut CountSink, bytes: &[u8]) -> Result<(), Failed>
-    ensures no_fault { OnErr result ⊥ }
-{
-    write_whole(sink, bytes)
 }
 
 #[test]

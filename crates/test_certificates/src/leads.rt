@@ -1,7 +1,7 @@
 //! Parts that are valid, and the same without one leader.
 
 use crate::asserts::holds;
-use cert_check::part_is_valid;
+use cert_check::outline_of_part;
 use cert_text::parse;
 use std::alloc::Global;
 use std::process::Abort;
@@ -63,11 +63,11 @@ lead 0000000000000002 1 from 0000000000000000
 end
 ";
 
-/// Whether the first part of the certificate of this text is valid for a program whose seed is 0.
+/// Whether the part of the certificate of this text is valid for a program whose seed is 0.
 fn is_valid(alloc: Global, code: &Sample, text: &[u8]) -> Result<bool, Fail> {
     let certificate = parse(alloc, text)?;
-    let valid = part_is_valid(alloc, code, &[0], &certificate.plain)?;
-    Ok(valid)
+    let outline = outline_of_part(alloc, code, &[0], &certificate.part)?;
+    Ok(outline.is_some())
 }
 
 /// The target of a branch is asked for.

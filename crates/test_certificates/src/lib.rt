@@ -1,7 +1,6 @@
 //! Tests of the crates of certificates, in a crate of their own: so none of those is proved a
 //! second time for its tests.
 //!
-//! - `closed_states`: parts that are read off closed states, against those made without.
 //! - `ends`: worked certificates, and what is said where one thing of them is spoilt.
 //! - `files`: the canonical certificates of worked files.
 //! - `leads`: parts that are valid, and the same without one leader.
@@ -11,8 +10,6 @@
 
 #[cfg(test)]
 mod asserts;
-#[cfg(test)]
-mod closed_states;
 #[cfg(test)]
 mod ends;
 #[cfg(test)]

@@ -4,12 +4,12 @@
 ghost use Rattle.cfg_vectors.specs.Rows.{IsRow};
 
 use crate::asserts::holds;
-use cert_check::{graph_of_part, part_is_valid};
+use cert_check::{graph_of_part, outline_of_part};
 use cert_text::parse;
 use cfg_model::{Block, Edge, EdgeKind, EndKind, Graph};
 use cfg_vectors::row_file;
 use chain_index::ChainIndex;
-use code_view::{Code, Cuts};
+use code_view::{Calls, Code, Cuts};
 use elf_image::Image;
 use std::alloc::Global;
 use std::process::Abort;
@@ -238,17 +238,18 @@ end
 ",
 ];
 
-/// Whether the first part of the certificate of this text is valid for a row's file.
+/// Whether the part of the certificate of this text is valid for a row's file.
 fn is_valid(alloc: Global, row: u32, text: &[u8]) -> Result<bool, Fail>
     requires { IsRow row 0 }
 {
     let image = Image::parse(alloc, row_file(alloc, row, 0)?)?;
     let index = ChainIndex::new(alloc, &image)?;
+    let calls = Calls::of(alloc, &image)?;
     let none = Cuts::none(alloc);
-    let code = Code::new(&image, &index, &none);
+    let code = Code::new(&image, &index, &calls, &none);
     let certificate = parse(alloc, text)?;
-    let valid = part_is_valid(alloc, &code, &[CODE], &certificate.plain)?;
-    Ok(valid)
+    let outline = outline_of_part(alloc, &code, &[CODE], &certificate.part)?;
+    Ok(outline.is_some())
 }
 
 #[test]
@@ -329,10 +330,11 @@ fn graph_by(alloc: Global, row: u32, text: &[u8]) -> Result<Option<Graph>, Fail>
 {
     let image = Image::parse(alloc, row_file(alloc, row, 0)?)?;
     let index = ChainIndex::new(alloc, &image)?;
+    let calls = Calls::of(alloc, &image)?;
     let none = Cuts::none(alloc);
-    let code = Code::new(&image, &index, &none);
+    let code = Code::new(&image, &index, &calls, &none);
     let certificate = parse(alloc, text)?;
-    let graph = graph_of_part(alloc, &code, CODE, &[CODE], &certificate.plain)?;
+    let graph = graph_of_part(alloc, &code, CODE, &[CODE], &certificate.part)?;
     Ok(graph)
 }
 

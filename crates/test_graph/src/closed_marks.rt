@@ -6,7 +6,7 @@ ghost use Rattle.cfg_model.specs.Builder.Kept.{IsClosed};
 ghost use Rattle.reached_terms.specs.Reached.{AreReachedTerms};
 
 use crate::asserts::same;
-use alone::build_alone;
+use crate::closed::closed;
 use cfg_model::Memory;
 use core_state::State;
 use numbered::{Numbered, marked_addresses};
@@ -112,7 +112,7 @@ fn all_show<R: Threads + Sync + Abort + AllocGlobal>(
     let alloc = rt.alloc();
     let plain = ReachedTerms::of(alloc, code, code.seeds())?;
     expect(rt, &lists_of(alloc, code, &plain)?, wanted);
-    let state = build_alone(alloc, code, code.seeds())?;
+    let state = closed(alloc, code, code.seeds())?;
     let marks = marks_of(alloc, code, &state)?;
     expect(rt, &lists_of(alloc, code, &marks)?, wanted);
     let starts = marked_addresses(alloc, code, marks.starts())?;
@@ -120,7 +120,7 @@ fn all_show<R: Threads + Sync + Abort + AllocGlobal>(
     closed_shows(rt, code, &state, 1, wanted)?;
     closed_shows(rt, code, &state, 3, wanted)?;
     freed_shows(rt, code, state, 3, wanted)?;
-    let state = build_alone(alloc, code, code.seeds())?;
+    let state = closed(alloc, code, code.seeds())?;
     freed_shows(rt, code, state, 1, wanted)
 }
 

@@ -1,7 +1,7 @@
 //! Worked programs: `test_programs` has them.
 
 use crate::asserts::holds;
-use alone::build_alone;
+use crate::closed::closed;
 use core_state::State;
 use std::process::Abort;
 use std::test::Fail;
@@ -52,7 +52,7 @@ fn expect_terminators(rt: &impl Abort, state: &State, terminators: &[(u64, bool)
 #[test]
 fn branch_back(rt: HostRuntime) -> Result<(), Fail> {
     let code = row_6(rt.alloc());
-    let state = build_alone(rt.alloc(), &code, code.seeds())?;
+    let state = closed(rt.alloc(), &code, code.seeds())?;
     expect_starts(&rt, &state, &[0, 4, 12]);
     expect_ends(&rt, &state, &[(0, 0), (8, 4), (12, 12)]);
     expect_terminators(&rt, &state, &[(8, true), (12, true)]);
@@ -63,7 +63,7 @@ fn branch_back(rt: HostRuntime) -> Result<(), Fail> {
 #[test]
 fn joining_streams(rt: HostRuntime) -> Result<(), Fail> {
     let code = row_8(rt.alloc());
-    let state = build_alone(rt.alloc(), &code, code.seeds())?;
+    let state = closed(rt.alloc(), &code, code.seeds())?;
     expect_starts(&rt, &state, &[0, 2, 4, 8]);
     expect_ends(&rt, &state, &[(0, 0), (2, 2), (4, 4), (8, 8)]);
     expect_terminators(&rt, &state, &[(4, true), (8, true)]);
@@ -74,7 +74,7 @@ fn joining_streams(rt: HostRuntime) -> Result<(), Fail> {
 #[test]
 fn self_call(rt: HostRuntime) -> Result<(), Fail> {
     let code = row_9(rt.alloc());
-    let state = build_alone(rt.alloc(), &code, code.seeds())?;
+    let state = closed(rt.alloc(), &code, code.seeds())?;
     expect_starts(&rt, &state, &[0]);
     expect_ends(&rt, &state, &[(0, 0)]);
     expect_terminators(&rt, &state, &[(0, false)]);
@@ -85,7 +85,7 @@ fn self_call(rt: HostRuntime) -> Result<(), Fail> {
 #[test]
 fn mutual_calls(rt: HostRuntime) -> Result<(), Fail> {
     let code = row_10(rt.alloc());
-    let state = build_alone(rt.alloc(), &code, code.seeds())?;
+    let state = closed(rt.alloc(), &code, code.seeds())?;
     expect_starts(&rt, &state, &[0, 4, 8, 12, 16]);
     expect_ends(&rt, &state, &[(0, 0), (4, 4), (8, 8), (12, 12), (16, 16)]);
     expect_terminators(
@@ -100,7 +100,7 @@ fn mutual_calls(rt: HostRuntime) -> Result<(), Fail> {
 #[test]
 fn table_of_three(rt: HostRuntime) -> Result<(), Fail> {
     let code = table_jump(rt.alloc());
-    let state = build_alone(rt.alloc(), &code, code.seeds())?;
+    let state = closed(rt.alloc(), &code, code.seeds())?;
     expect_starts(&rt, &state, &[0, 2, 4]);
     expect_ends(&rt, &state, &[(0, 0), (2, 2), (4, 4)]);
     expect_terminators(&rt, &state, &[(0, true), (2, true), (4, false)]);
@@ -111,7 +111,7 @@ fn table_of_three(rt: HostRuntime) -> Result<(), Fail> {
 #[test]
 fn finished_again(rt: HostRuntime) -> Result<(), Fail> {
     let code = row_8(rt.alloc());
-    let mut state = build_alone(rt.alloc(), &code, code.seeds())?;
+    let mut state = closed(rt.alloc(), &code, code.seeds())?;
     let changes = state.changes();
     finish(rt.alloc(), &code, code.seeds(), &mut state)?;
     holds(&rt, state.changes() == changes);

@@ -6,16 +6,17 @@
 //! here at least once, and what it answers is compared with worked examples.
 //!
 //! - `listed_programs`: the worked programs of `test_programs`, asked as the programs that they are.
-//! - `yardstick`: their graphs, as `test_yardstick` builds them.
+//! - `graphs`: their graphs.
 //! - `file_code`: the code of a file as a program, against walks that decode each instruction.
-//! - `reached_graphs`: the graphs of the code of files over arrays, against the yardstick.
+//! - `reached_graphs`: the graphs of the code of files.
+//! - `cut_tables`: the tables of all code (`code_tables`), and how many entries are kept of each.
 //! - `address_maps`: many addresses of a map, of one page and of several, near and far.
 //! - `state_program`: a small program, for the tests of changes and of work that is left.
 //! - `state_changes`: each change of a state on it, one after the other.
 //! - `waits`: few and many waiters of one terminator, in several orders.
 //! - `work_left`: the work that is left in a state, found by one worker and by several.
 //! - `gaps`: the ranges that bounds leave between them.
-//! - `closed_states`: the closed states of the worked programs.
+//! - `closed`, `closed_states`: the closed states of the worked programs.
 //! - `closed_marks`: the marks of these, against those that are made without a state.
 #![tactic(auto)]
 
@@ -24,13 +25,19 @@ mod address_maps;
 #[cfg(test)]
 mod asserts;
 #[cfg(test)]
+mod closed;
+#[cfg(test)]
 mod closed_marks;
 #[cfg(test)]
 mod closed_states;
 #[cfg(test)]
+mod cut_tables;
+#[cfg(test)]
 mod file_code;
 #[cfg(test)]
 mod gaps;
+#[cfg(test)]
+mod graphs;
 #[cfg(test)]
 mod listed_programs;
 #[cfg(test)]
@@ -43,5 +50,3 @@ mod state_program;
 mod waits;
 #[cfg(test)]
 mod work_left;
-#[cfg(test)]
-mod yardstick;

@@ -44,9 +44,6 @@ fn one_instruction(rt: HostRuntime) -> Result<(), Fail> {
     same(&rt, &code.length(2), &4);
     let targets = code.targets(0)?;
     assert_eq!(rt; targets.as_slice(), [2, 0].as_slice());
-    for i in 0..2 {
-        assert_eq!(rt; code.target(0, i), targets[i as usize]);
-    }
     holds(&rt, code.targets(2)?.is_empty());
     Ok(())
 }

@@ -13,8 +13,8 @@ use std::alloc::Global;
 use std::process::Abort;
 
 /// The program of row 8: an instruction, another one inside it, a branch after both that goes to
-/// the inner one, and a return. Nothing leads to a table jump to the first one, or to two
-/// instructions in the last shard.
+/// the inner one, and a return. Nothing leads to a table jump to the first one, to a call that lands
+/// at it, or to two instructions in the last shard.
 #[derive(Drop)]
 pub(crate) struct Program {
     pub(crate) alloc: Global,
@@ -43,6 +43,7 @@ fn instruction(a: u64) -> Option<(u8, Flow)>
         0x10fc0 => Some((2, Flow::Straight { next: 0x10fc2 })),
         0x10fc2 => Some((2, Flow::Return)),
         0x20000 => Some((4, table)),
+        0x20004 => Some((4, Flow::IndirectCall { fall: None })),
         _ => None,
     }
 }
@@ -70,16 +71,17 @@ impl Chains for Program {
         }
     }
 
-    fn target(&self, _a: u64, _i: u32) -> u64 {
-        0x10000
-    }
-
     fn targets(&self, a: u64) -> Result<Vec<u64>, Memory> {
-        if a == 0x20000 {
+        if a == 0x20000 || a == 0x20004 {
             Ok(Vec::from_slice(self.alloc, &[0x10000])?)
         } else {
             Ok(Vec::new(self.alloc))
         }
+    }
+
+    fn landing(&self, a: u64) -> Option<u64> {
+        let _found = instruction(a);
+        (a == 0x20004).then_some(0x10000)
     }
 }
 

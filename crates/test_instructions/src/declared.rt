@@ -412,6 +412,60 @@ const WRITE: Case = Case {
     ..SIGNED_BYTE
 };
 
+/// The index is scaled and added by TH.ADDSL.
+const VENDOR_SUM: Case = Case {
+    code: [
+        0x00700793, 0x02A7E263, 0x00020737, 0x04A7150B, 0x00000013, 0x00052783, 0x00E787B3,
+        0x00078067, 0x00008067, 0x00008067, 0x00008067, 0x00008067, 0, 0, 0, 0,
+    ],
+    further: &[Further::NamesVendor],
+    ..BOUNDED
+};
+
+/// The same in a file that does not name the vendor.
+const VENDOR_UNNAMED: Case = Case {
+    further: &[],
+    want: None,
+    ..VENDOR_SUM
+};
+
+/// The entry is loaded by TH.LRW, which leaves the table's address in its register.
+const VENDOR_LOAD: Case = Case {
+    code: [
+        0x00700793, 0x02A7E263, 0x00020737, 0x44A7478B, 0x00000013, 0x00000013, 0x00E787B3,
+        0x00078067, 0x00008067, 0x00008067, 0x00008067, 0x00008067, 0, 0, 0, 0,
+    ],
+    ..VENDOR_SUM
+};
+
+/// By TH.LURW, with the index as a word.
+const VENDOR_LOAD_WORD: Case = Case {
+    code: [
+        0x00700793, 0x02A7E263, 0x00020737, 0x54A7478B, 0x00000013, 0x00000013, 0x00E787B3,
+        0x00078067, 0x00008067, 0x00008067, 0x00008067, 0x00008067, 0, 0, 0, 0,
+    ],
+    ..VENDOR_SUM
+};
+
+/// TH.LBIA of another register.
+const VENDOR_OTHER: Case = Case {
+    code: [
+        0x00700793, 0x02A7E263, 0x00020737, 0x44A7478B, 0x1816C58B, 0x00000013, 0x00E787B3,
+        0x00078067, 0x00008067, 0x00008067, 0x00008067, 0x00008067, 0, 0, 0, 0,
+    ],
+    ..VENDOR_SUM
+};
+
+/// TH.LBIA of the register of the table's address, which it moves on.
+const VENDOR_LOST: Case = Case {
+    code: [
+        0x00700793, 0x02A7E263, 0x00020737, 0x44A7478B, 0x1817458B, 0x00000013, 0x00E787B3,
+        0x00078067, 0x00008067, 0x00008067, 0x00008067, 0x00008067, 0, 0, 0, 0,
+    ],
+    want: None,
+    ..VENDOR_SUM
+};
+
 #[test]
 fn declared_tables(rt: HostRuntime) -> Result<(), Fail> {
     let cases = [
@@ -460,6 +514,12 @@ fn tables_by_extensions(rt: HostRuntime) -> Result<(), Fail> {
         LOST_BASE,
         OTHER_WRITE,
         WRITE,
+        VENDOR_SUM,
+        VENDOR_UNNAMED,
+        VENDOR_LOAD,
+        VENDOR_LOAD_WORD,
+        VENDOR_OTHER,
+        VENDOR_LOST,
     ];
     gives_each(&rt, &cases)
 }

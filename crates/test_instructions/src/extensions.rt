@@ -286,7 +286,7 @@ const REFUSED: [u32; 16] = [
     0x0035a00f, // cbo with the function 3
     0x00d00573, // wrs.nto with a destination
     0x923140f3, // mop.rr with bit 28 set
-    0x0000000b, // custom-0
+    0x0000002b, // custom-1
 ];
 
 /// A halfword of each form, and what it stands for.
@@ -433,16 +433,25 @@ const NO_FORMS: [u16; 7] = [
     0x0001, // c.nop
 ];
 
-fn all() -> Extensions {
+/// All extensions but floats in integer registers, which take others away.
+pub(crate) fn all() -> Extensions {
     Extensions {
         zba: true,
         zbb: true,
         zbs: true,
         zbc: true,
         zbkb: true,
+        zbkc: true,
         zbkx: true,
+        zknd: true,
+        zkne: true,
+        zknh: true,
+        zksed: true,
+        zksh: true,
         zicond: true,
         zcb: true,
+        zcmp: true,
+        zcmt: true,
         zimop: true,
         zcmop: true,
         zacas: true,
@@ -450,12 +459,18 @@ fn all() -> Extensions {
         zawrs: true,
         zicbom: true,
         zicboz: true,
+        zicfiss: true,
+        zicfilp: true,
+        zfinx: false,
+        zhinx: false,
+        zhinxmin: false,
         zfh: true,
         zfhmin: true,
         zfa: true,
         zfbfmin: true,
         zvfh: true,
         vector: true,
+        xthead: true,
     }
 }
 

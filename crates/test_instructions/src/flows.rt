@@ -88,6 +88,34 @@ const UNNAMED_CASES: [(u64, u8, RawFlow); 2] = [
     (0x10004, 2, RawFlow::Stop),
 ];
 
+/// The same file with another text and code: `rv64i2p1_zcmp1_zcmt1p0`. At 10000 (hexadecimal):
+/// `cm.popret {ra}, 16`; `cm.popretz {ra}, 16`; `cm.push {ra}, -16`; `cm.jt 31`; `cm.jalt 32`;
+/// `c.fld f10, 0(x10)`; `cm.mvsa01 s0, s4`; and CM.PUSH with the list 3.
+const STACK_TEXT: &[u8; 22] = b"rv64i2p1_zcmp1_zcmt1p0";
+
+const STACK_CODE: [u8; 16] = [
+    0x42, 0xBE, 0x42, 0xBC, 0x42, 0xB8, 0x7E, 0xA0, 0x82, 0xA0, 0x08, 0x21, 0x32, 0xAC, 0x32, 0xB8,
+];
+
+/// Where the code and the text stand in the file.
+const CODE_AT: usize = 64;
+
+const TEXT_AT: usize = 109;
+
+const STACK_CASES: [(u64, u8, RawFlow); 8] = [
+    (0x10000, 2, RawFlow::Return),
+    (0x10002, 2, RawFlow::Return),
+    (0x10004, 2, RawFlow::Straight),
+    (0x10006, 2, RawFlow::Unknown),
+    (0x10008, 2, RawFlow::IndirectCall),
+    (0x1000A, 2, RawFlow::Stop),
+    (0x1000C, 2, RawFlow::Straight),
+    (0x1000E, 2, RawFlow::Stop),
+];
+
+/// The same code where the text names neither: C.FSDSP and its kin.
+const DOUBLE_TEXT: &[u8; 22] = b"rv64i2p1_zba1p0_zbb1p0";
+
 fn image(alloc: Global) -> Result<Image, ElfError> {
     Image::parse(alloc, Vec::from_slice(alloc, &FILE)?)
 }
@@ -126,6 +154,34 @@ fn flows_by_name(rt: HostRuntime) -> Result<(), Fail> {
     }
     let unnamed = Image::parse(rt.alloc(), bytes)?;
     expect_flows(&rt, &unnamed, &UNNAMED_CASES);
+    Ok(())
+}
+
+/// The file with this code and this text.
+fn with_text(alloc: Global, text: &[u8; 22]) -> Result<Image, ElfError> {
+    let mut bytes = Vec::from_slice(alloc, &NAMING)?;
+    for (i, byte) in STACK_CODE.iter().enumerate() {
+        if let Some(place) = bytes.get_mut(CODE_AT + i) {
+            *place = *byte;
+        }
+    }
+    for (i, byte) in text.iter().enumerate() {
+        if let Some(place) = bytes.get_mut(TEXT_AT + i) {
+            *place = *byte;
+        }
+    }
+    Image::parse(alloc, bytes)
+}
+
+/// Zcmp and Zcmt stand in the place of the loads and stores of doubles, which all go straight on.
+#[test]
+fn flows_of_the_stack(rt: HostRuntime) -> Result<(), Fail> {
+    let named = with_text(rt.alloc(), STACK_TEXT)?;
+    expect_flows(&rt, &named, &STACK_CASES);
+    let unnamed = with_text(rt.alloc(), DOUBLE_TEXT)?;
+    for (a, length, _) in STACK_CASES {
+        expect_flows(&rt, &unnamed, &[(a, length, RawFlow::Straight)]);
+    }
     Ok(())
 }
 

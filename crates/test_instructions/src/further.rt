@@ -11,12 +11,20 @@ pub(crate) enum Further {
     Declares(&'static [[u32; 5]]),
     /// Attributes that name the extensions `zba` and `zbb`.
     Names,
+    /// Attributes that name the words of a vendor.
+    NamesVendor,
 }
 
 /// The attributes: rv64i2p1_zba1p0_zbb1p0.
 const ATTRIBUTES: [u32; 10] = [
     0x00002741, 0x73697200, 0x01007663, 0x0000001D, 0x36767205, 0x70326934, 0x627A5F31, 0x30703161,
     0x62627A5F, 0x00307031,
+];
+
+/// The attributes: rv64i2p1_xtheadmemidx1.
+const VENDOR: [u32; 10] = [
+    0x00002741, 0x73697200, 0x01007663, 0x0000001D, 0x36767205, 0x70326934, 0x74785F31, 0x64616568,
+    0x696D656D, 0x00317864,
 ];
 
 /// A small number, as a field of a file.
@@ -29,7 +37,7 @@ impl Further {
     fn kind(self) -> u32 {
         match self {
             Further::Declares(_) => 0x8CF6_0001,
-            Further::Names => 0x7000_0003,
+            Further::Names | Further::NamesVendor => 0x7000_0003,
         }
     }
 
@@ -37,7 +45,7 @@ impl Further {
     fn size(self) -> u32 {
         match self {
             Further::Declares(records) => counted(records.len()).wrapping_mul(32),
-            Further::Names => 40,
+            Further::Names | Further::NamesVendor => 40,
         }
     }
 
@@ -50,6 +58,7 @@ impl Further {
                 Ok(())
             }
             Further::Names => push_words(bytes, &ATTRIBUTES),
+            Further::NamesVendor => push_words(bytes, &VENDOR),
         }
     }
 }

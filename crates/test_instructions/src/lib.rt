@@ -8,10 +8,12 @@
 //! - `halfwords`: 16-bit instructions (`rvc_expand`).
 //! - `floats`: instructions of floating point (`rv_float`).
 //! - `extensions`: instructions of the extensions that a file names (`rv_extensions`).
+//! - `groups`: those of its groups that take encodings of others, or are read by class.
 //! - `flows`: where an instruction sends control (`rv_flow`).
 //! - `chains`: where straight runs end (`chain_index`).
 //! - `tables`: the table of a jump through a register (`jump_table`).
 //! - `declared`: the same of tables that a file declares, and of further extensions.
+//! - `hoisted`: the same of tables whose address is set far before the jump.
 #![tactic(auto)]
 
 #[cfg(test)]
@@ -29,7 +31,11 @@ mod flows;
 #[cfg(test)]
 mod further;
 #[cfg(test)]
+mod groups;
+#[cfg(test)]
 mod halfwords;
+#[cfg(test)]
+mod hoisted;
 #[cfg(test)]
 mod tables;
 #[cfg(test)]

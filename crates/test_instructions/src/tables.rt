@@ -202,19 +202,29 @@ fn last_target(image: &Image, jump: u64) -> Option<u64> {
     Some(target_of(image, jump, last))
 }
 
-/// The last target that is wanted.
-fn last_of(case: &Case) -> Option<u64> {
-    let (_, _, last) = case.want?;
+/// The last target of this table.
+fn last_of(want: &Option<(Table, u64, u64)>) -> Option<u64> {
+    let (_, _, last) = (*want)?;
     Some(last)
+}
+
+/// The jump has this table, with the targets of the first and the last entry.
+pub(crate) fn gives(
+    rt: &impl Abort,
+    number: usize,
+    image: &Image,
+    jump: u64,
+    want: &Option<(Table, u64, u64)>,
+) {
+    same_at(rt, &number, &found(image, jump), want);
+    same_at(rt, &number, &last_target(image, jump), &last_of(want));
 }
 
 /// Each of these cases gives what it wants.
 pub(crate) fn gives_each(rt: &(impl Abort + AllocGlobal), cases: &[Case]) -> Result<(), Fail> {
     for (number, case) in cases.iter().enumerate() {
         let image = image(rt.alloc(), case)?;
-        let jump = case.jump;
-        same_at(&rt, &number, &found(&image, jump), &case.want);
-        same_at(&rt, &number, &last_target(&image, jump), &last_of(case));
+        gives(rt, number, &image, case.jump, &case.want);
     }
     Ok(())
 }

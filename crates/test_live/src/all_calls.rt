@@ -9,16 +9,15 @@ ghost use Rattle.code_view.specs.FileCode.{program_of};
 ghost use Rattle.live_regs.specs.Noted.{AreInOrder};
 
 use crate::asserts::same;
-use alone::build_alone;
 use cfg_model::{Functions, Graph, Live, Lives, Outline};
 use chain_index::ChainIndex;
-use code_view::{Code, Cuts};
+use code_view::{Calls, Code, Cuts};
 use elf_image::Image;
 use elf_symbols::seeds;
-use finaliser::blocks_and_edges;
-use func_bodies::functions;
-use live_crew::{graph_lives, graph_lives_by, lives_by};
+use live_crew::{graph_lives, graph_lives_by};
 use live_regs::lives;
+use reached_graph::{graph_from, outline_from};
+use reached_terms::ReachedTerms;
 use std::alloc::Global;
 use std::marker::Sync;
 use std::process::Abort;
@@ -64,19 +63,13 @@ pub(crate) fn lives_of_file<R: Threads + Sync + Abort + AllocGlobal>(
     let found = seeds(alloc, &image)?;
     let seeds = found.addresses();
     let index = ChainIndex::new(alloc, &image)?;
+    let calls = Calls::of(alloc, &image)?;
     let none = Cuts::none(alloc);
-    let code = Code::new(&image, &index, &none);
-    let state = build_alone(alloc, &code, seeds)?;
-    let outline = blocks_and_edges(alloc, &code, &state)?;
-    let functions = functions(alloc, &code, seeds, &state, &outline)?;
-    let wanted = one_by_one(alloc, &image, &code, &outline, &functions)?;
-    outline_gives(rt, &image, &code, &outline, &functions, &wanted)?;
-    let graph = Graph {
-        entry: image.entry(),
-        functions,
-        blocks: outline.blocks,
-        edges: outline.edges,
-    };
+    let code = Code::new(&image, &index, &calls, &none);
+    let reached = ReachedTerms::of(alloc, &code, seeds)?;
+    let outline = outline_from(alloc, &code, &reached)?;
+    let graph = graph_from(alloc, &code, image.entry(), seeds, &reached)?;
+    let wanted = one_by_one(alloc, &image, &code, &outline, &graph.functions)?;
     graph_gives(rt, &image, &graph, &wanted)?;
     Ok(wanted)
 }
@@ -100,26 +93,6 @@ fn one_by_one(
     Ok(all)
 }
 
-/// Workers give these live registers from an outline and its functions.
-fn outline_gives<R: Threads + Sync + Abort + AllocGlobal>(
-    rt: &R,
-    image: &Image,
-    code: &Code,
-    outline: &Outline,
-    functions: &Functions,
-    wanted: &[Lives],
-) -> Result<(), Fail>
-    requires { (seeds : List ℕ)
-        × IsOutline (program_of code.now) seeds outline.now.blocks outline.now.edges
-        × ((f : Function) → Contains functions.now f → IsFunction (program_of code.now) seeds f) }
-{
-    for workers in CREWS {
-        let all = lives_by(rt, rt.alloc(), image, code, outline, functions, workers)?;
-        same_lives(rt, all.as_slice(), wanted);
-    }
-    Ok(())
-}
-
 /// One thread and workers give these live registers from a graph.
 fn graph_gives<R: Threads + Sync + Abort + AllocGlobal>(
     rt: &R,
@@ -130,8 +103,8 @@ fn graph_gives<R: Threads + Sync + Abort + AllocGlobal>(
     requires order { AreInOrder graph.now.blocks graph.now.edges }
     requires bodies { All (λ f. IsStrictlyIncreasing f.body) graph.now.functions }
 {
-    let alone = graph_lives(rt.alloc(), image, graph)?;
-    same_lives(rt, alone.as_slice(), wanted);
+    let one = graph_lives(rt.alloc(), image, graph)?;
+    same_lives(rt, one.as_slice(), wanted);
     for workers in CREWS {
         let all = graph_lives_by(rt, rt.alloc(), image, graph, workers)?;
         same_lives(rt, all.as_slice(), wanted);

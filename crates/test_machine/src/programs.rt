@@ -76,8 +76,8 @@ fn a_decoded_instruction(rt: HostRuntime) -> Result<(), Fail> {
     Ok(())
 }
 
-/// What `.riscv.attributes` holds if the architecture is `rv64_zba_zcb`.
-const ATTRIBUTES: [u8; 30] = *b"A\x1D\0\0\0riscv\0\x01\x13\0\0\0\x05rv64_zba_zcb\0";
+/// What `.riscv.attributes` holds if the architecture is `rv64izba_zcb`.
+const ATTRIBUTES: [u8; 30] = *b"A\x1D\0\0\0riscv\0\x01\x13\0\0\0\x05rv64izba_zcb\0";
 
 /// Where the file keeps the instruction at 100B0, the names of its sections, and the section header
 /// of these names.

@@ -6,6 +6,7 @@ use Rattle.std.proofs.lemmas.Bool.{false≢true}
 use Rattle.std.proofs.lemmas.List.Sums.{AllPass-from_list_all}
 use Rattle.cfg_model.specs.declared.flow.Flow.{Flow}
 use Rattle.cfg_model.specs.declared.flow.Flow.TheVariants.{Straight, Branch, Jump, Call, IndirectCall, Table, Return, Unknown, Stop}
+use Rattle.cfg_model.specs.Program.Successors.{Calls, MayLand}
 use Rattle.cfg_model.specs.Program.Instructions.{Instruction, IsLawful, IsLawfulAt, FlowFits, named_by, targets_at}
 use Rattle.cfg_model.specs.Program.Reach.{AreSeeds}
 use Rattle.test_programs.specs.Listed.{Place, slot_at, kept_by, listed_at, are_known, flow_fits, slot_fits, slots_fit, are_lawful, rises_from, are_seeds}
@@ -47,8 +48,8 @@ module _ (slots : List Place) (targets : List ℕ) where
   flow_from_fits a bytes (Straight next) h = (eqb-true next (a + bytes) h, refl)
   flow_from_fits a bytes (Branch taken fall) h = refl
   flow_from_fits a bytes (Jump target) h = refl
-  flow_from_fits a bytes (Call target fall) h = refl
-  flow_from_fits a bytes (IndirectCall fall) h = refl
+  flow_from_fits a bytes (Call target fall) h = omega arith
+  flow_from_fits a bytes (IndirectCall fall) h = omega arith
   flow_from_fits a bytes (Table entries full is_open) h = table_fits entries h
   flow_from_fits a bytes Return h = refl
   flow_from_fits a bytes Unknown h = refl
@@ -75,25 +76,25 @@ module _ (slots : List Place) (targets : List ℕ) where
       subst (IsLawfulAt (listed_at slots targets) a) s.2
       (slot_lawful a s.0 (subst (λ b. Fits b (Some s.0)) zero_a (fits_at 0 slots a s.0 h s.1)))
 
-  -- where an instruction has kept targets, they are these
+  -- a call keeps nothing
 
-  flow_keeps : (flow : Flow) (i : ℕ) → i < length (kept_by targets flow) → kept_by targets flow ≡ targets
-  flow_keeps (Straight next) i h = absurd (omega arith)
-  flow_keeps (Branch taken fall) i h = absurd (omega arith)
-  flow_keeps (Jump target) i h = absurd (omega arith)
-  flow_keeps (Call target fall) i h = absurd (omega arith)
-  flow_keeps (IndirectCall fall) i h = absurd (omega arith)
-  flow_keeps (Table entries full is_open) i h = refl
-  flow_keeps Return i h = absurd (omega arith)
-  flow_keeps Unknown i h = absurd (omega arith)
-  flow_keeps Stop i h = absurd (omega arith)
+  flow_lands : (flow : Flow) → Calls (Some flow) → kept_by targets flow ≡ []
+  flow_lands (Straight next) calls = refl
+  flow_lands (Branch taken fall) calls = refl
+  flow_lands (Jump target) calls = refl
+  flow_lands (Call target fall) calls = refl
+  flow_lands (IndirectCall fall) calls = refl
+  flow_lands (Table entries full is_open) calls = absurd calls
+  flow_lands Return calls = refl
+  flow_lands Unknown calls = refl
+  flow_lands Stop calls = refl
 
-  slot_keeps : (slot : Place) (i : ℕ) → i < length (option_map_or (λ x. x.targets) (option_map made slot) []) → option_map_or (λ x. x.targets) (option_map made slot) [] ≡ targets
-  slot_keeps None i h = absurd (omega arith)
-  slot_keeps (Some s) i h = flow_keeps s.1 i h
+  slot_lands : (slot : Place) → Calls (option_map (λ (x : Instruction). x.flow) (option_map made slot)) → option_map_or (λ (x : Instruction). x.targets) (option_map made slot) [] ≡ []
+  slot_lands None calls = absurd calls
+  slot_lands (Some s) calls = flow_lands s.1 calls
 
-  pub same_targets : (a i : ℕ) → i < length (targets_at (listed_at slots targets) a) → targets_at (listed_at slots targets) a ≡ targets
-  same_targets a i h = slot_keeps (slot_at slots a) i h
+  pub lands_nowhere : (a : ℕ) → MayLand (listed_at slots targets) a → targets_at (listed_at slots targets) a ≡ []
+  lands_nowhere a calls = slot_lands (slot_at slots a) calls
 
 -- a list is one of seeds where the test says so
 

@@ -16,7 +16,7 @@ Place = Option (ℕ × Flow)
 abbrev pub slot_at : List Place → ℕ → Place
 slot_at slots a = slice_index_or slots a None
 
--- The kept targets of a flow, if every table jump keeps these.
+-- The kept targets of a flow, if every table jump keeps these, and no call has a landing pad.
 abbrev pub kept_by : List ℕ → Flow → List ℕ
 kept_by targets (Table entries full is_open) = targets
 kept_by targets _ = []

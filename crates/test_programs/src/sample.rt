@@ -72,15 +72,17 @@ impl Chains for Sample<'_> {
         }
     }
 
-    fn target(&self, _a: u64, i: u32) -> u64 {
-        self.targets[i as usize]
-    }
-
     fn targets(&self, a: u64) -> Result<Vec<u64>, Memory> {
         match self.slot(a) {
             Some((_, Flow::Table { .. })) => Ok(Vec::from_slice(self.alloc, self.targets)?),
             _ => Ok(Vec::new(self.alloc)),
         }
+    }
+
+    // No call has a landing pad.
+    fn landing(&self, a: u64) -> Option<u64> {
+        let _slot = self.slot(a);
+        None
     }
 }
 

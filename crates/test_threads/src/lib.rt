@@ -5,7 +5,6 @@
 //! work from another. So these tests count, and compare with values from outside.
 //!
 //! - `calls`, `drawn`: calls side by side, by some counts and numbers of threads.
-//! - `slots`: turns that two seats take, and values that eight threads swap.
 //! - `one_board`: a held shard, which is busy for another seat.
 //! - `stealing`: rounds over deques, and threads that put and take.
 //! - `workers`: the states that workers leave, and gates that hold them.
@@ -19,8 +18,6 @@ mod calls;
 mod drawn;
 #[cfg(test)]
 mod one_board;
-#[cfg(test)]
-mod slots;
 #[cfg(test)]
 mod stealing;
 #[cfg(test)]

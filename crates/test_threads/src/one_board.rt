@@ -13,7 +13,7 @@ use std::alloc::Global;
 use std::process::Abort;
 use std::test::Fail;
 
-/// A program with a return and a jump through a table to it.
+/// A program with a return, a jump through a table to it, and a call that lands at it.
 #[derive(Drop)]
 struct Program {
     alloc: Global,
@@ -35,6 +35,7 @@ fn instruction(a: u64) -> Option<(u8, Flow)>
                 is_open: false,
             },
         )),
+        0x1C0 => Some((4, Flow::IndirectCall { fall: None })),
         _ => None,
     }
 }
@@ -62,19 +63,20 @@ impl Chains for Program {
         }
     }
 
-    fn target(&self, _a: u64, _i: u32) -> u64 {
-        0xC0
-    }
-
     fn targets(&self, a: u64) -> Result<Vec<u64>, Memory> {
         match a {
-            0x140 => Ok(Vec::from_slice(self.alloc, &[0xC0])?),
+            0x140 | 0x1C0 => Ok(Vec::from_slice(self.alloc, &[0xC0])?),
             _ => Ok(Vec::new(self.alloc)),
         }
     }
+
+    fn landing(&self, a: u64) -> Option<u64> {
+        let _found = instruction(a);
+        (a == 0x1C0).then_some(0xC0)
+    }
 }
 
-/// Work on that program, from both instructions.
+/// Work on that program, from the return and from the jump.
 struct Task;
 
 impl Job for Task {

@@ -1,11 +1,12 @@
 //! Workers on worked programs: the states that they leave, and gates that hold them.
 
-ghost use Rattle.std.specs.Prelude.{◌≤◌};
+ghost use Rattle.std.specs.Prelude.{◌≤◌, IfOk};
+ghost use Rattle.cfg_model.specs.Program.Reach.{AreSeeds};
+ghost use Rattle.cfg_model.specs.Builder.Kept.{IsClosed};
 
 use crate::asserts::{holds, same};
-use alone::build_alone;
 use cfg_model::{Chains, Flow};
-use core_state::{State, WorkKind};
+use core_state::{Memory, State, WorkKind};
 use crew::{Gate, OpenGate, build, work};
 use std::alloc::Global;
 use std::process::Abort;
@@ -16,6 +17,7 @@ use test_gates::{Counts, Crowd, Meeting, Robbery};
 use test_programs::{
     Sample, Slot, cut_table, row_6, row_8, row_9, row_10, row_12, row_17, table_jump,
 };
+use work_ops::finish;
 
 /// The numbers of workers that are tried.
 const CREWS: [u32; 5] = [2, 3, 4, 8, 64];
@@ -57,6 +59,16 @@ fn four_returns(alloc: Global) -> Sample<'static> {
         targets: &[],
         seeds: &[0, 4, 8, 12],
     }
+}
+
+/// The closed state of a program from its seeds, made on the caller's thread.
+fn closed<C: Chains>(alloc: Global, code: &C, seeds: &[u64]) -> Result<State, Memory>
+    requires seeds { AreSeeds (C.map code.now) seeds.now }
+    ensures closed { IfOk result (λ state. IsClosed (C.map code.now) seeds.now state.maps) }
+{
+    let mut state = State::new(alloc)?;
+    finish(alloc, code, seeds, &mut state)?;
+    Ok(state)
 }
 
 /// Both states have the same starts, as far parsed.
@@ -102,13 +114,13 @@ fn same_terminators(rt: &impl Abort, one: &State, other: &State) {
     }
 }
 
-/// Any number of workers builds the state that is built alone, and leaves nothing to do.
+/// Any number of workers builds the state that one thread builds, and leaves nothing to do.
 fn crews_agree<R: Threads + Wait + Abort + Sync>(
     rt: &R,
     alloc: Global,
     code: &Sample,
 ) -> Result<(), Fail> {
-    let one = build_alone(alloc, code, code.seeds())?;
+    let one = closed(alloc, code, code.seeds())?;
     for workers in CREWS {
         let left = work(rt, alloc, code, code.seeds(), workers, &OpenGate)?;
         holds(rt, left.left(code, code.seeds()).is_none());
@@ -162,7 +174,7 @@ fn a_worker_steals(rt: HostRuntime) -> Result<(), Fail> {
     let gate = Robbery::of_edges();
     let state = build(&rt, rt.alloc(), &code, code.seeds(), 2, &gate)?;
     holds(&rt, gate.took_place());
-    let one = build_alone(rt.alloc(), &code, code.seeds())?;
+    let one = closed(rt.alloc(), &code, code.seeds())?;
     same_ends(&rt, &one, &state);
     Ok(())
 }

@@ -4,7 +4,7 @@ use Rattle.std.specs.Prelude.{Option, Some, None, IsSome, Contains, Bool, slice_
 use mathlib.Core.Logic.{inl, inr}
 use Rattle.std.specs.Option.{ForSome}
 use Rattle.std.proofs.lemmas.Option.{slice_get_within, get_or_from_slice_get, slice_get-get_or}
-use Rattle.std.proofs.lemmas.List.Elements.{All-contains, Contains-append_right, Contains-append_cases}
+use Rattle.std.proofs.lemmas.List.Elements.{All-contains, Contains-append_left, Contains-append_right, Contains-append_cases}
 use Rattle.cfg_model.specs.declared.flow.Flow.{Flow}
 use Rattle.cfg_model.specs.declared.flow.Flow.TheVariants.{Straight, Branch, Jump, Call, IndirectCall, Table, Return, Unknown, Stop}
 use Rattle.cfg_model.specs.declared.state.Waiter.{Waiter}
@@ -37,13 +37,6 @@ module _ (map : InstructionMap) where
   pub terminator_stands : (seeds : List ℕ) → IsLawful map → AreSeeds map seeds → (k : ℕ) → IsReachedTerminator map seeds k → IsSome (map k)
   terminator_stands seeds lawful are k reached = reached_stands seeds lawful are reached.reached
 
-  -- a call of a known address has no successors
-  no_way_of : (o : Option Flow) (target : ℕ) (fall : Option ℕ) (kept : List ℕ) (to : ℕ) → o ≡ Some (Call target fall) → Contains (successors_of_flow kept o) to → ⊥
-  no_way_of o target fall kept to e c = none_in to (subst (λ (p : Option Flow). Contains (successors_of_flow kept p) to) e c)
-
-  no_way : (k target : ℕ) (fall : Option ℕ) (to : ℕ) → IsCall map k target fall → IsSuccessor map k to → ⊥
-  no_way k target fall to call way = no_way_of (flow_at map k) target fall (targets_at map k) to call way
-
   same_target : (p q : ℕ) (f g : Option ℕ) → Some (Call p f) ≡ Some (Call q g) → p ≡ q
   same_target p q f g e = cc
 
@@ -54,7 +47,6 @@ module _ (map : InstructionMap) where
       entered = entered;
       waiter = waiter;
       depends = FollowsFrom.onward ends way at;
-      callee = λ target fall call. absurd (no_way k target fall to call way);
     }
 
     pub followed : (k to end : ℕ) → IsTerminatorOf map to end → Known (Fact.Start to) → Known (Fact.Waits end (follower k)) → IsFollowed map Known k to
@@ -66,7 +58,6 @@ module _ (map : InstructionMap) where
       entered = entered;
       waiter = waiter;
       depends = record { target = target; fall = fall; call = call; callee = at };
-      callee = tt;
     }
 
     pub called : (k target fall end : ℕ) → IsCall map k target (Some fall) → IsTerminatorOf map target end → Known (Fact.Start target) → Known (Fact.Waits end (released k)) → IsCalled map Known k
@@ -101,8 +92,7 @@ module _ (map : InstructionMap) where
     past_reason k call fall end freed returned entered waiter at = record {
       entered = entered;
       waiter = waiter;
-      depends = FollowsFrom.past_call freed.calls at;
-      callee = λ target its is. record { end = k; ends = subst (λ z. IsTerminatorOf map z k) (same_target freed.target target (Some fall) its (sym freed.calls ∙ is)) freed.callee; returned = returned };
+      depends = FollowsFrom.past_call freed.calls (record { end = k; ends = freed.callee; returned = returned }) at;
     }
 
     -- to arrive just before the near start, and to leave its end then
@@ -153,16 +143,19 @@ same_number xs i p q one two = same (sym one ∙ two)
     same : Some p ≡ Some q → p ≡ q
     same e = cc
 
-in_option : (o : Option ℕ) (x : ℕ) → o ≡ Some x → Contains (option_to_list o) x
+pub in_option : (o : Option ℕ) (x : ℕ) → o ≡ Some x → Contains (option_to_list o) x
 in_option o x e = subst (λ (p : Option ℕ). Contains (option_to_list p) x) (sym e) (head_in x [])
 
-from_option : (o : Option ℕ) (x : ℕ) → Contains (option_to_list o) x → o ≡ Some x
+pub from_option : (o : Option ℕ) (x : ℕ) → Contains (option_to_list o) x → o ≡ Some x
 from_option None x c = absurd (none_in x c)
 from_option (Some y) x c = elim (in_cases y [] x c) [ inl e ↦ ap Some e | inr none ↦ absurd (none_in x none) ]
 
 module _ (map : InstructionMap) (k : ℕ) where
   pub fall_is_way : (taken fall : Option ℕ) → flow_at map k ≡ Some (Branch taken fall) → (x : ℕ) → fall ≡ Some x → IsSuccessor map k x
   fall_is_way taken fall is x e = successor_from_flow map k (Branch taken fall) is x (Contains-append_right (option_to_list taken) (option_to_list fall) x (in_option fall x e))
+
+  pub past_is_way : (fall : Option ℕ) → flow_at map k ≡ Some (IndirectCall fall) → (x : ℕ) → fall ≡ Some x → IsSuccessor map k x
+  past_is_way fall is x e = successor_from_flow map k (IndirectCall fall) is x (Contains-append_left (option_to_list fall) (targets_at map k) x (in_option fall x e))
 
   pub table_is_way : (entries : ℕ) (full is_open : Bool) → flow_at map k ≡ Some (Table entries full is_open) → (to : ℕ) → Contains (targets_at map k) to → IsSuccessor map k to
   table_is_way entries full is_open is to c = successor_from_flow map k (Table entries full is_open) is to c
@@ -175,8 +168,15 @@ module _ (map : InstructionMap) (k : ℕ) where
           | inr c ↦ other to (from_option fall to c)
         ]
 
-    pub past_followed : (fall : Option ℕ) → flow_at map k ≡ Some (IndirectCall fall) → ForSome fall (IsFollowed map Known k) → AreFollowed map Known k
-    past_followed fall is one to way = one to (from_option fall to (successor_to_flow map k (IndirectCall fall) is to way))
+    pub past_followed : (fall : Option ℕ) → flow_at map k ≡ Some (IndirectCall fall) → ForSome fall (IsFollowed map Known k) → ((to : ℕ) → Contains (targets_at map k) to → IsFollowed map Known k to) → AreFollowed map Known k
+    past_followed fall is one pad to way =
+        elim (Contains-append_cases (option_to_list fall) (targets_at map k) to (successor_to_flow map k (IndirectCall fall) is to way)) [
+          | inl c ↦ one to (from_option fall to c)
+          | inr c ↦ pad to c
+        ]
+
+    pub call_followed : (target : ℕ) (fall : Option ℕ) → flow_at map k ≡ Some (Call target fall) → ((to : ℕ) → Contains (targets_at map k) to → IsFollowed map Known k to) → AreFollowed map Known k
+    call_followed target fall is pad to way = pad to (successor_to_flow map k (Call target fall) is to way)
 
     pub table_followed : (entries : ℕ) (full is_open : Bool) → flow_at map k ≡ Some (Table entries full is_open) → ((to : ℕ) → Contains (targets_at map k) to → IsFollowed map Known k to) → AreFollowed map Known k
     table_followed entries full is_open is all to way = all to (successor_to_flow map k (Table entries full is_open) is to way)
@@ -185,21 +185,23 @@ module _ (map : InstructionMap) (k : ℕ) where
     pub none_followed :
         (flow : Flow) → flow_at map k ≡ Some flow → IsTerminator map k →
         ((taken fall : Option ℕ) → flow ≡ Branch taken fall → ⊥) → ((target : ℕ) → flow ≡ Jump target → ⊥) →
+        ((target : ℕ) (fall : Option ℕ) → flow ≡ Call target fall → ⊥) →
         ((fall : Option ℕ) → flow ≡ IndirectCall fall → ⊥) → ((entries : ℕ) (full is_open : Bool) → flow ≡ Table entries full is_open → ⊥) →
         AreFollowed map Known k
-    none_followed flow is ends branch jump past table to way = absurd (none flow (subst EndsChain is ends) branch jump past table (successor_to_flow map k flow is to way))
+    none_followed flow is ends branch jump call past table to way = absurd (none flow (subst EndsChain is ends) branch jump call past table (successor_to_flow map k flow is to way))
       where
         none :
             (flow : Flow) → EndsChain (Some flow) →
             ((taken fall : Option ℕ) → flow ≡ Branch taken fall → ⊥) → ((target : ℕ) → flow ≡ Jump target → ⊥) →
+            ((target : ℕ) (fall : Option ℕ) → flow ≡ Call target fall → ⊥) →
             ((fall : Option ℕ) → flow ≡ IndirectCall fall → ⊥) → ((entries : ℕ) (full is_open : Bool) → flow ≡ Table entries full is_open → ⊥) →
             Contains (successors_by (targets_at map k) flow) to → ⊥
-        none (Straight next) ends branch jump past table c = ends
-        none (Branch taken fall) ends branch jump past table c = branch taken fall refl
-        none (Jump target) ends branch jump past table c = jump target refl
-        none (Call target fall) ends branch jump past table c = none_in to c
-        none (IndirectCall fall) ends branch jump past table c = past fall refl
-        none (Table entries full is_open) ends branch jump past table c = table entries full is_open refl
-        none Return ends branch jump past table c = none_in to c
-        none Unknown ends branch jump past table c = none_in to c
-        none Stop ends branch jump past table c = none_in to c
+        none (Straight next) ends branch jump call past table c = ends
+        none (Branch taken fall) ends branch jump call past table c = branch taken fall refl
+        none (Jump target) ends branch jump call past table c = jump target refl
+        none (Call target fall) ends branch jump call past table c = call target fall refl
+        none (IndirectCall fall) ends branch jump call past table c = past fall refl
+        none (Table entries full is_open) ends branch jump call past table c = table entries full is_open refl
+        none Return ends branch jump call past table c = none_in to c
+        none Unknown ends branch jump call past table c = none_in to c
+        none Stop ends branch jump call past table c = none_in to c

@@ -1,8 +1,9 @@
 //! What the code of a job tells of it.
 
-ghost use Rattle.std.specs.Prelude.{◌≡◌, ◌↔◌, IfOk, IfErr, IsSome, IsTrue, Some};
+ghost use Rattle.std.specs.Prelude.{◌≡◌, ◌↔◌, IfOk, IfErr, IsSome, IsTrue, Some, option_to_list};
 ghost use Rattle.cfg_model.specs.Program.Instructions.{IsLawful, flow_at, targets_at};
 ghost use Rattle.cfg_model.specs.Program.Chain.{IsTerminatorOf, OnChain};
+ghost use Rattle.cfg_model.specs.Program.Successors.{MayLand};
 
 use cfg_model::chain::on_chain;
 use cfg_model::{Chains, Flow, term};
@@ -42,6 +43,15 @@ pub(crate) fn flow_of<J: Job, C: Chains>(code: &C, k: u64) -> Flow
     ensures { flow_at J.map k ≡ Some result }
 {
     code.flow(k)
+}
+
+/// The landing pad of the call at `k`, if it has one.
+pub(crate) fn pad_of<J: Job, C: Chains>(code: &C, k: u64) -> Option<u64>
+    requires code { C.map code.now ≡ J.map }
+    requires calls { MayLand J.map k }
+    ensures { targets_at J.map k ≡ option_to_list result }
+{
+    code.landing(k)
 }
 
 /// The kept targets of the table jump at `k`, in the order of the table. The only refusal is want

@@ -48,20 +48,12 @@ impl<J: Job> Place<J> for Desk {
         <State as Place<J>>::term(&mut self.state, k)
     }
 
-    fn wait(&mut self, k: u64, w: Waiter) -> Result<bool, PlaceEnd> {
-        <State as Place<J>>::wait(&mut self.state, k, w)
-    }
-
     fn place_waiter(&mut self, k: u64, w: Waiter) -> Result<bool, PlaceEnd> {
         <State as Place<J>>::place_waiter(&mut self.state, k, w)
     }
 
     fn returned(&mut self, k: u64) -> Result<bool, PlaceEnd> {
         <State as Place<J>>::returned(&mut self.state, k)
-    }
-
-    fn told(&mut self, k: u64, w: Waiter) -> Result<(), PlaceEnd> {
-        <State as Place<J>>::told(&mut self.state, k, w)
     }
 
     fn mark_told(&mut self, k: u64, w: Waiter) -> Result<bool, PlaceEnd> {

@@ -3,7 +3,7 @@
 ghost use Rattle.std.specs.Prelude.{◌≡◌, ℕ, ◌≤◌, ◌↔◌, OnOk, IfErr, IsTrue, IsSome, Some, Contains};
 ghost use Rattle.std.specs.Option.{ForSome};
 ghost use Rattle.cfg_model.specs.Program.Instructions.{IsLawful, flow_at, targets_at};
-ghost use Rattle.cfg_model.specs.Program.Successors.{IsSuccessor, IsCall};
+ghost use Rattle.cfg_model.specs.Program.Successors.{IsSuccessor, IsCall, MayLand};
 ghost use Rattle.cfg_model.specs.Program.Successors.{LeavesFunction, ReturnsByItself};
 ghost use Rattle.cfg_model.specs.Program.Reach.{AreSeeds};
 ghost use Rattle.cfg_model.specs.Builder.Fact.{Fact};
@@ -11,7 +11,7 @@ ghost use Rattle.core_state.specs.Place.{AreKept, Remembers};
 ghost use Rattle.work_ops.specs.Going.{Runs, RoseIfBusy, Went};
 ghost use Rattle.work_ops.specs.Done.{IsFollowed, AreFollowed, IsCalled};
 
-use crate::code::{ask, end_of, flow_of, targets_of};
+use crate::code::{ask, end_of, flow_of, pad_of, targets_of};
 use crate::parts::{enter, note_return, place_wait, start};
 use cfg_model::{Chains, Flow, WaitKind, Waiter};
 use core_state::{Job, Place, PlaceEnd};
@@ -63,7 +63,8 @@ fn follow_all<J: Job, P: Place<J>, C: Chains>(
     match flow {
         Flow::Branch { taken, fall } => follow_both::<J, P, C>(place, code, k, taken, fall),
         Flow::Jump { target } => follow::<J, P, C>(place, code, k, target),
-        Flow::IndirectCall { fall } => follow_some::<J, P, C>(place, code, k, fall),
+        Flow::Call { .. } => follow_pad::<J, P, C>(place, code, k),
+        Flow::IndirectCall { fall } => follow_past::<J, P, C>(place, code, k, fall),
         Flow::Table { .. } => follow_table::<J, P, C>(place, code, k),
         _ => Ok(()),
     }
@@ -114,6 +115,52 @@ fn follow_some<J: Job, P: Place<J>, C: Chains>(
         Some(to) => follow::<J, P, C>(place, code, k, to),
         None => Ok(()),
     }
+}
+
+/// Follows the ways of the call through a register at `k`: to where it returns to, as far as that is
+/// known, and to its landing pad.
+fn follow_past<J: Job, P: Place<J>, C: Chains>(
+    place: &mut P,
+    code: &C,
+    k: u64,
+    fall: Option<u64>,
+) -> Result<(), PlaceEnd>
+    requires code { C.map code.now ≡ J.map }
+    requires seeds { AreSeeds J.map J.seeds }
+    requires lawful { IsLawful J.map }
+    requires kept { AreKept J.map J.seeds (P.maps place.old) }
+    requires entered { P.knows place.old (Fact.Terminator k) }
+    requires calls { MayLand J.map k }
+    requires fall { ForSome fall (IsSuccessor J.map k) }
+    ensures went { Went J.map J.seeds P.maps P.knows P.busies place.old place.new }
+    ensures busy { IfErr result (RoseIfBusy (P.busies place.old) (P.busies place.new)) }
+    ensures fall { OnOk result (ForSome fall (IsFollowed J.map (P.knows place.new) k)) }
+    ensures pad { OnOk result ((to : ℕ) → Contains (targets_at J.map k) to
+        → IsFollowed J.map (P.knows place.new) k to) }
+{
+    follow_some::<J, P, C>(place, code, k, fall)?;
+    follow_pad::<J, P, C>(place, code, k)
+}
+
+/// Follows the way from the call at `k` to its landing pad, if it has one.
+fn follow_pad<J: Job, P: Place<J>, C: Chains>(
+    place: &mut P,
+    code: &C,
+    k: u64,
+) -> Result<(), PlaceEnd>
+    requires code { C.map code.now ≡ J.map }
+    requires seeds { AreSeeds J.map J.seeds }
+    requires lawful { IsLawful J.map }
+    requires kept { AreKept J.map J.seeds (P.maps place.old) }
+    requires entered { P.knows place.old (Fact.Terminator k) }
+    requires calls { MayLand J.map k }
+    ensures went { Went J.map J.seeds P.maps P.knows P.busies place.old place.new }
+    ensures busy { IfErr result (RoseIfBusy (P.busies place.old) (P.busies place.new)) }
+    ensures followed { OnOk result ((to : ℕ) → Contains (targets_at J.map k) to
+        → IsFollowed J.map (P.knows place.new) k to) }
+{
+    let pad = pad_of::<J, C>(code, k);
+    follow_some::<J, P, C>(place, code, k, pad)
 }
 
 /// Follows the ways of the table jump at `k`.

@@ -1,9 +1,9 @@
 """Certificates of a control-flow graph, and what makes one valid, by objdump's listing and plain Python.
 
-A certificate has one or two parts. A part lists addresses: each terminator that returns, and each leader (an address where a
-block starts), both with a rank and a reason. A reason rests on other listed addresses of lower rank. So what is listed is
-true, and what is true is listed if nothing more follows from the list. The first part is of the program without cuts of its
-jump tables. The second one, under the cuts that the first one's tables give, is there if there are cuts.
+A certificate has one part, which lists addresses: each terminator that returns, and each leader (an address where a block
+starts), both with a rank and a reason. A reason rests on other listed addresses of lower rank. So what is listed is true, and
+what is true is listed if nothing more follows from the list. It is of the program under the cuts of its jump tables. A text
+may have a second part; no certificate that has one is valid.
 """
 
 from __future__ import annotations
@@ -15,7 +15,8 @@ import sys
 from typing import BinaryIO, Dict, Iterator, List, NamedTuple, NoReturn, Optional, Sequence, Set, Tuple, Union
 
 from cfgtools.checks.listing import Flow, Listing
-from cfgtools.checks.pattern_tables import Table, Tables, cuts
+from cfgtools.checks.pattern_tables import Tables
+from cfgtools.elf.table_patterns import Table, cuts
 from cfgtools.reports.cfg_report import Block, Edge, ReportError, program_of
 
 FIRST_LINE = b"cfg-cert 1\n"
@@ -50,8 +51,8 @@ class Part(NamedTuple):
 
 
 class Certificate(NamedTuple):
-    plain: Part
-    cut: Optional[Part] = None
+    part: Part
+    second: Optional[Part] = None
 
 
 # ---- where one comes from
@@ -142,20 +143,20 @@ def read(stream: BinaryIO) -> Certificate:
     reader = _Reader(stream)
     reader.take(FIRST_LINE)
     reader.take(b"part none\n")
-    plain, cut = reader.part(), None
+    part, second = reader.part(), None
     if reader.line == b"part cuts\n":
         reader.next()
-        cut = reader.part()
+        second = reader.part()
     reader.take(b"end\n")
     if reader.line:
         reader.fail("the certificate has ended, and here is another line")
-    return Certificate(plain, cut)
+    return Certificate(part, second)
 
 
 def text(certificate: Certificate) -> str:
     """The text of a certificate."""
     lines = ["cfg-cert 1"]
-    for name, part in (("none", certificate.plain), ("cuts", certificate.cut)):
+    for name, part in (("none", certificate.part), ("cuts", certificate.second)):
         if part is not None:
             lines.append(f"part {name}")
             lines += [f"ret {one.at:016x} {one.rank} {f'to {one.to:016x}' if one.why == 'to' else one.why}" for one in part.returns]
@@ -230,13 +231,13 @@ class Program:
         flow = self.flow(term)
         if flow.kind == "table":
             return flow.targets
-        ways = () if flow.kind == "call" else (flow.to, flow.fall)
+        ways = (flow.pad,) if flow.kind == "call" else (flow.to, flow.fall, flow.pad)
         return tuple(way for way in ways if way is not None)
 
     def targets(self, term: int) -> Tuple[int, ...]:
         """The successors of an instruction, and the target of a call."""
         flow = self.flow(term)
-        return (flow.to,) if flow.kind == "call" and flow.to is not None else self.successors(term)
+        return (*((flow.to,) if flow.kind == "call" and flow.to is not None else ()), *self.successors(term))
 
     def returns_by_itself(self, term: int) -> bool:
         return self.flow(term).kind in ("return", "unknown", "branch-out")
@@ -247,32 +248,20 @@ class Program:
         return (flow.to, flow.fall) if flow.kind == "call" and flow.to is not None else None
 
 
+def cut_program(listing: Listing) -> Program:
+    """The program of a listing under the cuts of its jump tables: each of the code's tables counts."""
+    tables = Tables(listing)
+    return Program(listing, tables, cuts(tables.everywhere()))
+
+
 # ---- what makes a certificate valid
 
 
 def faults(listing: Listing, certificate: Certificate) -> Iterator[str]:
     """What is wrong with a certificate of a file."""
-    tables = Tables(listing)
-    plain = Program(listing, tables, {})
-    wrong = False
-    for fault in part_faults(plain, certificate.plain):
-        wrong = True
-        yield f"part none: {fault}"
-    if wrong:
-        return
-    kept = cuts_of(plain, certificate.plain)
-    if (certificate.cut is None) != (not kept):
-        yield f"there are {len(kept)} cuts, and {'no' if certificate.cut is None else 'a'} part cuts"
-    elif certificate.cut is not None:
-        for fault in part_faults(Program(listing, tables, kept), certificate.cut):
-            yield f"part cuts: {fault}"
-
-
-def cuts_of(program: Program, part: Part) -> Dict[int, int]:
-    """The cuts by the table jumps among the terminators of the leads."""
-    jumps = {program.term(lead.at) for lead in part.leads}
-    found = {jump: program.table(jump) for jump in jumps if program.flow(jump).kind == "table"}
-    return cuts({jump: table for jump, table in found.items() if table is not None})
+    if certificate.second is not None:
+        yield "there is a second part"
+    yield from part_faults(cut_program(listing), certificate.part)
 
 
 def part_faults(program: Program, part: Part) -> Iterator[str]:
@@ -399,15 +388,6 @@ class _Check:
 # ---- the graph that it shows
 
 
-def last_part(listing: Listing, certificate: Certificate) -> Tuple[Program, Part]:
-    """The part whose graph a valid certificate shows, and its program: under cuts, if it has a part for them."""
-    tables = Tables(listing)
-    plain = Program(listing, tables, {})
-    if certificate.cut is None:
-        return plain, certificate.plain
-    return Program(listing, tables, cuts_of(plain, certificate.plain)), certificate.cut
-
-
 def graph(program: Program, part: Part) -> Tuple[Set[Block], Set[Edge]]:
     """The blocks and the edges that a valid part shows. Tail calls are jumps here."""
     leads, returns = {lead.at for lead in part.leads}, {one.at for one in part.returns}
@@ -440,8 +420,9 @@ def _ways(program: Program, at: int, returns: Set[int]) -> Iterator[Tuple[int, s
         yield flow.to, "call"
         if flow.fall is not None and program.term(flow.to) in returns:
             yield flow.fall, "after"
+        yield from ((to, "landing") for to in (flow.pad,) if to is not None)
     elif flow.kind == "icall":
-        yield from ((to, "after") for to in (flow.fall,) if to is not None)
+        yield from ((to, kind) for to, kind in ((flow.fall, "after"), (flow.pad, "landing")) if to is not None)
     else:
         ways = (flow.to, "jump" if flow.kind == "jump" else "taken"), (flow.fall, "fall")
         yield from ((to, kind) for to, kind in ways if to is not None)

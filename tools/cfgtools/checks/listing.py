@@ -11,9 +11,11 @@ from typing import Dict, FrozenSet, Iterable, Mapping, NamedTuple, Optional, Set
 
 from cfgtools.checks import binutils
 from cfgtools.checks.binutils import Line, Section
-from cfgtools.elf.elf_file import File
+from cfgtools.elf import no_return
+from cfgtools.elf.elf_file import Memory
+from cfgtools.elf.landings import Landings
 from cfgtools.isa import extensions
-from cfgtools.isa.instructions import Instruction, decoded
+from cfgtools.isa.instructions import AWAY, Instruction, decoded
 
 JUMPS = {"jal", "jalr", "c.j", "c.jr", "c.jalr"}
 BRANCHES = {"beq", "bne", "blt", "bge", "bltu", "bgeu", "c.beqz", "c.bnez"}
@@ -31,12 +33,13 @@ STRAIGHT = re.compile(
 
 class Flow(NamedTuple):
     """Where one instruction sends control: `to` is a target, `fall` where it goes on or returns to. `targets` are those of a
-    jump table, where who uses the listing knows one."""
+    jump table, where who uses the listing knows one, and `pad` is where a call lands that throws."""
 
     kind: str
     to: Optional[int] = None
     fall: Optional[int] = None
     targets: Tuple[int, ...] = ()
+    pad: Optional[int] = None
 
 
 def by_profile(line: Line) -> Line:
@@ -61,20 +64,26 @@ def of_named(line: Line, names: FrozenSet[str]) -> Optional[Line]:
     """The line of an instruction of an extension that the file names, or None. objdump may not know it: its registers are those of
     the tables here, first the one that is written, if there is one."""
     found = extensions.decoded(line.word, names)
-    if found is None or decoded(line.word) is not None:
+    if found is None or decoded(line.word) == found:
         return None
     one = Instruction(0, *found)
     read = [f"x{register}" for register in one.read]
-    if "d" not in one.row.operands:
+    if one.name in AWAY:
+        return line._replace(mnemonic=one.name, operands=read)
+    if one.written is None:
         return line._replace(mnemonic="extension.reads", operands=read)
-    return line._replace(mnemonic="extension" if one.pair is None else "extension.pair", operands=[f"x{one.rd}", *read])
+    written = [one.written, *one.others]
+    kind = "extension" if len(written) == 1 else f"extension.{len(written)}"
+    return line._replace(mnemonic=kind, operands=[*(f"x{register}" for register in written), *read])
 
 
 class Listing:
     """The code sections, seeds and instructions of a file."""
 
     def __init__(self, path: str) -> None:
-        self.path, self.names = path, File(path).extensions
+        elf = Memory(path)
+        self.path, self.names = path, elf.extensions
+        self._landings, self._staying = Landings(elf), no_return.that_cfg_knows(elf)
         self.sections = list(binutils.code_sections(path).values())
         self.seeds = list(binutils.seeds(path))
         self.lines: Dict[int, Line] = {}
@@ -122,7 +131,8 @@ class Listing:
             for i in range(0, line.length, 2):
                 self.halves.setdefault(address + i, line.word >> 8 * i & 0xFFFF)
             name = line.mnemonic
-            known = name in BRANCHES | JUMPS | STOPS or STRAIGHT.fullmatch(name)
+            is_row = name in BRANCHES | JUMPS | STOPS or STRAIGHT.fullmatch(name) is not None
+            known = is_row and not extensions.takes_away(line.word, self.names)
             of_extension = of_named(line, self.names) if self.names and not known else None
             self.lines[address] = line if known else of_extension or line._replace(length=2, mnemonic="none")
 
@@ -160,6 +170,14 @@ class Listing:
         return (base + ((upper[1] ^ 0x80000) - 0x80000 << 12) + offset) % 2**64 & ~1
 
     def flow(self, address: int, line: Line) -> Flow:
+        """Where an instruction at an address sends control. A call may land at a pad, and does not come back from some functions."""
+        found = self._alone_at(address, line)
+        if found.kind not in ("call", "icall"):
+            return found
+        fall = None if found.kind == "call" and found.to in self._staying else found.fall
+        return found._replace(fall=fall, pad=self._landings.pad_of(address + line.length))
+
+    def _alone_at(self, address: int, line: Line) -> Flow:
         behind, name = address + line.length, line.mnemonic
         if name in BRANCHES:
             taken, fall = self.code(int(line.operands[-1], 16)), self.code(behind)
@@ -169,6 +187,9 @@ class Listing:
             return self.to_known(link, int(line.operands[-1], 16), behind)
         if name in ("jalr", "c.jr", "c.jalr"):
             return self.through_register(address, line, behind)
+        if name in AWAY:
+            kind = "return" if name.startswith("cm.pop") else "unknown" if name == "cm.jt" else "icall"
+            return Flow(kind, fall=self.code(behind) if kind == "icall" else None)
         if name in STOPS or name == "none" or self.code(behind) is None:
             return Flow("stop")
         return Flow("fall", fall=behind)

@@ -11,6 +11,8 @@ from typing import Dict, List, Optional, Sequence, Tuple
 
 LEAST_VERSION = 19
 RV64GC = "+m,+a,+f,+d,+c,+zicsr,+zifencei"
+# The same without floats, beside which stand floats in integer registers, and pushes and pops.
+WITHOUT_FLOATS = "+m,+a,+zca,+zicsr,+zifencei"
 
 
 def tool(name: str) -> Optional[str]:
@@ -32,7 +34,7 @@ def missing() -> Optional[str]:
     return None
 
 
-def texts(values: Sequence[int], size: int, attributes: str) -> List[Optional[str]]:
+def texts(values: Sequence[int], size: int, attributes: str, base: str = RV64GC) -> List[Optional[str]]:
     """LLVM's text of each instruction of this size in bytes, or None for one that it does not know. A
     halfword is followed by a C.NOP."""
     padding, copy, dump = b"" if size == 4 else b"\x01\x00", tool("llvm-objcopy"), tool("llvm-objdump")
@@ -45,7 +47,7 @@ def texts(values: Sequence[int], size: int, attributes: str) -> List[Optional[st
             check=True,
         )
         shown = subprocess.run(
-            [dump, "-D", "-z", f"--mattr={RV64GC},{attributes}", "-M", "no-aliases,numeric", made],
+            [dump, "-D", "-z", f"--mattr={base},{attributes}", "-M", "no-aliases,numeric", made],
             check=True, capture_output=True, text=True,
         ).stdout
     found: Dict[int, Tuple[Optional[int], str]] = {}

@@ -1,4 +1,5 @@
-"""Writes a copy of an ELF file with further function symbols and declared jump tables, in which nothing else changes.
+"""Writes a copy of an ELF file with further function symbols, declared jump tables and declared functions that do not return, in
+which nothing else changes.
 
 The tables that grow, and the section headers, are written behind the end of the file; all that was there keeps its
 place. So what is loaded, and where, stays as it was.
@@ -11,9 +12,9 @@ import os
 import shutil
 import struct
 import tempfile
-from typing import Iterable, Iterator, List, NamedTuple, Optional, Tuple
+from typing import Iterable, Iterator, List, NamedTuple, Optional, Sequence, Tuple
 
-from cfgtools.elf import architecture, declared_tables
+from cfgtools.elf import architecture, declared_tables, no_return
 from cfgtools.elf.declared_tables import Additions
 from cfgtools.elf.elf_file import ALLOC, PROGBITS, SECTION_SIZE, STRTAB, SYMBOL_SIZE, SYMTAB, Header, Memory
 from cfgtools.reports.cfg_report import ReportError
@@ -31,12 +32,16 @@ class Entry(NamedTuple):
     size: int = 0
 
 
-def with_symbols(elf: Memory, entries: Iterable[Entry], named: Optional[str] = None, tables: Optional[Additions] = None) -> bytes:
+def with_symbols(elf: Memory, entries: Iterable[Entry], named: Optional[str] = None, tables: Optional[Additions] = None,
+                 staying: Sequence[int] = ()) -> bytes:
     """The bytes of a file with function symbols added to its symbol table, or with a table of them where it has none; with
-    attributes that name this architecture, if one is given; and with declared jump tables."""
+    attributes that name this architecture, if one is given; with declared jump tables; and with functions that are declared not
+    to return."""
     copy = _Copy(elf)
     if tables is not None:
         _declare(copy, elf, tables)
+    if staying:
+        _declare_staying(copy, elf, staying)
     if named is not None:
         attributes = next((section.index for section in elf.sections if section.kind == architecture.KIND), None)
         if attributes is None:
@@ -76,6 +81,14 @@ def _declare(copy: "_Copy", elf: Memory, tables: Additions) -> None:
     if tables.copies:
         index = copy.new(declared_tables.COPIES, PROGBITS, 8, 8, 0, tables.address)
         copy.put(index, tables.copies, 8)
+
+
+def _declare_staying(copy: "_Copy", elf: Memory, staying: Sequence[int]) -> None:
+    """Adds functions that do not return to those that the file declares."""
+    before = next((section for section in elf.sections if section.kind == no_return.KIND), None)
+    index = before.index if before else copy.new(no_return.NAME, no_return.KIND, 8, 8, 0)
+    whole = elf.contents(before)[:before.size // 8 * 8] if before else b""
+    copy.put(index, whole + no_return.packed(staying), 8)
 
 
 class _Copy:

@@ -12,7 +12,15 @@ from typing import Callable, FrozenSet, NamedTuple, Optional, Set
 KIND = 0x70000003
 NAME = b".riscv.attributes"
 WHOLE_FILE, ARCHITECTURE = 1, 5
-_VERSION = r"\d+p\d+"
+# A version at the end of a name, the first place from which one reaches it; and one at the front, as far as it goes.
+_VERSION = "([0-9]+p)?[0-9]+"
+_LONGEST = "[0-9]+(p[0-9]+)?"
+_STAND_FOR = {
+    "b": "zba zbb zbs", "zk": "zbkb zbkc zbkx zkne zknd zknh", "zkn": "zbkb zbkc zbkx zkne zknd zknh",
+    "zks": "zbkb zbkc zbkx zksed zksh", "zce": "zcb zcmp zcmt",
+}
+_INTEGER_FLOATS = frozenset(("zfinx", "zdinx", "zhinx", "zhinxmin"))
+_FLOATS = frozenset(("zfh", "zfhmin", "zfa", "zfbfmin"))
 
 
 class Part(NamedTuple):
@@ -91,25 +99,40 @@ def _text(data: bytes) -> "tuple[bytes, bytes]":
 
 
 def names(text: str) -> FrozenSet[str]:
-    """The extensions that a text names, in lower case: `b` as zba, zbb and zbs, and each of vectors as `v`."""
+    """The extensions that a text names, in lower case, and those for which a name stands: `b`, `zk`, `zkn`, `zks` and `zce`
+    for their parts, each of vectors for `v`, each of floats in integer registers for `zfinx`, each of a vendor for `xthead`.
+    The names that need registers of floats name nothing beside floats in integer registers."""
     text = text.lower()
+    if not text.startswith("rv64") or text[4:5] not in ("i", "e", "g"):
+        return frozenset()
     found: Set[str] = set()
-    if text.startswith("rv64"):
-        first, *parts = text[4:].split("_")
-        found.update(_letters(first))
-        for part in parts:
-            found.update([re.sub(_VERSION + "$", "", part)] if part[:1] in ("z", "s", "x") else _letters(part))
-    if "b" in found:
-        found |= {"zba", "zbb", "zbs"}
-    if any(name.startswith("zve") for name in found):
-        found.add("v")
+    for part in text[4:].split("_"):
+        found |= _names_of(part)
+    for name, parts in _STAND_FOR.items():
+        if name in found:
+            found |= set(parts.split())
+    for start, one in (("zve", "v"), ("xthead", "xthead")):
+        if any(name.startswith(start) for name in found):
+            found.add(one)
+    if found & _INTEGER_FLOATS:
+        found.add("zfinx")
+        found -= _FLOATS
     return frozenset(found)
 
 
-def _letters(part: str) -> FrozenSet[str]:
-    if not re.fullmatch(rf"([a-z]({_VERSION})?)*", part):
-        return frozenset()
-    return frozenset(re.sub(_VERSION, "", part))
+def _names_of(part: str) -> Set[str]:
+    """The names in a part of a text: letters, each with or without a version, and one that goes to the end, less its version.
+    A part with anything else in it names nothing."""
+    found: Set[str] = set()
+    while part:
+        if part[0] in "zsx":
+            return found | {re.sub(rf"{_VERSION}\Z", "", part)}
+        letter = re.match(rf"[a-z]({_LONGEST})?", part)
+        if letter is None:
+            return set()
+        found.add(part[0])
+        part = part[letter.end():]
+    return found
 
 
 def section(text: str) -> bytes:

@@ -107,7 +107,7 @@ class Declared:
 
     def _target(self, record: Record, number: int) -> Optional[int]:
         at = record.base + record.size * number
-        parts = [self._word(at + part) for part in range(0, record.size, 4)]
+        parts = [self.word(at + part) for part in range(0, record.size, 4)]
         if at >= TOP or None in parts:
             return None
         entry = sum(word << 32 * place for place, word in enumerate(parts) if word is not None)
@@ -115,7 +115,7 @@ class Declared:
             entry -= 1 << 32
         return (entry + record.added) % TOP & ~1
 
-    def _word(self, at: int) -> Optional[int]:
+    def word(self, at: int) -> Optional[int]:
         """The word at an address, of the first section of read-only data that has all of it."""
         section = self._last
         if section is None or len(self._read_only) > 1 and section is not self._read_only[0] or not _holds(section, at):

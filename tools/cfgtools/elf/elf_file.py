@@ -17,7 +17,7 @@ from cfgtools.reports.cfg_report import ReportError, name_field, read_name
 PROGBITS, SYMTAB, STRTAB, RELA, NOBITS = 1, 2, 3, 4, 8
 INIT_ARRAY, FINI_ARRAY, PREINIT_ARRAY = 14, 15, 16
 WRITE, ALLOC, EXECINSTR, THREADS, COMPRESSED = 0x1, 0x2, 0x4, 0x400, 0x800
-FUNC = 2
+OBJECT, FUNC = 1, 2
 RELRO_SEGMENT = 0x6474E552
 # Relocations of a file that is loaded at its own addresses: what is put at the place is the addend, or the address of a
 # function that answers it.
@@ -56,6 +56,7 @@ class Function(NamedTuple):
     size: int
     name: bytes
     section: int
+    is_local: bool = False
 
 
 class File:
@@ -110,7 +111,18 @@ class File:
             for at in range(0, len(data) - SYMBOL_SIZE + 1, SYMBOL_SIZE):
                 name, info, _, section, value, size = struct.unpack_from("<IBBHQQ", data, at)
                 if info % 16 == kind and 0 < section < len(self.headers) and self.headers[section].is_code:
-                    yield Function(value, size, _text(strings, name), section)
+                    yield Function(value, size, _text(strings, name), section, info >> 4 == 0)
+
+    def objects(self) -> Iterator[Tuple[int, int, bytes]]:
+        """The address, the size and the name of each symbol of an object, in the order of the tables."""
+        for table in self.headers:
+            if table.kind == SYMTAB:
+                strings = self.contents(self.headers[table.link]) if table.link < len(self.headers) else b""
+                data = self.contents(table)
+                for at in range(0, len(data) - SYMBOL_SIZE + 1, SYMBOL_SIZE):
+                    name, info, _, section, value, size = struct.unpack_from("<IBBHQQ", data, at)
+                    if info % 16 == OBJECT and section:
+                        yield value, size, _text(strings, name)
 
     @functools.cached_property
     def architecture(self) -> Optional[str]:
@@ -328,20 +340,26 @@ class Elf(File):
         if place < 0:
             return f"{address:x}"
         symbol = self._names[self._places[place]]
+        if symbol.address != address and not symbol.size:
+            symbol = self.owner(address) or symbol
         name = names.shown(symbol.name)
         if symbol.address == address:
             return name
         if symbol.size and symbol.end <= address:
-            return f"behind {name}"
+            return f"after {name}"
         return f"{name}+{address - symbol.address:#x}"
 
     def symbols(self) -> List[Symbol]:
-        """The function symbol of each address that has one. One that has no size goes up to the next."""
-        found = []
+        """The function symbol of each address that has one. One that has no size goes up to the next, unless it lies inside one
+        with a size, of which it ends nothing."""
+        found: List[Symbol] = []
+        held = 0
         for place, symbol in enumerate(self._names[at] for at in self._places):
-            if symbol.size == 0:
+            if symbol.size == 0 and symbol.address >= held:
                 after = self._places[place + 1:place + 2] or [symbol.address]
                 symbol = symbol._replace(size=after[0] - symbol.address)
+            else:
+                held = max(held, symbol.end)
             found.append(symbol)
         return found
 
@@ -353,6 +371,26 @@ class Elf(File):
             if one.name:
                 found.setdefault(one.address, set()).add(_shown(one.name))
         return {address: sorted(every) for address, every in found.items()}
+
+    @functools.cached_property
+    def said(self) -> Dict[str, str]:
+        """The names that people say, by the ones that a report has, if they differ: of those at an address one that is seen in all
+        files before one that is not, then the one with fewest underscores in front, then the shortest. A name that is not seen in all
+        files counts as one that is, if it is the end of such a name, as `malloc` of `__libc_malloc`."""
+        found: Dict[int, List[Tuple[bool, str]]] = {}
+        for one in self.functions():
+            if one.name:
+                found.setdefault(one.address, []).append((one.is_local, _shown(one.name)))
+        chosen: Dict[str, Set[str]] = {}
+        for every in found.values():
+            chosen.setdefault(min(name for _, name in every), set()).add(best_name(every))
+        return {name: best for name, bests in chosen.items() if len(bests) == 1 for best in bests if best != name}
+
+    def also(self, address: int) -> List[str]:
+        """The names of the function at an address but the one that people say, which is shown."""
+        every = self.all_names.get(address, [])
+        said = self.said.get(every[0], every[0]) if every else ""
+        return [name for name in every if name != said]
 
     def aliases(self, address: int) -> List[str]:
         """The names of the function at an address but the one that a report has."""
@@ -377,7 +415,11 @@ class Elf(File):
             for address, name in self.stub_names.items():
                 self._note(name, address, indirect)
             self._by_name = {**indirect, **self._by_name}
-        return self._by_name.get(wanted, set())
+        return self._by_name.get(wanted) or self._by_names_like(wanted)
+
+    def _by_names_like(self, wanted: str) -> Set[int]:
+        """The addresses of the functions whose demangled name is this, with its arguments or without."""
+        return {address for address, every in self.all_names.items() if any(names.is_asked(name, wanted) for name in every)}
 
     def _note(self, name: str, address: int, found: Dict[str, Set[int]]) -> None:
         """Notes an address by all spellings of a name."""
@@ -424,6 +466,18 @@ class Elf(File):
 def _shown(name: bytes) -> str:
     """A name as a report has it."""
     return name_field(name or None)
+
+
+def best_name(every: List[Tuple[bool, str]]) -> str:
+    """Of the names at an address, each with whether it is local, the one that people say."""
+    seen = [name for is_local, name in every if not is_local]
+
+    def rank(one: Tuple[bool, str]) -> Tuple[bool, int, int, str]:
+        is_local, name = one
+        is_hidden = is_local and not any(other.endswith(f"_{name}") for other in seen)
+        return is_hidden, len(name) - len(name.lstrip("_")), len(name), name
+
+    return min(every, key=rank)[1]
 
 
 def owners(symbols: List[Symbol], code: List[Code]) -> List[Tuple[int, int, Symbol]]:

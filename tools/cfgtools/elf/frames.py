@@ -1,10 +1,8 @@
-"""The frame descriptions of an ELF file, from `.eh_frame` and `.debug_frame`, and where exceptions land by the
-language-specific data that they name (LSB Core, "Exception Frames"; DWARF 5, section 6.4; the GCC exception table).
-"""
+"""The frame descriptions of an ELF file, from `.eh_frame` and `.debug_frame` (LSB Core, "Exception Frames"; DWARF 5, section 6.4)."""
 
 from __future__ import annotations
 
-from typing import Dict, Iterator, List, NamedTuple, Optional, Tuple
+from typing import Dict, Iterator, List, NamedTuple, Optional
 
 from cfgtools.elf.elf_file import NOBITS, Header, Memory
 from cfgtools.reports.cfg_report import ReportError
@@ -18,11 +16,10 @@ ULEB, SLEB = 1, 9
 
 
 class Frame(NamedTuple):
-    """A frame description: the range of code, and where its language-specific data is."""
+    """A frame description: the range of code."""
 
     start: int
     size: int
-    data: Optional[int]
 
 
 class Shared(NamedTuple):
@@ -154,15 +151,7 @@ class Frames:
         shared = self._shared_at(shared_at)
         encoded = reader.pointer(shared.pointers)
         size = reader.value(shared.pointers & 0xF)
-        data = None
-        if shared.has_data:
-            length = reader.leb()
-            end = reader.at + length
-            if end > reader.end:
-                raise Broken(f"data of a frame description that goes past its end, at {self._address + reader.at:x}")
-            if shared.language != OMITTED:
-                data = reader.pointer(shared.language, encoded or 0)
-        return None if encoded is None else Frame(encoded, size, data)
+        return None if encoded is None else Frame(encoded, size)
 
     def _shared_at(self, at: int) -> Shared:
         if at not in self._shared:
@@ -226,41 +215,8 @@ def frames(elf: Memory) -> List[Frame]:
             if section.name == name.encode() and section.kind != NOBITS:
                 try:
                     for frame in Frames(elf, section, name != ".eh_frame").read():
-                        other = found.get(frame.start)
-                        if other is None or other.data is None:
-                            found[frame.start] = frame
+                        found.setdefault(frame.start, frame)
                 except Broken as error:
                     raise ReportError(f"{elf.path}: {name} is broken: {error}") from None
     return [found[start] for start in sorted(found)]
 
-
-def landing_pads(elf: Memory, frame: Frame, catching: bool = False) -> List[Tuple[int, int, int]]:
-    """Where exceptions land that are thrown in a frame's code: each range of code with its place to land at. With `catching`
-    only where something is caught, and not those that clean up and throw it on."""
-    if frame.data is None:
-        return []
-    section = elf.section_at(frame.data)
-    if section is None or section.kind == NOBITS:
-        raise ReportError(f"{elf.path}: the exception data at {frame.data:x} is in no section")
-    reader = Reader(elf, elf.contents(section), section.address, frame.data - section.address)
-    try:
-        return [(first, last, pad) for first, last, pad, action in _read_pads(reader, frame) if action or not catching]
-    except Broken as error:
-        raise ReportError(f"{elf.path}: {section.name.decode('latin-1')} is broken: {error}") from None
-
-
-def _read_pads(reader: Reader, frame: Frame) -> Iterator[Tuple[int, int, int, int]]:
-    start = reader.pointer(reader.number(1), frame.start)
-    base = frame.start if start is None else start
-    if reader.number(1) != OMITTED:
-        reader.leb()
-    encoding = reader.number(1)
-    length = reader.leb()
-    if reader.at + length > reader.end:
-        raise Broken(f"a table of calls that goes past the end, at {reader.address + reader.at:x}")
-    reader.end = reader.at + length
-    while reader.at < reader.end:
-        first, size, pad = (reader.value(encoding) for _ in range(3))
-        action = reader.leb()
-        if pad:
-            yield frame.start + first, frame.start + first + size, base + pad, action

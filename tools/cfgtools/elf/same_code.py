@@ -53,8 +53,8 @@ class Compared:
         base = known.get(one.rs1) if "s" in one.row.operands and "i" in one.row.operands else None
         is_far = one.name in ("auipc", "lui")
         value = one.immediate + (one.address if one.name == "auipc" else 0)
-        if one.written is not None:
-            known.pop(one.written, None)
+        for register in (one.written, *one.others, *one.unknown):
+            known.pop(register or 0, None)
         if is_far and (one.name == "auipc" or self._low - PAGE <= value < self._high + PAGE):
             known[one.rd] = value
             return (*registers, "address")

@@ -25,6 +25,8 @@ class SwitchTables:
 
     def __init__(self) -> None:
         self._known = Known()
+        # The jumps of those whose end a bound test shows.
+        self.tested: Set[int] = set()
 
     def found(self, reached: Reached, declared: Collection[int]) -> Iterator[Wanted]:
         for switch in Switches(reached, self._known).found():
@@ -34,6 +36,8 @@ class SwitchTables:
                 # A table that the pattern found, which only a test tells more of.
                 if switch.bound is None or set(ways_of_table(reached.report, switch.block.start)) == set(switch.cases):
                     continue
+            if switch.bound is not None:
+                self.tested.add(switch.jump)
             yield Wanted(switch.jump, switch.cases, (switch.table, switch.width, switch.added))
 
 

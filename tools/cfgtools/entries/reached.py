@@ -8,9 +8,11 @@ import re
 import sys
 from typing import Dict, Iterator, List, Optional, Set, Tuple
 
+from cfgtools.elf import no_return
 from cfgtools.elf.elf_file import Header, Memory
 from cfgtools.isa.decoding import ENDS, UNKNOWN, Insn, decode
-from cfgtools.reports.cfg_report import EDGE_KINDS, Block, Changes, Report
+from cfgtools.reports.cfg_report import EDGE_KINDS, Block, Report
+from cfgtools.reports.growing import Changes
 
 APART, START, INSIDE = 0, 1, 2
 # What the first two bytes of an instruction tell of it: whether it may have two more, and whether it may be LUI or AUIPC.
@@ -58,7 +60,8 @@ class Reached:
     def __init__(self, elf: Memory, report: Report, before: "Optional[Reached]" = None, changes: Optional[Changes] = None) -> None:
         self.elf, self.report = elf, report
         self._names = elf.extensions
-        self._staying = {function.entry for function in report.functions if not function.may_return}
+        # The functions that do not return.
+        self.staying = {function.entry for function in report.functions if not function.may_return} | no_return.that_cfg_knows(elf)
         self._sure: Dict[int, bytearray] = before._sure if before else {one.index: bytearray(one.size // 2 + 1) for one in elf.code}
         self._halves: Dict[int, Halves] = before._halves if before else {one.index: Halves(elf, one) for one in elf.code}
         self._read: Dict[Tuple[int, int], List[Tuple[int, Insn]]] = before._read if before else {}
@@ -273,7 +276,7 @@ class Reached:
             return True
         if not self.is_call(at, insn):
             return False
-        return self._callee(at, insn) in self._staying or self.makes_room(address)
+        return self._callee(at, insn) in self.staying or self.makes_room(address)
 
     def _callee(self, at: int, insn: Insn) -> Optional[int]:
         """The address that an instruction calls, where it and the one before it tell."""

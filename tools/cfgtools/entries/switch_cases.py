@@ -54,7 +54,7 @@ Writer = Tuple[int, int, int, Optional[Insn]]
 
 class Switch(NamedTuple):
     """A jump through a table: the table's address, the size of an entry, what is added to each, how many there are by a test,
-    if there is one, and where the cases are, in the order of the table."""
+    if there is one, where the cases are, in the order of the table, and the address of the test."""
 
     block: Block
     jump: int
@@ -63,6 +63,7 @@ class Switch(NamedTuple):
     added: int
     bound: Optional[int]
     cases: Tuple[int, ...]
+    test: Optional[int] = None
 
 
 class Known:
@@ -108,13 +109,13 @@ class Switches:
                     self._known.fruitless[block.start] = around
         self._known.bases.update(table for _, _, table, *_ in tables)
         for block, jump, table, width, added, index in tables:
-            bound = self._bound(block, index)
+            bound, test = self._bound(block, index) or (None, None)
             most = bound or (index[1] + 1 if index[0] == "masked" else MOST_CASES)
             cases = self._cases(jump, table, width, added, most, bound is not None)
             if cases:
                 if bound is not None:
                     self._known.bounded[block.start] = table
-                yield Switch(block, jump, table, width, added, bound, tuple(cases))
+                yield Switch(block, jump, table, width, added, bound, tuple(cases), test)
 
     def _around(self, block: Block) -> Tuple[int, ...]:
         """The extent of the function that a block is in, and how many blocks and edges are there."""
@@ -176,7 +177,7 @@ class Switches:
             if not ways:
                 found[block, 0, block, None] = None
             for source, kind in ways:
-                if kind == "after" and not is_kept:
+                if kind in ("after", "landing") and not is_kept:
                     found[source, 0, source, None] = None
                 elif source not in seen:
                     seen.add(source)
@@ -309,8 +310,8 @@ class Switches:
     def _reads_as_code(self, case: int) -> bool:
         return self._reached.state(case) == START or not self._reached.overlaps(case) and self._reached.trial(case) is not None
 
-    def _bound(self, block: Block, index: Tuple) -> Optional[int]:
-        """How many entries a test of the index allows, in the blocks before the jump."""
+    def _bound(self, block: Block, index: Tuple) -> Optional[Tuple[int, int]]:
+        """How many entries a test of the index allows, in the blocks before the jump, and where it is."""
         seen, left = {block.start}, [(block.start, 0)]
         while left:
             start, depth = left.pop(0)
@@ -323,7 +324,7 @@ class Switches:
                 left.append((source, depth + 1))
                 tested = self._tested(source, kind, index)
                 if tested is not None:
-                    return tested
+                    return tested, self._instructions(source)[-1][0]
         return None
 
     def _tested(self, start: int, kind: str, index: Tuple) -> Optional[int]:

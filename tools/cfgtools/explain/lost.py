@@ -32,6 +32,7 @@ class LostCode:
         self.missed = gaps(elf.code, joined(list(reached)))
         self.size = size_of(self.missed)
         self._by_symbol: Dict[Symbol, List[Range]] = {}
+        self._by_address: Dict[int, List[Range]] = {}
         self.outside: List[Range] = []
         starts = [start for start, _, _ in elf.owners]
         for start, end in self.missed:
@@ -51,14 +52,16 @@ class LostCode:
                 self.outside.append((at, min(owner[0], end)))
             low, high = max(at, owner[0]), min(end, owner[1])
             if low < high and owner[2] is not None:
-                self._by_symbol.setdefault(owner[2], []).append((low, high))
+                ranges = self._by_symbol.setdefault(owner[2], [])
+                self._by_address.setdefault(owner[2].address, ranges)
+                ranges.append((low, high))
             at, place = max(high, min(owner[0], end)), place + 1
 
     def of(self, symbol: Optional[Symbol]) -> Optional[Lost]:
         """What is lost of a symbol, where anything is."""
         if symbol is None:
             return None
-        ranges = next((found for key, found in self._by_symbol.items() if key.address == symbol.address), None)
+        ranges = self._by_address.get(symbol.address)
         return Lost(symbol, tuple(ranges)) if ranges else None
 
     def at(self, address: int) -> Optional[Lost]:

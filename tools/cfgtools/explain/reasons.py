@@ -2,19 +2,25 @@
 
 from __future__ import annotations
 
-from typing import List, NamedTuple, Optional, Tuple
+import functools
+from typing import Dict, List, NamedTuple, Optional, Tuple
 
 from cfgtools.elf.declared_tables import Declared
+from cfgtools.elf.elf_file import Memory
+from cfgtools.entries.reached import Reached
+from cfgtools.entries.switch_cases import Switch, Switches
 from cfgtools.explain.staying import undecoded
 from cfgtools.explain.tables import Use, use_of_table
 from cfgtools.explain.unsure import Unsure
 from cfgtools.explain.values import CALL, CALLER, Code, Place, Setter, Values, copied
 from cfgtools.isa import extensions
 from cfgtools.isa.instructions import ARGUMENTS, NAMES, Instruction, signed
-from cfgtools.reports.cfg_report import Block
+from cfgtools.reports.cfg_report import Block, Report
 
 KINDS = ("unknown", "icall", "table-cut", "table-open", "branch-out", "stop")
 RETURN = bytes.fromhex("8280")
+# What may make a copy of the index of a table for its bound test.
+EXTENSIONS = frozenset(("sext.b", "sext.h", "zext.h", "add.uw", "andi"))
 # How many instructions may go straight on to the jump of a table.
 MOST_STRAIGHT = 16
 
@@ -35,9 +41,20 @@ NOT_TOLD = Why("not told: no instruction of RV64GC ends the block")
 CUT = Why("fewer entries of its table are kept than its bound test allows: another table begins inside it, or an entry "
           "leads to no code")
 OPEN = "a table without a bound test: where it ends is not known"
+TESTED = "a table whose bound test stands in none of the patterns by which cfg finds the end of one"
 DECLARED = "a table that the file declares: nothing proves where it ends"
 TABLE = "a jump table"
 INDIRECT = "to an indirect function: through a word that its resolver answers when the program starts"
+
+
+class KnownSwitches:
+    """The switches of a report's blocks that constants tell, by the starts of the blocks."""
+
+    def __init__(self, path: str, report: Report) -> None:
+        self.elf = Memory(path)
+        self.reached = Reached(self.elf, report)
+        self.values = Switches(self.reached)
+        self.found: Dict[int, Switch] = {switch.block.start: switch for switch in self.values.found()}
 
 
 class Reasons:
@@ -66,18 +83,51 @@ class Reasons:
             return NOT_TOLD
         if block.kind == "branch-out":
             if self.elf.is_code(last.target):
-                return Why("no code behind the branch", f"{block.end:x}")
+                return Why("no code after the branch", f"{block.end:x}")
             return Why("a branch " + NO_CODE, f"{last.target:x}")
         if block.kind == "table-cut":
             return CUT
         if block.kind == "table-open":
             ways = self.report.edges_from.get(block.start, [])
             outside = sum(map(self.unsure.is_unsure, ways))
-            is_declared = self._declared.is_of(last.address)
-            return Why(DECLARED if is_declared else OPEN, f"{len(ways)} ways on" + (f", {outside} of them outside its symbol" if outside else ""))
+            told = f"{len(ways)} successors" + (f", {outside} of them outside its symbol" if outside else "")
+            if self._declared.is_of(last.address):
+                return Why(DECLARED, told)
+            test = self._test(block)
+            return Why(TESTED, f"{told}; {test}") if test else Why(OPEN, told)
         if last.name == "jal":
             return Why(NO_CODE, f"{last.target:x}")
         return self._why_jump(block, last)
+
+    @functools.cached_property
+    def switches(self) -> "KnownSwitches":
+        """The switches that constants tell, of blocks whose ways on are not known or may be false."""
+        return KnownSwitches(self.elf.path, self.report)
+
+    def _test(self, block: Block) -> Optional[str]:
+        """The bound test of an open table that stands further back or tests a copy of the index, in words."""
+        switch = self.switches.found.get(block.start)
+        if switch is None or switch.bound is None or switch.test is None:
+            return None
+        place = next((Place(one.start, len(own) - 1) for one in self._blocks_at(switch.test) for own in [self.code.of(one)] if own), None)
+        if place is None:
+            return None
+        test = self.code.of(self.report.blocks[place.block])[place.number]
+        return f"{test.text} at {test.address:x} lets {switch.bound} values on{self._copy_of(test, place)}"
+
+    def _blocks_at(self, last: int) -> List[Block]:
+        """The blocks whose last instruction stands at an address."""
+        return [self.ends[last + size] for size in (2, 4) if last + size in self.ends and self.code.of(self.ends[last + size])[-1:]
+                and self.code.of(self.ends[last + size])[-1].address == last]
+
+    def _copy_of(self, test: Instruction, place: Place) -> str:
+        """The instruction that makes a copy of the index for a test, if one does."""
+        for register in (test.rs1, test.rs2):
+            setter = self.values.setter(register, place)
+            one = setter.instruction if setter is not None else None
+            if one is not None and (one.name in EXTENSIONS or one.name == "addiw" and one.immediate == 0):
+                return f", of a copy that {one.text} at {one.address:x} makes"
+        return ""
 
     def _why_stop(self, block: Block) -> Why:
         found = undecoded(self.code, block)
@@ -173,7 +223,7 @@ class Reasons:
 
     def _why_constant(self, constant: int) -> Why:
         where = "" if self.elf.is_code(constant) else ", where no code is"
-        return Why("to a fixed address, but not right behind its AUIPC or LUI", f"{constant:x}{where}")
+        return Why("to a fixed address, but not right after its AUIPC or LUI", f"{constant:x}{where}")
 
     def _why_load(self, load: Instruction, place: Place) -> Why:
         address = self.values.constant(load.rs1, place)

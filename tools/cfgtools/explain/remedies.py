@@ -5,13 +5,13 @@ from __future__ import annotations
 import bisect
 from typing import Dict, Iterable, List, Optional, Set, Tuple
 
-from cfgtools.elf.declared_tables import jump_register
+from cfgtools.elf.declared_tables import first_records, jump_register
 from cfgtools.elf.elf_file import Memory, joined, size_of
-from cfgtools.elf.frames import frames, landing_pads
+from cfgtools.elf.frames import frames
 from cfgtools.elf.stubs import stubs
 from cfgtools.entries.pointers import array_entries, pointers_in_data
-from cfgtools.entries.reached import Reached
-from cfgtools.entries.switch_cases import Switch, Switches
+from cfgtools.entries.declaring import ways_of_table
+from cfgtools.explain.reasons import KnownSwitches
 from cfgtools.explain.staying import undecoded
 from cfgtools.explain.values import Code
 from cfgtools.isa import extensions
@@ -24,15 +24,13 @@ def starts(elf: Memory) -> Dict[str, List[int]]:
     """The addresses of code that each source finds in the file alone."""
     try:
         framed = frames(elf)
-        pads = [pad for frame in framed for _, _, pad in landing_pads(elf, frame)]
     except ReportError:
-        framed, pads = [], []
+        framed = []
     return {
         "--eh-frame": [frame.start for frame in framed if elf.is_code(frame.start)],
         "--stubs": [stub.resolver for stub in stubs(elf) if stub.resolver is not None and elf.is_code(stub.resolver)],
         "--arrays": [address for address in array_entries(elf) if elf.is_code(address)],
         "--pointers": pointers_in_data(elf),
-        "--landing-pads": [pad for pad in pads if elf.is_code(pad)],
     }
 
 
@@ -67,12 +65,11 @@ def architecture_for(code: Code, report: Report) -> str:
 class Remedies:
     """What closes the open ends of a report."""
 
-    def __init__(self, code: Code, report: Report) -> None:
-        elf = self._elf = Memory(code.elf.path)
-        self._code, self._architecture = code, architecture_for(code, report)
-        self._reached = Reached(elf, report)
-        self._values = Switches(self._reached)
-        self._switches: Dict[int, Switch] = {switch.block.start: switch for switch in self._values.found()}
+    def __init__(self, code: Code, report: Report, switches: KnownSwitches) -> None:
+        elf = self._elf = switches.elf
+        self._code, self._report, self._architecture = code, report, architecture_for(code, report)
+        self._declared = first_records(elf)
+        self._reached, self._values, self._switches = switches.reached, switches.values, switches.found
         reached = joined([(block.start, block.end) for block in report.blocks.values()])
         self._is_all = size_of(reached) >= sum(section.size for section in elf.code)
         self._stubs = {stub.jump + 4 for stub in stubs(elf) if stub.resolver is not None}
@@ -96,6 +93,9 @@ class Remedies:
             count = len({case for case in switch.cases if not self._reached.state(case)})
             more = f", {count} of them not reached" if count else ""
             return f"--switches, which declares its table: {len(set(switch.cases))} cases{more}"
+        if switch is not None and block.kind == "table-open" and switch.bound is not None and switch.jump not in self._declared:
+            is_so = set(ways_of_table(self._report, block.start)) == set(switch.cases)
+            return None if is_so else f"--switches, which declares its end: {switch.bound} entries"
         if block.kind not in ("unknown", "icall") or self._values.is_fixed(block):
             return None
         if block.kind == "unknown" and jump_register(self._elf, self._reached.instructions(block)[-1][0]) is not None:

@@ -5,34 +5,32 @@ is not to be relied on if such an end is one of these, which the scripts call do
 
 - an instruction that is not decoded, as one of an extension that the file does not name;
 - WFI, MRET, SRET or SFENCE.VMA, after which control does go on, there or elsewhere;
-- a call after which a landing pad stands, where what it throws is caught;
 - the code of Go's `morestack` and `mcall`, which come back to their callers by ways of their own;
 - an end of the code.
 
-What may be false by one of them is every function that may return if they did, through calls and tail calls.
+What may be false by one of them is every function that may return if they did, through calls and tail calls. A call of
+`_Unwind_Resume`, `longjmp` and their like does not come back, nor does one of a function that the file declares so.
 """
 
 from __future__ import annotations
 
-import bisect
 from typing import Dict, Iterator, List, NamedTuple, Optional, Set, Tuple
 
-from cfgtools.elf.elf_file import Elf, Memory
-from cfgtools.elf.frames import frames, landing_pads
+from cfgtools.elf.elf_file import Elf
+from cfgtools.elf.no_return import COME_BACK, by_name, declared
 from cfgtools.explain.values import Code
 from cfgtools.isa import extensions
 from cfgtools.isa.instructions import UNIMP
 from cfgtools.reports.body import Body
-from cfgtools.reports.cfg_report import Block, Edge, Function, Item, Report, ReportError, function_name
+from cfgtools.reports.cfg_report import Block, Edge, Function, Item, Report, function_name
 
-OF_GO = {f"runtime.{name}{end}".encode(): name.partition("_")[0] for name in ("morestack", "morestack_noctxt", "mcall") for end in ("", ".abi0")}
+STAYS, NAMED = "which does not return", "which by its name does not come back"
+DECLARED = "which does not return, as the file declares"
 OF_ITS_OWN = "which comes back by ways of its own"
 # Instructions of privileged modes that are not decoded, and after which control goes on to the next one.
 GOES_ON = ("wfi", "sfence.vma")
 # How many calls a chain of reasons names before it is cut short, and how many reasons are given of one function.
 LONGEST, MOST = 6, 6
-# Among how many ranges of calls before an address the one is looked for that has it: they seldom overlap.
-NEAR = 40
 
 
 class Doubt(NamedTuple):
@@ -46,8 +44,7 @@ class Doubt(NamedTuple):
 def undecoded(code: Code, block: Block) -> Optional[Tuple[int, int]]:
     """The address and the word of the instruction of a block of kind `stop` that is not decoded, if that is its end. By the
     reckoning of `cfg` it has two bytes."""
-    known = code.of(block)
-    if block.kind != "stop" or known and known[-1].end == block.end:
+    if block.kind != "stop" or code.last(block) is not None:
         return None
     at = block.end - 2
     half = int.from_bytes(code.elf.bytes_at(at, block.end) or b"", "little")
@@ -73,7 +70,8 @@ class Staying:
         self.report, self.elf = report, elf
         self.code = Code(elf, report) if elf else None
         self.functions = {function.entry: function for function in report.functions}
-        self.catching = _catching(elf) if elf else []
+        # Of functions after whose calls no edge leads on, whatever they do: what says so.
+        self._said: Dict[int, str] = {**dict.fromkeys(declared(elf), DECLARED), **dict.fromkeys(by_name(elf), NAMED)} if elf else {}
         self._homes: Dict[int, int] = {}
         for function in report.functions:
             self._homes.update((start, function.entry) for start in function.blocks if start not in self._homes or function.entry <= start)
@@ -90,7 +88,7 @@ class Staying:
         """Finds the blocks from which a doubtful end is reached, each with the next one on the way to it."""
         back: Dict[int, List[int]] = {}
         for edge in self.report.edges:
-            if edge.kind != "call" or not self.returns(edge.source):
+            if edge.kind != "call" or edge.to not in self._said and not self.returns(edge.source):
                 back.setdefault(edge.to, []).append(edge.source)
         left = []
         for start, doubt in self._doubts():
@@ -109,26 +107,15 @@ class Staying:
     def _doubts(self) -> Iterator[Tuple[int, Doubt]]:
         """The blocks whose ends are doubtful."""
         for entry, function in self.functions.items():
-            if function.name in OF_GO and not function.may_return and entry in self.report.blocks:
-                yield entry, Doubt(entry, entry, f"it is Go's {OF_GO[function.name]}, {OF_ITS_OWN}")
+            if function.name in COME_BACK and not function.may_return and entry in self.report.blocks:
+                yield entry, Doubt(entry, entry, f"it is Go's {COME_BACK[function.name]}, {OF_ITS_OWN}")
         for block in self.report.blocks.values():
             what = self._what(block)
             if what is not None:
                 yield block.start, Doubt(self._holder(block.start), block.end - 2, what)
 
     def _what(self, block: Block) -> Optional[str]:
-        if self.code is None:
-            return None
-        if block.kind == "stop":
-            return end_of_stop(self.code, block)
-        pad = self.pad_of(block.end) if block.kind == "call" and not self.returns(block.start) else None
-        return f"what the call before {block.end:x} throws is caught, at {pad:x}" if pad is not None else None
-
-    def pad_of(self, end: int) -> Optional[int]:
-        """Where what a call throws that ends at an address is caught, if it is."""
-        after = bisect.bisect_left(self.catching, (end,))
-        near = reversed(self.catching[max(after - NEAR, 0):after])
-        return next((pad for first, last, pad in near if first < end <= last), None)
+        return end_of_stop(self.code, block) if self.code is not None and block.kind == "stop" else None
 
     def _holder(self, start: int) -> int:
         """A function that has a block: the last that begins before it, or any."""
@@ -197,20 +184,11 @@ class Staying:
             what = end_of_stop(self.code, block) if self.code else None
             yield f"stops at {start:x}" + (f", where {what}" if what else "")
         elif block.kind in ("call", "icall") and all(edge.kind == "call" for edge in edges):
-            callee = f"{self.name(edges[0].to)}, which does not return" if edges else "what is not known"
+            callee = f"{self.name(edges[0].to)}, {self._said.get(edges[0].to, STAYS)}" if edges else "what is not known"
             yield f"calls {callee}, at {start:x}"
         for edge in edges:
             if edge.kind != "call" and edge.to in self.functions and edge.to != entry:
                 yield f"goes on to {self.name(edge.to)}, which does not return, at {start:x}"
-
-
-def _catching(elf: Elf) -> List[Tuple[int, int, int]]:
-    """The ranges of calls whose exceptions are caught in their function, rising, each with where."""
-    memory = Memory(elf.path)
-    try:
-        return sorted(pad for frame in frames(memory) for pad in landing_pads(memory, frame, catching=True))
-    except ReportError:
-        return []
 
 
 class Kept:
@@ -239,11 +217,11 @@ class Kept:
 
 def behind(staying: Staying, callee: Optional[int] = None) -> Iterator[int]:
     """The places at which control goes on though the report does not say so: after each call of a function that has no edge
-    `after`; or, without one, after WFI and SFENCE.VMA, and after calls that are caught."""
+    `after`; or, without one, after WFI and SFENCE.VMA."""
     for block in staying.report.blocks.values():
         if block.kind == "call" and not staying.returns(block.start):
             to = next(edge.to for edge in staying.report.edges_from[block.start])
-            if to == callee or callee is None and staying.pad_of(block.end) is not None:
+            if to == callee:
                 yield block.end
         elif block.kind == "stop" and callee is None and staying.code is not None:
             found = undecoded(staying.code, block)
@@ -256,16 +234,9 @@ def advice(staying: Staying, architecture: str) -> List[str]:
     architecture is given that names all that is decoded nowhere."""
     doubts = [doubt for _, doubt in staying.doubtful()]
     path = staying.elf.path if staying.elf else "ELF"
-    lists = [f" {callee:x}" for callee in sorted({doubt.function for doubt in doubts if OF_ITS_OWN in doubt.what})]
-    if any(map(_is_passed, doubts)):
-        lists.append("")
     found = []
-    if any("is caught" in doubt.what for doubt in doubts):
-        found.append(f"tools/add_entries {path} -o more.elf --landing-pads")
-    for number, function in enumerate(lists):
-        found.append(f"tools/query behind {path}{function} {'>>' if number else '>'} behind.list")
-    if lists:
-        found.append(f"tools/add_entries {path} -o more.elf --list behind.list")
+    if any(OF_ITS_OWN in doubt.what or _is_passed(doubt) for doubt in doubts):
+        found.append(f"tools/add_entries {path} -o more.elf --after")
     if any("of the extension" in doubt.what for doubt in doubts):
         found.append(f"tools/add_entries {path} -o more.elf --arch {architecture}")
     return found

@@ -7,16 +7,17 @@ tables that the file declares are read from its records.
 from __future__ import annotations
 
 import bisect
+import itertools
 from typing import Dict, Iterable, Iterator, List, NamedTuple, Optional, Set, Tuple
 
 from cfgtools.elf.declared_tables import Declared
 from cfgtools.elf.elf_file import Elf
+from cfgtools.elf.table_patterns import OfFile
 from cfgtools.explain.unsure import Unsure
 from cfgtools.explain.values import INSTRUCTION, Code, Place, Setter, Values
 from cfgtools.isa.instructions import Instruction, signed
 from cfgtools.reports.cfg_report import TABLE_KINDS, Block, Report
 
-MOST_ENTRIES = 1024
 # Instructions that scale an index by the size of an entry and add an address.
 SCALED_SUMS = {"sh1add": 2, "sh2add": 4, "sh3add": 8, "sh1add.uw": 2, "sh2add.uw": 4, "sh3add.uw": 8}
 SIZES = {"lb": 1, "lbu": 1, "lh": 2, "lhu": 2, "lw": 4, "lwu": 4, "ld": 8}
@@ -116,7 +117,7 @@ def _scaled(values: Values, register: int, place: Place, size: int) -> Optional[
 
 class Table(NamedTuple):
     """The jump table of a block: its address, the size of an entry in bytes, where each entry that is kept leads, and whether the
-    file declares it."""
+    file declares it or its address was set far before the jump."""
 
     block: Block
     jump: int
@@ -124,6 +125,7 @@ class Table(NamedTuple):
     size: int
     targets: Tuple[int, ...]
     is_declared: bool = False
+    is_hoisted: bool = False
 
     def places(self) -> Dict[int, List[int]]:
         """The numbers of the entries that lead to each address."""
@@ -145,71 +147,27 @@ def numbers(found: Iterable[int]) -> str:
 
 
 class Tables:
-    """The jump tables that the graph of a report goes through, by the starts of their blocks."""
+    """The jump tables that the graph of a report goes through, by the starts of their blocks: as the patterns find them, by which
+    `cfg` does."""
 
     def __init__(self, code: Code) -> None:
-        self.code, self.values = code, Values(code)
-        self._declared = Declared(code.elf)
-        uses: Dict[int, Use] = {}
-        declared: Dict[int, Table] = {}
+        self.code = code
+        patterns = OfFile(code.elf)
+        whole: Dict[int, Table] = {}
         for block in code.report.blocks.values():
-            table = self._of_record(block) if block.kind == "table-open" else None
-            use = self._use(block) if block.kind in TABLE_KINDS and table is None else None
-            if table is not None:
-                declared[block.start] = table
-            elif use is not None and use.address is not None:
-                uses[block.start] = use
-        bases = {use.address for use in uses.values() if use.address is not None}
-        self._bases = sorted(bases.union(table.address for table in declared.values()))
-        self.found = {start: self._table(code.report.blocks[start], use) for start, use in uses.items()}
-        self.found.update((start, self._cut(table)) for start, table in declared.items())
+            last = code.last(block) if block.kind in TABLE_KINDS else None
+            found = patterns.table_of(last.address, last.rs1) if last is not None else None
+            if last is not None and found is not None:
+                whole[block.start] = Table(block, last.address, found.base, found.width, found.targets, found.is_declared, found.is_hoisted)
+        self._bases = sorted({table.address for table in whole.values()})
+        self.found = {start: self._kept(table) for start, table in whole.items()}
 
-    def _of_record(self, block: Block) -> Optional[Table]:
-        """The table that the file declares of a block's jump, whole."""
-        last = self.code.last(block)
-        record = self._declared.records.get(last.address) if last is not None else None
-        targets = self._declared.targets(record) if record is not None else ()
-        return Table(block, record.jump, record.base, record.size, targets, True) if record is not None and targets else None
-
-    def _cut(self, table: Table) -> Table:
-        """A declared table up to the next table inside it."""
+    def _kept(self, table: Table) -> Table:
+        """The entries from the first on, as long as the graph has an edge to where they lead, up to the next table."""
+        edges = {edge.to for edge in self.code.report.edges_from.get(table.block.start, ())}
         after = self._bases[bisect.bisect_right(self._bases, table.address):][:1]
         most = max((after[0] - table.address) // table.size, 1) if after else len(table.targets)
-        return table._replace(targets=table.targets[:most])
-
-    def _use(self, block: Block) -> Optional[Use]:
-        last = self.code.last(block)
-        if last is None:
-            return None
-        return use_of_table(self.values, last.rs1, Place(block.start, len(self.code.of(block)) - 1))
-
-    def _table(self, block: Block, use: Use) -> Table:
-        """The entries from the first on, as long as the graph has an edge to where they lead, up to the next table."""
-        assert use.address is not None
-        edges = {edge.to for edge in self.code.report.edges_from.get(block.start, ())}
-        after = self._bases[bisect.bisect_right(self._bases, use.address):][:1]
-        most = MOST_ENTRIES if not after else max((after[0] - use.address) // use.size, 1)
-        bound = self._bound(block) if block.kind == "table" else None
-        targets: List[int] = []
-        while len(targets) < (most if bound is None else bound):
-            target = use.target(self.code.elf, len(targets))
-            if target is None or target not in edges:
-                break
-            targets.append(target)
-        last = self.code.last(block)
-        return Table(block, last.address if last else block.start, use.address, use.size, tuple(targets))
-
-    def _bound(self, block: Block) -> Optional[int]:
-        """How many entries the bound test before a block allows."""
-        for before in self.values.before(block.start, "fall"):
-            instructions = self.code.of(self.code.report.blocks[before])
-            if len(instructions) < 2 or instructions[-1].name not in ("bltu", "bgeu"):
-                continue
-            test, limit = instructions[-1], instructions[-2]
-            register = test.rs1 if test.name == "bltu" else test.rs2
-            if limit.name == "addi" and limit.rs1 == 0 and limit.rd == register:
-                return limit.immediate + (1 if test.name == "bltu" else 0)
-        return None
+        return table._replace(targets=tuple(itertools.takewhile(edges.__contains__, table.targets[:most])))
 
 
 def described_tables(elf: Elf, report: Report) -> Iterator[str]:
@@ -225,8 +183,8 @@ def described_tables(elf: Elf, report: Report) -> Iterator[str]:
         if table is None:
             yield f"table of the jump at {jump:x} in {elf.place(jump)}: {block.kind}, not worked out"
             continue
-        kind = f"{block.kind}, declared" if table.is_declared else block.kind
-        what = f"{kind}, {len(table.targets)} entries of {table.size} bytes"
+        how = ", declared" if table.is_declared else ", its address set before the run to the jump" if table.is_hoisted else ""
+        what = f"{block.kind}{how}, {len(table.targets)} entries of {table.size} bytes"
         yield f"table {table.address:x} of the jump at {jump:x} in {elf.place(jump)}: {what}"
         outside = {edge.to for edge in report.edges_from.get(block.start, []) if unsure.is_unsure(edge)}
         for target, places in sorted(table.places().items(), key=lambda item: item[1]):

@@ -1,7 +1,7 @@
 """Which edges are not sure: those of tables without a bound test that lead outside the function symbol that holds the jump.
 
 Without the ELF file a symbol is taken to go up to the next function that has a name, or up to the next one where none
-has.
+has. Names that `tools/add_entries` gives to what may lie inside a function do not count.
 """
 
 from __future__ import annotations
@@ -11,6 +11,7 @@ from typing import Dict, Iterable, List, Optional
 
 from cfgtools.elf.elf_file import Elf
 from cfgtools.reports.cfg_report import Block, Edge, Function, Item
+from cfgtools.reports.guesses import ends_nothing
 
 
 class Unsure:
@@ -25,7 +26,7 @@ class Unsure:
     def see(self, item: Item) -> None:
         if isinstance(item, Function):
             self._entries.append(item.entry)
-            if item.name is not None:
+            if item.name is not None and not ends_nothing(item.name, item.entry):
                 self._named.append(item.entry)
         elif isinstance(item, Block) and item.kind == "table-open":
             self._jumps[item.start] = item.end - 2

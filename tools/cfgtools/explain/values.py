@@ -8,7 +8,7 @@ from cfgtools.elf.elf_file import Elf
 from cfgtools.explain.unsure import Unsure
 from cfgtools.isa.extensions import decode
 from cfgtools.isa.instructions import ARGUMENTS, KEPT_BY_CALLS, Instruction, signed
-from cfgtools.reports.cfg_report import Block, Edge, Report
+from cfgtools.reports.cfg_report import GUESS, Block, Edge, Report
 
 # How many blocks are looked at for one register, how many copies are followed, and how many may set one constant.
 MOST_BLOCKS, FARTHEST, MOST_SETTERS = 3000, 24, 8
@@ -89,7 +89,7 @@ class Values:
         unsure = Unsure(self.code.elf).see_all(self.report.items())
         onward: Dict[int, List[Edge]] = {}
         for edge in self.report.edges:
-            if edge.kind != "call" and not unsure.is_unsure(edge):
+            if edge.kind not in (CALL, GUESS) and not unsure.is_unsure(edge):
                 onward.setdefault(edge.source, []).append(edge)
         sure, left = set(self.entries), list(self.entries)
         while left:
@@ -138,7 +138,7 @@ class Values:
             if not is_kept:
                 return Setter(CALL, Place(at.block, at.number), last)
         for number in range(at.number - 1, -1, -1):
-            if instructions[number].written == register:
+            if register in (instructions[number].written, *instructions[number].others):
                 return Setter(INSTRUCTION, Place(at.block, number), instructions[number])
         return None
 

@@ -8,14 +8,14 @@ from typing import NamedTuple, Optional, Tuple
 
 from cfgtools.isa import extensions
 from cfgtools.isa.extensions import NONE, Names
-from cfgtools.isa.instructions import KEPT_BY_CALLS, STUB_BASE, STUB_LINK, Row, decoded, immediate, only_row
+from cfgtools.isa.instructions import AWAY, KEPT_BY_CALLS, STUB_BASE, STUB_LINK, Row, decoded, immediate, only_row
 
 UNKNOWN = "?"
 CALLER_SAVED = frozenset(range(1, 32)) - KEPT_BY_CALLS
 LOAD_SIZES = {"lb": 1, "lh": 2, "lw": 4, "ld": 8, "lbu": 1, "lhu": 2, "lwu": 4}
 STORES = ("sb", "sh", "sw", "sd")
 # What control does not go on behind.
-ENDS = (UNKNOWN, "ebreak", "mret", "sret")
+ENDS = (UNKNOWN, "ebreak", "mret", "sret", "cm.popret", "cm.popretz", "cm.jt")
 # The instructions whose result is followed, beside loads, stores, branches and jumps. Of each other one it is said only
 # whether it writes an integer register.
 FOLLOWED = frozenset((
@@ -46,7 +46,7 @@ class Insn(NamedTuple):
     @property
     def is_call(self) -> bool:
         """Whether it is a call, as far as it alone says."""
-        return self.name in ("jal", "jalr") and self.rd != 0 and not self.is_stub
+        return self.name == "cm.jalt" or self.name in ("jal", "jalr") and self.rd != 0 and not self.is_stub
 
 
 @functools.lru_cache(maxsize=1 << 20)
@@ -54,7 +54,7 @@ def decode(word: int, names: Names = NONE) -> Insn:
     """The instruction that a word of four bytes stands for, or one of two bytes, which is below 65536. The names are those of
     the extensions that the file names; some are recognised without."""
     row = only_row(word & 0x707F)
-    if row is not None:
+    if row is not None and not extensions.takes_away(word, names):
         return _of_row(4, word, row)
     found = extensions.decoded(word, names) if names else decoded(word)
     if found is not None:
@@ -64,6 +64,8 @@ def decode(word: int, names: Names = NONE) -> Insn:
 
 
 def _of_row(length: int, word: int, row: Row) -> Insn:
+    if row.name in AWAY:
+        return Insn(row.name, length)
     writes, first, second, number = _fields(row.operands)
     rd = word >> 7 & 31 if writes else 0
     if row.name not in FOLLOWED:
@@ -85,6 +87,8 @@ _PLAIN = frozenset((0x03, 0x13, 0x1B, 0x67))
 @functools.lru_cache(maxsize=None)
 def _fields(operands: str) -> Tuple[bool, bool, bool, bool]:
     """Whether an instruction writes an integer register, reads a first and a second one, and has a number."""
+    if operands.startswith("="):
+        return False, False, False, False
     return "d" in operands, "s" in operands, "t" in operands, bool(set("iuhb") & set(operands))
 
 

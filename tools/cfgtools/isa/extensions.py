@@ -27,7 +27,14 @@ zbb: sext.b 13 1 30 4 d,s|sext.h 13 1 30 5 d,s|min 33 4 5 - d,s,t|minu 33 5 5 - 
 zbb: orc.b 13 5 14 7 d,s
 zbs: bclr 33 1 24 - d,s,t|bext 33 5 24 - d,s,t|binv 33 1 34 - d,s,t|bset 33 1 14 - d,s,t
 zbs: bclri 13 1 24/2 - d,s,h|bexti 13 5 24/2 - d,s,h|binvi 13 1 34/2 - d,s,h|bseti 13 1 14/2 - d,s,h
-zbc: clmul 33 1 5 - d,s,t|clmulr 33 2 5 - d,s,t|clmulh 33 3 5 - d,s,t
+zbc zbkc: clmul 33 1 5 - d,s,t|clmulh 33 3 5 - d,s,t
+zbc: clmulr 33 2 5 - d,s,t
+zknd: aes64ds 33 0 1d - d,s,t|aes64dsm 33 0 1f - d,s,t|aes64im 13 1 18 0 d,s
+zknd zkne: aes64ks2 33 0 3f - d,s,t
+zkne: aes64es 33 0 19 - d,s,t|aes64esm 33 0 1b - d,s,t
+zknh: sha256sum0 13 1 8 0 d,s|sha256sum1 13 1 8 1 d,s|sha256sig0 13 1 8 2 d,s|sha256sig1 13 1 8 3 d,s
+zknh: sha512sum0 13 1 8 4 d,s|sha512sum1 13 1 8 5 d,s|sha512sig0 13 1 8 6 d,s|sha512sig1 13 1 8 7 d,s
+zksh: sm3p0 13 1 8 8 d,s|sm3p1 13 1 8 9 d,s
 zbkb: pack 33 4 4 - d,s,t|packh 33 7 4 - d,s,t|packw 3b 4 4 - d,s,t|brev8 13 5 34 7 d,s
 zbkx: xperm4 33 2 14 - d,s,t|xperm8 33 4 14 - d,s,t
 zicond: czero.eqz 33 5 7 - d,s,t|czero.nez 33 7 7 - d,s,t
@@ -93,7 +100,15 @@ def _rows() -> Iterator[Extended]:
         yield Extended(row(name, 0x53, funct3, funct7, rs2, operands), _needs("zfh"))
     for name, opcode in (("fmadd.h", 0x43), ("fmsub.h", 0x47), ("fnmsub.h", 0x4B), ("fnmadd.h", 0x4F)):
         yield Extended(Row(name, 0x0600007F, opcode | 2 << 25, "D,S,T,R"), _needs("zfh"))
+    for number in range(11):
+        yield Extended(row("aes64ks1i", 0x13, "1", "18", f"{16 + number:x}", "d,s"), _needs("zknd zkne"))
+    for number in range(4):
+        yield Extended(row("sm4ed", 0x33, "0", f"{number << 5 | 0x18:x}", "-", "d,s,t"), _needs("zksed"))
+        yield Extended(row("sm4ks", 0x33, "0", f"{number << 5 | 0x1A:x}", "-", "d,s,t"), _needs("zksed"))
     yield from _atomic()
+    for name, width, number in (("addsl", 1, 0), ("lrw", 4, 8), ("lurw", 4, 10), ("lrd", 4, 12), ("lurd", 4, 14)):
+        yield Extended(Row(f"th.{name}", 0xF800707F, number << 27 | width << 12 | 0x0B, "v,s,t"), _needs("xthead"))
+    yield Extended(Row("vendor", 0x7F, 0x0B, "v,s,t"), _needs("xthead"))
     yield from (Extended(found, _needs("v")) for found in _vector())
     yield Extended(Row("mop.r", 0xB3C0707F, 0x81C04073, "d,s"), _needs("zimop"))
     yield Extended(Row("mop.rr", 0xB200707F, 0x82004073, "d,s,t"), _needs("zimop"))
@@ -108,6 +123,8 @@ def _atomic() -> Iterator[Extended]:
                 continue
             needs = "zabha" if name != "amocas" else "zabha+zacas" if width in "bh" else "zacas"
             yield Extended(Row(f"{name}.{width}", 0xF800707F, number << 27 | place << 12 | 0x2F, "d,t,(s)"), _needs(needs))
+    for place, width in ((2, "w"), (3, "d")):
+        yield Extended(Row(f"ssamoswap.{width}", 0xF800707F, 9 << 27 | place << 12 | 0x2F, "d,t,(s)"), _needs("zicfiss"))
 
 
 def _vector() -> Iterator[Row]:
@@ -140,6 +157,42 @@ def _is_reserved(word: int, found: Row) -> bool:
         # It reads and writes pairs of registers, which begin at an even one.
         return True
     return instructions.is_rounded(word) and not found.mask >> 12 & 7 and word >> 12 & 7 in instructions.NO_ROUNDING
+
+
+# ---- floats in integer registers
+
+
+def _integers() -> Iterator[Extended]:
+    """The rows of floats in integer registers: those of F, D and Zfh with the operands of integers."""
+    halves = [one for one in _rows() if one.needs in (_needs("zfh"), _needs("zfh zfhmin"))]
+    for found in instructions.float_rows():
+        if found.match & 0x7F not in (0x07, 0x27) and not found.name.startswith("fmv."):
+            yield Extended(found._replace(operands=found.operands.lower()), _needs("zfinx"))
+    for one in halves:
+        needs = "zfinx+zhinx" if one.needs == _needs("zfh") else "zfinx+zhinx zfinx+zhinxmin"
+        yield Extended(one.row._replace(operands=one.row.operands.lower()), _needs(needs))
+    yield Extended(Row("vector.arithmetic", 0x707F, 0x5057, "s"), _needs("zfinx+v"))
+    yield Extended(Row("vfmv.f.s", 0xFC0FF07F, 0x40001057, "d"), _needs("zfinx+v"))
+
+
+_INTEGERS: Dict[int, List[Extended]] = {}
+for _extended in _integers():
+    _INTEGERS.setdefault(_extended.row.match & 0x7F, []).append(_extended)
+
+
+def takes_away(raw: int, names: Names) -> bool:
+    """Whether what a file names takes an instruction of F or D away: its registers, or the encoding of a compressed one."""
+    if raw & 3 != 3:
+        return raw & 1 == 0 and raw >> 13 & 3 == 1 and not names.isdisjoint(("zfinx", "zcmp", "zcmt"))
+    return "zfinx" in names and (instructions.is_rounded(raw) or raw & 0x7F in (0x07, 0x27) and raw >> 12 & 7 in (2, 3))
+
+
+def _integer_row(word: int, names: Names) -> Optional[Row]:
+    """The row of floats in integer registers that a word fits."""
+    for one in _INTEGERS.get(word & 0x7F, ()) if "zfinx" in names else ():
+        if one.is_named(names) and word & one.row.mask == one.row.match and not _is_reserved(word, one.row):
+            return one.row
+    return None
 
 
 # ---- compressed forms
@@ -192,17 +245,56 @@ def _register(half: int, low: int, high: int) -> Optional[Short]:
     return Short(forms[number][0] | same, _needs(forms[number][1])) if number in forms else None
 
 
+# Bits 12 to 8 of the instructions of Zcmp that have a list of registers.
+_WITH_LIST = {0b11000: "cm.push", 0b11010: "cm.pop", 0b11100: "cm.popretz", 0b11110: "cm.popret"}
+
+
+def _listed(number: int) -> Tuple[int, ...]:
+    """The registers of a list of Zcmp: ra, and so many saved ones; s10 never stands alone."""
+    saved = (8, 9, *range(18, 28))
+    return (1, *saved[:12 if number == 15 else number - 4])
+
+
+def _lists(name: str, reads: Tuple[int, ...], writes: Tuple[int, ...]) -> Row:
+    return Row(name, 0, 0, "=" + ",".join(map(str, reads)) + ">" + ",".join(map(str, writes)))
+
+
+def stack(half: int) -> Optional[Extended]:
+    """The instruction of Zcmp or Zcmt in the place of C.FSDSP."""
+    if half & 3 != 2 or half >> 13 != 5:
+        return None
+    name, number = _WITH_LIST.get(half >> 8 & 31), half >> 4 & 15
+    if name is not None and number >= 4:
+        listed = _listed(number)
+        if name == "cm.push":
+            return Extended(_lists(name, (2, *listed), (2,)), _needs("zcmp"))
+        return Extended(_lists(name, (2,), (2, *((10,) if name == "cm.popretz" else ()), *listed)), _needs("zcmp"))
+    if half >> 10 & 7 == 3 and half >> 5 & 1:
+        first, second = ((8, 9, *range(18, 24))[half >> at & 7] for at in (7, 2))
+        if half >> 6 & 1:
+            return Extended(_lists("cm.mva01s", (first, second), (10, 11)), _needs("zcmp"))
+        return Extended(_lists("cm.mvsa01", (10, 11), (first, second)), _needs("zcmp")) if first != second else None
+    if half >> 10 & 7 == 0:
+        jumps = half >> 7 & 7 == 0
+        return Extended(_lists("cm.jt" if jumps else "cm.jalt", (), () if jumps else (1,)), _needs("zcmt"))
+    return None
+
+
 # ---- decoding
 
 
 def decoded(raw: int, names: Names) -> Optional[Tuple[int, int, Row]]:
     """The length, the word and the row of an instruction of RV64GC, or of the extensions of these names."""
-    found = instructions.decoded(raw)
+    found = None if names and takes_away(raw, names) else instructions.decoded(raw)
     if found is not None or not names:
         return found
     if raw & 3 == 3:
-        one = next((one for one in rows_of(raw) if one.is_named(names)), None)
-        return (4, raw, one.row) if one else None
+        integers = _integer_row(raw, names)
+        one = next((one for one in rows_of(raw) if one.is_named(names)), None) if integers is None else None
+        return (4, raw, integers) if integers else (4, raw, one.row) if one else None
+    placed = stack(raw & 0xFFFF)
+    if placed is not None and placed.is_named(names):
+        return 2, raw & 0xFFFF, placed.row
     stands_for = short(raw & 0xFFFF)
     if stands_for is None or not any(needed <= names for needed in stands_for.needs):
         return None
@@ -245,16 +337,16 @@ def told(raw: int) -> Optional[str]:
         return "of the extension " + Extended(Row("", 0, 0, ""), stands_for.needs).extension if stands_for else None
     if privileged(raw) is not None:
         return "of a privileged mode"
-    found = next(rows_of(raw), None)
-    if found is not None:
-        return f"of the extension {found.extension}"
     custom = _CUSTOM.get(raw & 0x7F)
-    return f"of an extension of a vendor ({custom})" if custom else None
+    if custom is not None:
+        return f"of an extension of a vendor ({custom})"
+    found = next(rows_of(raw), None)
+    return f"of the extension {found.extension}" if found else None
 
 
 def shown(raw: int) -> str:
     """An instruction that is not decoded, as digits, with its name where the tables here tell it."""
-    found = next(rows_of(raw), None) if raw & 3 == 3 else None
+    found = next(rows_of(raw), None) if raw & 3 == 3 and raw & 0x7F not in _CUSTOM else None
     name = privileged(raw) or (found.row.name if found else None)
     digits = f"{raw:08x}" if raw & 3 == 3 else f"{raw:04x}"
     return f"{digits} {name}" if name else digits
@@ -265,5 +357,5 @@ def names_needed(raw: int) -> Optional[Names]:
     if raw & 3 != 3:
         stands_for = short(raw & 0xFFFF)
         return stands_for.needs[0] if stands_for else None
-    found = next(rows_of(raw), None) if privileged(raw) is None else None
+    found = next(rows_of(raw), None) if privileged(raw) is None and raw & 0x7F not in _CUSTOM else None
     return found.needs[0] if found else None

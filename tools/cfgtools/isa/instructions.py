@@ -17,6 +17,8 @@ UNIMP = 0xC0001073
 # The registers of `jalr t1, t3`, with which an entry of a procedure linkage table ends (RISC-V psABI). By this project's
 # profile such a JALR is a jump, though it writes a register: t1 is no link register, and nothing comes back to it.
 STUB_LINK, STUB_BASE = 6, 28
+# The instructions of Zcmp and Zcmt that leave: two return, one jumps to an unknown target, and one calls such a one.
+AWAY = ("cm.popret", "cm.popretz", "cm.jt", "cm.jalt")
 # What a call leaves as it was: sp, gp, tp and the registers s0 to s11.
 KEPT_BY_CALLS = frozenset((2, 3, 4, 8, 9, *range(18, 28)))
 
@@ -62,6 +64,15 @@ class Row(NamedTuple):
     match: int
     operands: str
 
+    @property
+    def lists(self) -> Optional[Tuple[Tuple[int, ...], Tuple[int, ...]]]:
+        """The registers that it reads and those that it writes, where its operands list them, as `=2,8>2`."""
+        if not self.operands.startswith("="):
+            return None
+        reads, _, writes = self.operands[1:].partition(">")
+        numbers = tuple(tuple(int(one) for one in text.split(",") if one) for text in (reads, writes))
+        return numbers[0], numbers[1]
+
 
 def row(name: str, opcode: int, funct3: str, funct7: str, rs2: str, operands: str) -> Row:
     """A row by the numbers in its fields."""
@@ -96,6 +107,12 @@ def _table() -> Dict[int, List[Row]]:
     for one in rows:
         table.setdefault(one.match & 0x7F, []).append(one)
     return table
+
+
+def float_rows() -> List[Row]:
+    """The rows of F and D."""
+    codes = (0x07, 0x27, 0x43, 0x47, 0x4B, 0x4F, 0x53)
+    return [one for code in codes for one in _table()[code]]
 
 
 def _by_funct3(table: Dict[int, List[Row]]) -> Dict[int, List[Row]]:
@@ -182,7 +199,10 @@ class Instruction(NamedTuple):
 
     @property
     def written(self) -> Optional[int]:
-        """The register for integers that it writes."""
+        """The register for integers that it writes, the first of several."""
+        lists = self.row.lists
+        if lists is not None:
+            return lists[1][0] if lists[1] else None
         return self.rd or None if self.row.operands.startswith("d") else None
 
     @property
@@ -190,16 +210,27 @@ class Instruction(NamedTuple):
         """The registers for integers that it reads. AMOCAS reads its destination too, and AMOCAS.Q two pairs, of which that of
         x0 is x0 alone."""
         operands = self.row.operands
+        if self.row.lists is not None:
+            return self.row.lists[0]
         named = ((self.rs1,) if "s" in operands else ()) + ((self.rs2,) if "t" in operands else ())
+        named += ((self.word >> 27 & 31,) if "r" in operands else ()) + ((self.rd,) if "v" in operands else ())
         if self.name == "amocas.q":
             pairs = ((first, first + 1) if first else (0,) for first in (self.rd, self.rs2))
             return (*(register for pair in pairs for register in pair), self.rs1)
         return (self.rd, *named) if self.name.startswith("amocas") else named
 
     @property
-    def pair(self) -> Optional[int]:
-        """The other register for integers that it writes: AMOCAS.Q writes a pair."""
-        return self.rd + 1 if self.name == "amocas.q" and self.rd else None
+    def others(self) -> Tuple[int, ...]:
+        """The other registers for integers that it writes: AMOCAS.Q writes a pair, and a pop several."""
+        if self.row.lists is not None:
+            return self.row.lists[1][1:]
+        return (self.rd + 1,) if self.name == "amocas.q" and self.rd else ()
+
+    @property
+    def unknown(self) -> Tuple[int, ...]:
+        """The registers of which nothing is known after it, though it is not known to write them: those of a vendor's word that
+        computes nothing that is followed."""
+        return (self.rd, self.rs1, self.rs2) if self.name == "vendor" else ()
 
     @property
     def is_load(self) -> bool:
@@ -222,7 +253,7 @@ class Instruction(NamedTuple):
     @property
     def is_straight(self) -> bool:
         """Whether control goes straight on behind it: it is no branch or jump, and neither EBREAK nor `unimp`."""
-        return not self.is_turn and self.name != "ebreak" and self.word != UNIMP
+        return not self.is_turn and self.name not in ("ebreak", *AWAY) and self.word != UNIMP
 
     @property
     def text(self) -> str:
@@ -237,9 +268,11 @@ def _order(one: Instruction) -> str:
 def _operands(one: Instruction) -> str:
     letters = {
         "d": NAMES[one.rd], "s": NAMES[one.rs1], "t": NAMES[one.rs2], "D": FLOATS[one.rd], "S": FLOATS[one.rs1],
-        "T": FLOATS[one.rs2], "R": FLOATS[one.word >> 27], "u": f"{one.word >> 12:#x}", "c": f"{one.word >> 20:#x}",
+        "T": FLOATS[one.rs2], "R": FLOATS[one.word >> 27 & 31], "r": NAMES[one.word >> 27 & 31], "v": "", "u": f"{one.word >> 12:#x}", "c": f"{one.word >> 20:#x}",
         "z": str(one.rs1), "h": f"{one.immediate:#x}", "i": str(one.immediate), "b": f"{one.target:x}",
     }
+    if one.row.lists is not None:
+        return ""
     return "".join(letters.get(letter, letter) for letter in one.row.operands)
 
 

@@ -4,7 +4,7 @@ from __future__ import annotations
 
 from typing import Dict, FrozenSet, Iterable, Iterator, List, NamedTuple, Optional, Set
 
-from cfgtools.reports.cfg_report import Function, Report
+from cfgtools.reports.cfg_report import GUESS, Function, Report
 
 
 class Loop(NamedTuple):
@@ -25,7 +25,7 @@ class Body:
         self.onward: Dict[int, List[int]] = {}
         self.back: Dict[int, List[int]] = {start: [] for start in function.blocks}
         for start in function.blocks:
-            ways = {edge.to for edge in report.edges_from.get(start, []) if edge.kind != "call" and edge.to in inside}
+            ways = {edge.to for edge in report.edges_from.get(start, []) if edge.kind not in ("call", GUESS) and edge.to in inside}
             self.onward[start] = sorted(ways)
             for to in self.onward[start]:
                 self.back[to].append(start)

@@ -11,18 +11,18 @@ what scripts begin with. `tools/check_report` is the script that checks a report
 from __future__ import annotations
 
 import contextlib
-import io
-import itertools
 import os
 import re
+import shutil
 import subprocess
 import sys
 from typing import BinaryIO, Callable, Dict, Iterable, Iterator, List, NamedTuple, NoReturn, Optional, Set, Tuple, Union
 
-from cfgtools.reports import names
+from cfgtools.reports import names, progress
 
 TOP = os.path.abspath(os.path.join(os.path.dirname(__file__), "..", "..", ".."))
-FIRST_LINE = b"cfg-report 2\n"
+# A text that has an edge of the kind `landing` is of version 3, and any other of version 2.
+FIRST_LINE, WITH_LANDINGS = b"cfg-report 2\n", b"cfg-report 3\n"
 
 BLOCK_KINDS = (
     "fall", "branch", "branch-out", "jump", "call", "icall", "return", "table", "table-cut", "table-open", "unknown",
@@ -31,7 +31,9 @@ BLOCK_KINDS = (
 # Those that end with a jump through a jump table.
 TABLE_KINDS = ("table", "table-cut", "table-open")
 # In the order in which a report has the edges of one block to one other.
-EDGE_KINDS = ("fall", "taken", "jump", "tail", "call", "after", "table")
+EDGE_KINDS = ("fall", "taken", "jump", "tail", "call", "after", "table", "landing")
+# A kind that files of edges have, and no report: a call or jump through a register that may lead there. It leads to functions.
+GUESS = "guess"
 REPORT_KINDS = ("graph", "functions", "blocks", "edges", "live")
 
 # Whether a block that ends in this way may have edges of just these kinds.
@@ -40,8 +42,8 @@ EDGES_OF: Dict[str, Callable[[List[str]], bool]] = {
     "branch": lambda kinds: sorted(kinds) == ["fall", "taken"],
     "branch-out": lambda kinds: kinds in ([], ["fall"], ["taken"]),
     "jump": lambda kinds: kinds in (["jump"], ["tail"]),
-    "call": lambda kinds: sorted(kinds) in (["call"], ["after", "call"]),
-    "icall": lambda kinds: kinds in ([], ["after"]),
+    "call": lambda kinds: "call" in kinds and sorted(kinds) == sorted({*kinds} & {"call", "after", "landing"}),
+    "icall": lambda kinds: sorted(kinds) == sorted({*kinds} & {"after", "landing"}),
     "return": lambda kinds: not kinds,
     **{kind: lambda kinds: set(kinds) == {"table"} for kind in TABLE_KINDS},
     "unknown": lambda kinds: not kinds,
@@ -234,6 +236,8 @@ class Reader:
     def __init__(self, stream: BinaryIO) -> None:
         self._stream = stream
         self.line = 0
+        # Whether edges may be of the kind `landing`, and whether one is still to come.
+        self._may_land = self._is_landing_due = False
 
     def items(self) -> Iterator[Item]:
         """All that the report has, in its order."""
@@ -262,6 +266,8 @@ class Reader:
             line = self._next()
         if line != b"end\n":
             self.fail(_wrong_line("end", line))
+        if self._is_landing_due:
+            self.fail("the first line says version 3, and no edge is of the kind `landing`")
         if self._next():
             self.fail("the report has ended, and here is another line")
         yield End(kind)
@@ -276,11 +282,12 @@ class Reader:
     def _heading(self) -> Heading:
         self.line = 1
         first = self._stream.readline(len(FIRST_LINE))
-        if first != FIRST_LINE:
+        self._is_landing_due = self._may_land = first == WITH_LANDINGS
+        if first not in (FIRST_LINE, WITH_LANDINGS):
             if not first:
                 self.fail("the report is empty")
             if first.startswith(b"cfg-report "):
-                self.fail("a report of another version than 2")
+                self.fail("a report of another version than 2 and 3")
             self.fail("this is no report of cfg, which begins with a line `cfg-report 2`")
         line = self._next()
         found = _ENTRY(line)
@@ -293,7 +300,7 @@ class Reader:
     def _wrong_item(self, form: str, line: bytes, place: int, count: int) -> NoReturn:
         """Fails at a line that is not the item that a count has announced."""
         if line.split(b" ")[0].rstrip(b"\n").decode("latin-1") in set(_FORMS) - {form}:
-            self.fail(f"{count} lines `{_FORMS[form]}` were announced, and here, behind {place}, is `{_shown(line)}`")
+            self.fail(f"{count} lines `{_FORMS[form]}` were announced, and here, after {place}, is `{_shown(line)}`")
         self.fail(_wrong_line(form, line))
 
     def _functions(self, count: int, entry: int, completed: Callable[[Function, int], Iterator[Item]]) -> Iterator[Item]:
@@ -304,7 +311,7 @@ class Reader:
             found = _FUNCTION(line) or self._wrong_item("function", line, place, count)
             at = int(found[1], 16)
             if at <= before:
-                self.fail(f"the function at {at:x} stands behind the one at {before:x}: entries rise, each there once")
+                self.fail(f"the function at {at:x} stands after the one at {before:x}: entries rise, each there once")
             try:
                 name = read_name(found[4])
             except ValueError as error:
@@ -330,7 +337,7 @@ class Reader:
             found = is_line(line) or self._wrong_item(form, line, place, count)
             start = int(found[1], 16)
             if start <= before:
-                self.fail(f"the block at {start:x} stands behind the one at {before:x}: blocks rise, each there once")
+                self.fail(f"the block at {start:x} stands after the one at {before:x}: blocks rise, each there once")
             if form == "live" and int(found[2], 16) & 1:
                 self.fail(f"the mask {found[2].decode()} has bit 0, and x0 is never live")
             before, entry_seen = start, entry_seen or start == entry
@@ -345,9 +352,9 @@ class Reader:
             found = _BLOCK(line) or self._wrong_item("block", line, place, count)
             start, end = int(found[1], 16), int(found[2], 16)
             if start <= before:
-                self.fail(f"the block at {start:x} stands behind the one at {before:x}: starts rise, each there once")
+                self.fail(f"the block at {start:x} stands after the one at {before:x}: starts rise, each there once")
             if end <= start:
-                self.fail(f"the block at {start:x} ends at {end:x}, in front of itself")
+                self.fail(f"the block at {start:x} ends at {end:x}, before its start")
             before, entry_seen = start, entry_seen or start == entry
             yield Block(start, end, _KIND[found[3]])
         if not entry_seen:
@@ -359,6 +366,10 @@ class Reader:
             line = self._next()
             found = _EDGE(line) or self._wrong_item("edge", line, place, count)
             edge = Edge(int(found[1], 16), int(found[2], 16), _KIND[found[3]])
+            if edge.kind == "landing":
+                self._is_landing_due = False
+                if not self._may_land:
+                    self.fail("an edge of the kind `landing`, and the first line says version 2, not 3")
             rank = (edge.source, edge.to, _RANK[edge.kind])
             if rank <= before:
                 self.fail(f"`{_shown(line)}` is out of order, or there twice: edges are in order of FROM, TO and KIND")
@@ -367,7 +378,7 @@ class Reader:
 
 
 _KIND = {kind.encode(): kind for kind in BLOCK_KINDS + EDGE_KINDS}
-_RANK = {kind: rank for rank, kind in enumerate(EDGE_KINDS)}
+_RANK = {kind: rank for rank, kind in enumerate((*EDGE_KINDS, GUESS))}
 
 
 def read(stream: BinaryIO) -> Iterator[Item]:
@@ -377,6 +388,8 @@ def read(stream: BinaryIO) -> Iterator[Item]:
 
 # ---- whole reports
 
+# How many functions of one name are named.
+MOST_NAMED = 5
 # What gives the addresses of a name, if there is something: a report keeps one name of each function, and a file may have more.
 Names = Optional[Callable[[str], Set[int]]]
 
@@ -442,18 +455,22 @@ class Report:
 
 
 def find_function(functions: List[Function], wanted: str, named: Names = None) -> Function:
-    """The one function of this name, or with this further name, or at this address."""
+    """The one function of this name, or with this further name, or at this address; or else of this name without its arguments."""
     found = [function for function in functions if _is_named(function, wanted)]
     if not found and named is not None:
         places = named(wanted)
         found = [function for function in functions if function.entry in places]
     if not found and re.fullmatch(r"(0x)?[0-9a-fA-F]{1,16}", wanted):
         found = [f for f in functions if f.entry == int(wanted, 16)]
-    if len(found) > 1:
-        entries = " or ".join(f"{function.entry:x}" for function in found)
-        raise ReportError(f"{len(found)} functions are named {wanted}: give the address, {entries}")
     if not found:
-        more = "" if named is not None else "; a report has one name of each, and --elf gives the others"
+        found = [function for function in functions if function.name is not None and names.is_asked(name_field(function.name), wanted)]
+    if len(found) > 1:
+        some = ", ".join(f"{names.demangled(name_field(function.name))} at {function.entry:x}" for function in found[:MOST_NAMED])
+        raise ReportError(f"{len(found)} functions are named {wanted}: give the address: {some}{', ..' if len(found) > MOST_NAMED else ''}")
+    if not found:
+        near = names.like(wanted, [name_field(function.name) for function in functions if function.name is not None])
+        more = f"; did you mean {', '.join(near[:-1])}{' or ' if near[1:] else ''}{near[-1]}?" if near else ""
+        more += "" if named is not None else "; a report has one name of each, and --elf gives the others"
         raise ReportError(f"no function has the name or the address {wanted}{more}")
     return found[0]
 
@@ -476,7 +493,8 @@ def write(report: Report, file: BinaryIO) -> None:
 
 def lines(report: Report) -> Iterator[str]:
     """The lines of a report."""
-    yield from (FIRST_LINE.decode().rstrip(), f"entry {address(report.entry)}")
+    first = WITH_LANDINGS if any(edge.kind == "landing" for edge in report.edges) else FIRST_LINE
+    yield from (first.decode().rstrip(), f"entry {address(report.entry)}")
     if report.kind in ("graph", "functions", "live"):
         yield f"{'lives' if report.kind == 'live' else 'functions'} {len(report.functions)}"
         for function in report.functions:
@@ -562,137 +580,6 @@ def _wrong_statuses(report: Report) -> Iterator[str]:
             yield f"the function at {function.entry:x} is said to be {status}, and is not"
 
 
-# ---- reports of a file that grows
-
-
-class Changes(NamedTuple):
-    """What a report has that the one before has not: blocks, rising, which may stand in earlier ones, and edges; and the edges
-    that it has no more."""
-
-    blocks: List[Block]
-    edges: List[Edge]
-    gone: List[Edge]
-
-
-class Growing:
-    """Reports that `cfg` prints, one after the other, of a file to which entries are added. Most lines of each stand in the one
-    before: only the others are read. They are not checked, and functions have no bodies. `changes` are those of the last one,
-    if they are known."""
-
-    # How much of a line says where it stands: the start of a block, and that of the block from which an edge leads.
-    _BLOCK_PLACE, _EDGE_PLACE = len("\nblock ") + 16, len("\nedge ") + 16
-
-    def __init__(self) -> None:
-        # The lines of the last report, each after the end of the one before, and what they say.
-        self._texts = b"", b""
-        self._blocks: Dict[int, Block] = {}
-        self._edges_from: Dict[int, List[Edge]] = {}
-        self.changes: Optional[Changes] = None
-
-    def read(self, stream: BinaryIO) -> Report:
-        """The next report, of kind graph. What it shares with the one before may change when the next one is read."""
-        text = stream.read()
-        places = text.find(b"\nblocks "), text.find(b"\nedges ")
-        if not text.startswith(FIRST_LINE) or not text.endswith(b"\nend\n") or not 0 < places[0] < places[1]:
-            # What is wrong with it is said as of any report.
-            self.changes = None
-            return load(io.BytesIO(text)).want("graph")
-        report = Report([Heading(int(text[len(FIRST_LINE) + 6:len(FIRST_LINE) + 22], 16)), End("graph")])
-        functions = text[:places[0]].split(b"\nfunction ")[1:]
-        report.functions = [Function(int(lines[:16], 16), lines.startswith(b"may", 17), None, ()) for lines in functions]
-        self._take(text[text.index(b"\n", places[0] + 1):places[1]], text[text.index(b"\n", places[1] + 1):-len("\nend\n")])
-        report.blocks, report.edges_from = self._blocks, self._edges_from
-        report.edges = list(itertools.chain.from_iterable(filter(None, map(self._edges_from.get, self._blocks))))
-        return report
-
-    def _take(self, blocks: bytes, edges: bytes) -> None:
-        """Reads the lines that the report before has not, and tells its other ones from those of this one."""
-        more_blocks, gone_blocks = differences(self._texts[0], blocks, self._BLOCK_PLACE)
-        more_edges, gone_edges = differences(self._texts[1], edges, self._EDGE_PLACE)
-        self._texts = blocks, edges
-        found = [Block(int(line[6:22], 16), int(line[23:39], 16), _KIND[line[40:]]) for line in more_blocks]
-        if more_blocks or gone_blocks:
-            held = self._blocks.copy()
-            for line in gone_blocks:
-                del held[int(line[6:22], 16)]
-            held.update((block.start, block) for block in found)
-            self._blocks = dict(sorted(held.items()))
-        self.changes = Changes(found, _edges(more_edges), _edges(gone_edges))
-        self._take_edges(self.changes)
-
-    def _take_edges(self, changes: Changes) -> None:
-        held = self._edges_from
-        for edge in changes.gone:
-            held[edge.source].remove(edge)
-        more: Dict[int, List[Edge]] = {}
-        for edge in changes.edges:
-            more.setdefault(edge.source, []).append(edge)
-        for source in more.keys() & held.keys():
-            held[source] = sorted(held[source] + more.pop(source), key=lambda edge: (edge.to, _RANK[edge.kind]))
-        held.update(more)
-
-
-def _edges(lines: List[bytes]) -> List[Edge]:
-    return [Edge._make((int(line[5:21], 16), int(line[22:38], 16), _KIND[line[39:]])) for line in lines]
-
-
-def differences(before: bytes, after: bytes, width: int) -> Tuple[List[bytes], List[bytes]]:
-    """The lines that only the second of two texts has, and those that only the first one has. Each line stands after a line feed,
-    and most are in both. The places of lines rise: their first `width` bytes, with the line feed. Several may have one place."""
-    more: List[bytes] = []
-    gone: List[bytes] = []
-    at, to = 0, 0
-    while True:
-        same = _common(before, at, after, to)
-        at, to = at + same, to + same
-        if at == len(before) or to == len(after):
-            break
-        place = _place_of(before[at:at + width], after, to)
-        if place > to:
-            more += after[to + 1:place].split(b"\n")
-            to = place
-            continue
-        end = before.find(b"\n", at + 1)
-        gone.append(before[at + 1:] if end < 0 else before[at + 1:end])
-        at = len(before) if end < 0 else end
-        if place == to:
-            end = after.find(b"\n", to + 1)
-            more.append(after[to + 1:] if end < 0 else after[to + 1:end])
-            to = len(after) if end < 0 else end
-    more += after[to + 1:].split(b"\n") if to < len(after) else []
-    gone += before[at + 1:].split(b"\n") if at < len(before) else []
-    both = set(gone).intersection(more) if gone else ()
-    return ([line for line in more if line not in both], [line for line in gone if line not in both]) if both else (more, gone)
-
-
-def _place_of(line: bytes, text: bytes, at: int) -> int:
-    """Where a line that begins so stands in a text, from the line at `at` on; or where a line before its place ends; or -1."""
-    near = text[at:at + (1 << 14)]
-    place = near.find(line)
-    if place >= 0:
-        return at + place
-    if near[:len(line)] > line:
-        return -1
-    last = max(near.rfind(b"\n", 0, -len(line)), 0)
-    if near[last:last + len(line)] > line:
-        last = max(near.find(b"\n", 1), 0)
-    return at + last if last else len(text)
-
-
-def _common(before: bytes, at: int, after: bytes, to: int) -> int:
-    """How many bytes two texts have in common from places on, as whole lines."""
-    first, step = at, 1 << 8
-    far = min(len(before) - at, len(after) - to)
-    while at - first + step <= far and before[at:at + step] == after[to:to + step]:
-        at, to, step = at + step, to + step, 2 * step
-    while step:
-        if at - first + step <= far and before[at:at + step] == after[to:to + step]:
-            at, to = at + step, to + step
-        step //= 2
-    is_whole = before[at:at + 1] in (b"", b"\n") and after[to:to + 1] in (b"", b"\n")
-    return at - first if is_whole else max(before.rfind(b"\n", first, at) - first, 0)
-
-
 # ---- files, and what scripts have in common
 
 
@@ -720,8 +607,11 @@ def program_of(name: str) -> str:
     in_package = not os.path.isfile(os.path.join(TOP, "bin", "proved"))
     # (bin/cfg runs one of two programs)
     built = any(os.access(os.path.join(TOP, "crates", it, "out", it), os.X_OK) for it in ([name, "cfg_one"] if name == "cfg" else [name]))
-    if variable or may_build or in_package or built:
+    if variable or may_build or built or in_package and os.access(starter, os.X_OK):
         return variable or starter
+    on_path = shutil.which(name)
+    if on_path or in_package:
+        return on_path or starter
     how = f"{starter}, run once, proves and builds it, in up to an hour of processor time, as `--build` as the first word does here"
     raise ReportError(f"{name} is not built: {how}; the variable {name.upper()} may name another one")
 
@@ -748,7 +638,13 @@ def _answer(path: str, program: str, kind: str) -> Iterator[BinaryIO]:
                 pass
             if run.wait() == 0:
                 raise
-        run.stdout.close()
+        except BaseException:
+            # (what is not read to its end would be a fault of the program, which says so)
+            run.kill()
+            raise
+        if run.stdout.read(1):
+            run.kill()
+            return
     if run.returncode not in (0, -13):
         raise ReportError(f"{program} ended with status {run.returncode}")
 
@@ -763,6 +659,8 @@ def run(main: Callable[[], int]) -> NoReturn:
     if sys.argv[1:2] == ["--build"]:
         may_build = True
         del sys.argv[1]
+    if sys.stderr.isatty():
+        sys.stdout = progress.Clearing(sys.stdout)  # type: ignore[assignment]
     try:
         status = main()
         sys.stdout.flush()
@@ -775,10 +673,12 @@ def run(main: Callable[[], int]) -> NoReturn:
         status = _told(name, f"{error.filename}: {error.strerror}" if error.filename else str(error))
     except KeyboardInterrupt:
         status = 130
+    progress.clear()
     sys.exit(status)
 
 
 def _told(name: str, why: str) -> int:
+    progress.clear()
     print(f"{name}: {why}", file=sys.stderr)
     return 2
 

@@ -2,7 +2,7 @@
 
 `--edges FILE` of the scripts names a file of edges that a person or a trace knows. A line is `FROM TO` or
 `FROM TO KIND`: FROM is the address of a block, or of an instruction in it, as of the jump; TO is where control goes;
-KIND is one of a report's kinds of edges. Without KIND it is `call` from a block that ends with a call, `table` from one
+KIND is one of a report's kinds of edges, or `guess`. Without KIND it is `call` from a block that ends with a call, `table` from one
 that ends with a table, and else `jump`, or `tail` where TO is a function that the block is no part of. Numbers are
 hexadecimal digits; `#` begins a comment.
 """
@@ -14,7 +14,8 @@ import re
 import sys
 from typing import Dict, Iterable, List, NamedTuple, Optional, Set
 
-from cfgtools.reports.cfg_report import EDGE_KINDS, LEAVES_FUNCTION, TABLE_KINDS, Block, Edge, Function, Report, ReportError
+from cfgtools.reports.cfg_report import EDGE_KINDS, GUESS, LEAVES_FUNCTION, TABLE_KINDS, Block, Edge, Function, Report, ReportError
+from cfgtools.reports.guesses import is_guess, is_pointed
 
 
 class Known(NamedTuple):
@@ -35,7 +36,7 @@ def known_edges(path: str) -> List[Known]:
         for number, line in enumerate(file, 1):
             text = line.split("#")[0].strip()
             match = _LINE.fullmatch(text)
-            if text and (match is None or match[3] not in (None, *EDGE_KINDS)):
+            if text and (match is None or match[3] not in (None, *EDGE_KINDS, GUESS)):
                 raise ReportError(f"{path}: line {number}: `{text[:60]}` is no line FROM TO or FROM TO KIND")
             if match:
                 found.append(Known(int(match[1], 16), int(match[2], 16), match[3]))
@@ -81,7 +82,7 @@ def with_edges(report: Report, path: str) -> Report:
         some = ", ".join(f"{place:x}" for place in sorted(missing)[:4]) + (", .." if len(missing) > 4 else "")
         what = f"{len(missing)} places are in no block, and edges to or from them are left out"
         print(f"{path}: {what}: {some}", file=sys.stderr)
-    called = {edge.to for edge in added if edge.kind == "call"}
+    called = {edge.to for edge in added if edge.kind in ("call", GUESS)}
     return rebuilt(report, added | set(report.edges), called)
 
 
@@ -109,7 +110,7 @@ def _split(report: Report, places: Set[int]) -> None:
 def rebuilt(report: Report, edges: Iterable[Edge], called: Iterable[int] = ()) -> Report:
     """The report with these edges, and a function at each place that is called. Blocks that no function has any more are
     left out."""
-    rank = {kind: place for place, kind in enumerate(EDGE_KINDS)}
+    rank = {kind: place for place, kind in enumerate((*EDGE_KINDS, GUESS))}
     onward: Dict[int, List[Edge]] = {}
     for edge in sorted(edges, key=lambda edge: (edge.source, edge.to, rank[edge.kind])):
         onward.setdefault(edge.source, []).append(edge)
@@ -132,25 +133,12 @@ def _with_bodies(report: Report, names: Dict[int, Optional[bytes]], bodies: Dict
     return new
 
 
-# Names that tools/add_entries gives to what may be no function: a case of a switch, a place where exceptions land, the place after
-# a call, code in a gap. All but the first name their address.
-_GUESS = re.compile(rb"case_.*_\d+|entry_(?:pad|behind|gap)_([0-9a-f]+)", re.DOTALL)
-# Those to what is a function most often, and else a case of a switch by a table of addresses.
-_POINTED = re.compile(rb"entry_(?:ptr|made)_[0-9a-f]+")
-
-
-def is_guess(function: Function) -> bool:
-    """Whether the name of a function says that it may be none."""
-    found = _GUESS.fullmatch(function.name or b"")
-    return found is not None and (found[1] is None or int(found[1], 16) == function.entry)
-
-
 def folded(report: Report) -> Report:
     """The report without the functions whose names say that they may be none, unless one is called: their blocks belong to those that
     lead to them, or else to the function before them. So do the cases that a pointer gave, if a table of the same function leads
     to them."""
     called = {edge.to for edge in report.edges if edge.kind == "call"} | {report.entry}
-    guesses = {function.entry for function in report.functions if is_guess(function) and function.entry not in called}
+    guesses = {function.entry for function in report.functions if is_guess(function.name, function.entry) and function.entry not in called}
     guesses |= _pointed_cases(report, guesses, called)
     names = {function.entry: function.name for function in report.functions if function.entry not in guesses}
     bodies = {entry: _body(entry, names, report.edges_from) for entry in names}
@@ -165,7 +153,7 @@ def folded(report: Report) -> Report:
 
 def _pointed_cases(report: Report, guesses: Set[int], called: Set[int]) -> Set[int]:
     """The functions that pointers gave and nothing calls, to which a table leads whose jump stands after the same other function."""
-    found = {one.entry for one in report.functions if one.entry not in called and _POINTED.fullmatch(one.name or b"")}
+    found = {one.entry for one in report.functions if one.entry not in called and is_pointed(one.name)}
     found &= {edge.to for edge in report.edges if edge.kind == "table"}
     rising = sorted({function.entry for function in report.functions} - guesses - found)
     ways = [(edge.source, edge.to) for edge in report.edges if edge.kind == "table" and edge.to in found]
@@ -183,7 +171,7 @@ def _body(entry: int, entries: Dict[int, Optional[bytes]], onward: Dict[int, Lis
     found, left = {entry}, [entry]
     while left:
         for edge in onward.get(left.pop(), ()):
-            if edge.kind != "call" and edge.to not in found and edge.to not in entries:
+            if edge.kind not in ("call", GUESS) and edge.to not in found and edge.to not in entries:
                 found.add(edge.to)
                 left.append(edge.to)
     return found
@@ -193,7 +181,7 @@ def _returning(report: Report) -> Set[int]:
     """The blocks from which a block can be reached, by all edges but calls, with which a function may return."""
     back: Dict[int, List[int]] = {}
     for edge in report.edges:
-        if edge.kind != "call":
+        if edge.kind not in ("call", GUESS):
             back.setdefault(edge.to, []).append(edge.source)
     found: Set[int] = set()
     left = [block.start for block in report.blocks.values() if block.kind in LEAVES_FUNCTION]

@@ -158,7 +158,7 @@ def opened(path: Optional[str], command: List[str], what: str) -> Iterator[Run]:
     into a pipe. What the program prints goes to standard error."""
     if not command:
         if path is None:
-            raise ReportError("there is no trace: name a file, or a command of qemu behind --")
+            raise ReportError("there is no trace: name a file, or a command of qemu after --")
         if path == "-":
             yield Run(sys.stdin.buffer)
         else:

@@ -98,13 +98,13 @@ def share(part: int, whole: int) -> str:
 
 
 class Walked:
-    """A walk in the graph of a report. Edges are pairs of blocks, since a trace shows no kinds; those of kind `after` are left
-    out, since no step goes along them: control goes into the function that is called."""
+    """A walk in the graph of a report. Edges are pairs of blocks, since a trace shows no kinds; those of the kinds `after` and
+    `landing` are left out, since no step goes along them: control goes into the function that is called."""
 
     def __init__(self, report: Report, walk: Walk) -> None:
         self.report, self.walk = report, walk
         self.edges: Dict[int, List[int]] = {}
-        for source, to in sorted({(edge.source, edge.to) for edge in report.edges if edge.kind != "after"}):
+        for source, to in sorted({(edge.source, edge.to) for edge in report.edges if edge.kind not in ("after", "landing")}):
             self.edges.setdefault(source, []).append(to)
         for at in walk.blocks:
             if at not in report.blocks:

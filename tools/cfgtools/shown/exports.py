@@ -19,11 +19,9 @@ from cfgtools.explain.unsure import Unsure
 from cfgtools.explain.values import Code, last_instruction
 from cfgtools.isa import registers
 from cfgtools.reports.cfg_report import Block, Function, Report, ReportError, address, function_name
+from cfgtools.shown.colours import EDGES
 from cfgtools.shown.picture import quoted
 
-# The colours of edges in Graphviz source, as `draw` has them.
-COLOURS = {"fall": "gray35", "taken": "forestgreen", "jump": "royalblue", "tail": "purple", "call": "firebrick", "after": "darkorange",
-           "table": "deeppink"}
 # The kinds of edges that no other program finds by the instruction alone.
 TOLD = ("table", "jump", "tail", "call", "taken")
 
@@ -74,7 +72,7 @@ def dot(export: Export) -> Iterator[str]:
         yield "}\n"
     for edge in export.report.edges:
         style = ", style=dotted" if export.unsure.is_unsure(edge) else ""
-        yield f"b{edge.source:x} -> b{edge.to:x} [color={COLOURS[edge.kind]}{style}];\n"
+        yield f"b{edge.source:x} -> b{edge.to:x} [color={EDGES[edge.kind].colour}{style}];\n"
     yield "}\n"
 
 

@@ -11,7 +11,7 @@ import sys
 import tempfile
 import textwrap
 import time
-from typing import Iterable, Optional, Tuple
+from typing import Iterable, List, Optional, Tuple
 
 from cfgtools.reports.cfg_report import ReportError
 from cfgtools.reports.progress import Progress
@@ -30,21 +30,36 @@ def quoted(text: str) -> str:
     return '"' + text.replace("\\", "\\\\").replace('"', '\\"') + '"'
 
 
+# How many characters of a line are shown, as of one with a long name; the whole line is shown on hover.
+MOST_SHOWN = 72
+
+
+def cut(line: str) -> str:
+    return line if len(line) <= MOST_SHOWN else line[:MOST_SHOWN - 2] + ".."
+
+
+def hover(lines: Iterable[str]) -> List[str]:
+    """What is shown on hover of a node: its lines that are cut, if there are any."""
+    long = [line for line in lines if len(line) > MOST_SHOWN]
+    return [f"tooltip={quoted(chr(10).join(long))}"] if long else []
+
+
 def left_lines(lines: Iterable[str]) -> str:
     """Lines of a label, each of them at the left."""
-    return '"' + "".join(quoted(line)[1:-1] + "\\l" for line in lines) + '"'
+    return '"' + "".join(quoted(cut(line))[1:-1] + "\\l" for line in lines) + '"'
 
 
 def beside(lines: Iterable[str], notes: Iterable[str]) -> str:
     """A label of lines, and of notes in a column of its own at their right."""
-    cells = [f'<td align="left" balign="left" valign="top">{_html(column)}</td>' for column in (lines, notes)]
+    cells = [f'<td align="left" balign="left" valign="top">{html_lines(column)}</td>' for column in (lines, notes)]
     noted = cells[1].replace("<td", '<td border="1" sides="L" cellpadding="4"', 1).replace(">", '><font color="darkgreen">', 1)
     noted = noted[:-len("</td>")] + "</font></td>"
     return f'<<table border="0" cellborder="0" cellspacing="0"><tr>{cells[0]}{noted}</tr></table>>'
 
 
-def _html(lines: Iterable[str]) -> str:
-    return "<br/>".join(html.escape(line) for line in lines)
+def html_lines(found: Iterable[str]) -> str:
+    """Lines in a label that is written as HTML."""
+    return "<br/>".join(html.escape(cut(line)) for line in found)
 
 
 def wrapped(text: str, width: int) -> str:

@@ -2,18 +2,24 @@
 
 from __future__ import annotations
 
+import heapq
 import re
-from typing import Any, Dict, Iterator, List, NamedTuple, Optional, Set, Tuple
+from typing import Any, Dict, Iterable, Iterator, List, NamedTuple, Optional, Set, Tuple
 
-from cfgtools.elf.elf_file import Elf
+from cfgtools.elf.elf_file import Elf, Memory
+from cfgtools.entries.pointers import MadeAddresses, array_entries, pointers_in_data
+from cfgtools.entries.reached import Reached
 from cfgtools.explain.staying import Staying, behind
+from cfgtools.explain.values import last_instruction
 from cfgtools.reports import names
 from cfgtools.reports.body import Body
-from cfgtools.reports.cfg_report import Block, Edge, Function, Report, ReportError, address, function_name
+from cfgtools.reports.cfg_report import GUESS, Block, Edge, Function, Report, ReportError, address, function_name
 from cfgtools.reports.changed_graph import Places
 from cfgtools.runs.traces import Trace
 
 OPEN_KINDS = ("icall", "unknown", "table-open", "table-cut")
+# How many functions are named that may hide a way.
+MOST_NAMED = 5
 
 
 class Answer(NamedTuple):
@@ -56,7 +62,7 @@ class Questions:
         """The edges from a function into others, and its calls of itself."""
         for start in function.blocks:
             for edge in self.report.edges_from.get(start, []):
-                if edge.kind == "call" or edge.to in self.functions and edge.to != function.entry:
+                if edge.kind in ("call", GUESS) or edge.to in self.functions and edge.to != function.entry:
                     yield edge
 
     # ---- the questions
@@ -110,50 +116,94 @@ class Questions:
         for function in self.homes[block.start]:
             name = self.name(function.entry)
             where = f"in the block from {block.start:x} to {block.end:x}, which ends with {block.kind}"
-            aliases = self.elf.aliases(function.entry) if self.elf else []
+            aliases = self.elf.also(function.entry) if self.elf else []
             also = (f", also {', '.join(aliases)}," if aliases else "") or self._stub_words(function.entry)
             yield Answer(f"{at:x} is in {name}{also} at {function.entry:x}, {where}",
                          {"address": address(at), "function": name, "entry": address(function.entry),
                           "block": address(block.start), "end": address(block.end), "kind": block.kind, **({"aliases": aliases} if aliases else {})})
 
     def reach(self, wanted: str, target: Optional[str], backwards: bool) -> Iterator[Answer]:
-        """The functions that one reaches, or that reach it; or the shortest way from one to another."""
-        onward: Dict[int, List[int]] = {}
-        for function in self.report.functions:
-            for edge in self.ways_out(function):
-                one, other = (edge.to, function.entry) if backwards else (function.entry, edge.to)
-                onward.setdefault(one, []).append(other)
+        """The functions that one reaches, or that reach it; or the shortest way from one to another, with as few guesses as can be."""
         start = self.function(wanted).entry
-        before: Dict[int, Optional[int]] = {start: None}
-        layer = [start]
-        while layer:
-            new = []
-            for one in layer:
-                for to in onward.get(one, ()):
-                    if to not in before:
-                        before[to] = one
-                        new.append(to)
-            layer = new
+        before = self._ways_from(start, backwards)
         if target is None:
             for entry in sorted(before.keys() - {start}):
                 yield Answer(f"{self.name(entry)} at {entry:x}", {"function": self.name(entry), "entry": address(entry)})
             return
         end = self.function(target).entry
         chain: List[int] = []
+        guesses: Dict[int, Edge] = {}
         at: Optional[int] = end if end in before else None
         while at is not None:
             chain.insert(0, at)
-            at = before[at]
+            step = before[at]
+            if step is not None and step[1].kind == GUESS:
+                guesses[at] = step[1]
+            at = step[0] if step is not None else None
         names = [self.name(entry) for entry in chain]
+        shown = [f"(a guess: {self.report.blocks[guesses[entry].source].kind} at {self._last(guesses[entry])}) {self.name(entry)}" if entry in guesses
+                 else self.name(entry) for entry in chain]
         none = f"no way from {self.name(start)} to {self.name(end)}"
-        text = " -> ".join(names) if chain else none + self._open(before.keys())
-        yield Answer(text, {"reaches": bool(chain), "way": names, "entries": [address(entry) for entry in chain]})
+        text = " -> ".join(shown) if chain else none + self._open(before.keys())
+        fields = {"reaches": bool(chain), "way": names, "entries": [address(entry) for entry in chain]}
+        yield Answer(text, {**fields, **({"guesses": [self._last(edge) for edge in guesses.values()]} if guesses else {})})
 
-    def _open(self, entries: Any) -> str:
-        """What may hide a way: how many functions that are reached go on through a register."""
+    def _ways_from(self, start: int, backwards: bool) -> Dict[int, Optional[Tuple[int, Edge]]]:
+        """The functions that one reaches, or that reach it, each with the one before on the way, and the edge from there."""
+        onward: Dict[int, List[Tuple[int, Edge]]] = {}
+        for function in self.report.functions:
+            for edge in self.ways_out(function):
+                one, other = (edge.to, function.entry) if backwards else (function.entry, edge.to)
+                onward.setdefault(one, []).append((other, edge))
+        found: Dict[int, Optional[Tuple[int, Edge]]] = {}
+        left: List[Tuple[int, int, int, int, Optional[Tuple[int, Edge]]]] = [(0, 0, 0, start, None)]
+        count = 0
+        while left:
+            guesses, length, _, at, step = heapq.heappop(left)
+            if at in found:
+                continue
+            found[at] = step
+            for to, edge in onward.get(at, ()):
+                if to not in found:
+                    count += 1
+                    heapq.heappush(left, (guesses + (edge.kind == GUESS), length + 1, count, to, (at, edge)))
+        return found
+
+    def _last(self, edge: Edge) -> str:
+        """The address of the instruction from which an edge leads, or that of the end of its block without the ELF file."""
+        block = self.report.blocks[edge.source]
+        return f"{last_instruction(self.elf, block)[0]:x}" if self.elf is not None else f"the block {block.start:x}"
+
+    def _open(self, entries: Iterable[int]) -> str:
+        """What may hide a way: the functions that are reached and go on through a register."""
         is_open = {start for start, block in self.report.blocks.items() if block.kind in ("icall", "unknown")}
-        count = sum(not is_open.isdisjoint(self.functions[entry].blocks) for entry in entries)
-        return f" is known; {count} functions on the way call or jump through a register" if count else ""
+        found = [entry for entry in sorted(entries) if not is_open.isdisjoint(self.functions[entry].blocks)]
+        if not found:
+            return ""
+        some = ", ".join(map(self.name, found[:MOST_NAMED])) + (", .." if len(found) > MOST_NAMED else "")
+        return f" is known; {len(found)} functions on the way call or jump through a register: {some} (tools/guess_calls guesses where)"
+
+    def dead(self) -> Iterator[Answer]:
+        """The functions that nothing reaches: neither a way of the graph from the program's entry, nor a pointer in data or in code
+        that is reached."""
+        if self.elf is None:
+            raise ReportError("which functions pointers lead to is known by the ELF file alone: --elf ELF")
+        memory = Memory(self.elf.path)
+        made = MadeAddresses(memory)
+        made.read(Reached(memory, self.report))
+        roots = {self.report.entry, *pointers_in_data(memory), *made.made, *array_entries(memory)} & self.functions.keys()
+        onward = {function.entry: [edge.to for edge in self.ways_out(function)] for function in self.report.functions}
+        found, left = set(roots), list(roots)
+        while left:
+            for to in onward.get(left.pop(), ()):
+                if to not in found and to in self.functions:
+                    found.add(to)
+                    left.append(to)
+        for entry in sorted(self.functions.keys() - found):
+            blocks = [self.report.blocks[start] for start in self.functions[entry].blocks]
+            size = sum(block.end - block.start for block in blocks)
+            yield Answer(f"{self.name(entry)} at {entry:x}, {len(blocks)} blocks, {size} bytes",
+                         {"function": self.name(entry), "entry": address(entry), "blocks": len(blocks), "bytes": size})
 
     def no_return(self, wanted: Optional[str]) -> Iterator[Answer]:
         functions = [self.function(wanted)] if wanted else [one for one in self.report.functions if not one.may_return]
@@ -217,7 +267,7 @@ class Questions:
                 ends[pair[0]] = self._end(pair[0])
             block, straight = ends[pair[0]]
             if block is not None and step.address not in straight:
-                known = {edge.to for edge in self.report.edges_from.get(block.start, []) if edge.kind != "after"}
+                known = {edge.to for edge in self.report.edges_from.get(block.start, []) if edge.kind not in ("after", "landing")}
                 if step.address not in known and (block.start, step.address) not in found:
                     found.add((block.start, step.address))
         for start, to in sorted(found):

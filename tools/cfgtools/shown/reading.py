@@ -72,12 +72,23 @@ def the_elf(words: argparse.Namespace) -> Optional[Elf]:
 def items(words: argparse.Namespace, path: str, elf: Optional[Elf] = None) -> Iterator[Item]:
     """The parts of the report one by one: as they are read, where the words do not ask for another graph. They are compared
     with the ELF file."""
-    names.demangle(words.demangle)
+    _names(words, elf)
     if words.edges or getattr(words, "sure", False) or getattr(words, "fold", False):
         yield from report(words, path, elf, whole=False).items()
         return
     with cfg_report.opened(path, kind=_kind(words)) as stream:
         yield from _matching(stream, elf)
+
+
+def _names(words: argparse.Namespace, elf: Optional[Elf]) -> None:
+    """How names are shown from now on."""
+    names.demangle(words.demangle)
+    names.prefer(elf.said if elf is not None else {})
+
+
+def parsed(parser: argparse.ArgumentParser, own: Optional[Sequence[str]] = None) -> argparse.Namespace:
+    """The words of a script, in any order."""
+    return parser.parse_intermixed_args(own)
 
 
 def _kind(words: argparse.Namespace) -> str:
@@ -109,7 +120,7 @@ def lives(words: argparse.Namespace, path: str) -> Report:
 def report(words: argparse.Namespace, path: str, elf: Optional[Elf] = None, whole: bool = True) -> Report:
     """The whole report that the words ask for, compared with the ELF file. One that is to be whole must be of kind graph
     and fit together."""
-    names.demangle(words.demangle)
+    _names(words, elf)
     with cfg_report.naming(path), cfg_report.opened(path, kind=_kind(words)) as stream:
         found = Report(_matching(stream, elf))
         if whole or words.edges or getattr(words, "sure", False) or getattr(words, "fold", False):

@@ -3,7 +3,7 @@ use Rattle.std.specs.Prelude.{◌≡◌, ◌<◌, ℕ, [], ◌∷◌, List, leng
 use Rattle.std.specs.Prelude.{Some, None, Result, Ok, Err, OnOk, OnErr, IfOk}
 use Rattle.atomic_table.specs.Table.{Me}
 use Rattle.atomic_table.specs.declared.shared.Seat.{Seat}
-use Rattle.turn_slots.specs.Share.{IsAboveZero}
+use Rattle.board.specs.Locks.Share.{IsAboveZero}
 use Rattle.cfg_model.specs.Program.Instructions.{InstructionMap}
 use Rattle.cfg_model.specs.Builder.Event.{Event, Steps}
 use Rattle.cfg_model.specs.Builder.Fact.{Fact, Holds, IsSoundFact}

@@ -3,6 +3,7 @@ use Rattle.std.specs.Prelude.{◌≡◌, ◌↔◌, ℕ, ◌<◌, ◌≤◌, ◌
 use Rattle.std.specs.Prelude.{Some, slice_index_or}
 use Rattle.cert_text.specs.declared.lines.ReturnLine.{ReturnLine}
 use Rattle.cert_text.specs.declared.lines.ReturnWhy.{ReturnWhy}
+use Rattle.cert_text.specs.declared.lines.ReturnWhy.TheVariants.{CallBoth}
 use Rattle.cfg_model.specs.declared.flow.Flow.{Flow}
 use Rattle.cfg_model.specs.Program.Instructions.{InstructionMap, flow_at}
 use Rattle.cert_laws.specs.Lines.{IsReturn, IsReturnBelow}
@@ -21,6 +22,16 @@ EndHasRank map lines rank a = (other : ℕ) → EndIsBelow map lines other a ↔
 -- They do not list it.
 abbrev pub EndHasNone : InstructionMap → List ReturnLine → ℕ → Type 0
 EndHasNone map lines a = (other : ℕ) → ¬ EndIsBelow map lines other a
+
+-- The terminator k is a call that returns through both its ways by these lines, of which the greater
+-- rank is this one.
+abbrev pub CallHasRank : InstructionMap → List ReturnLine → ℕ → ℕ → Type 0
+CallHasRank map lines rank k =
+    (other : ℕ) → ReturnsFor map (IsReturnBelow lines other) k CallBoth ↔ (rank < other)
+
+-- It is no call, or does not return so.
+abbrev pub CallHasNone : InstructionMap → List ReturnLine → ℕ → Type 0
+CallHasNone map lines k = (other : ℕ) → ¬ ReturnsFor map (IsReturnBelow lines other) k CallBoth
 
 -- If the chain of x ends in a listed terminator, that one's rank is this one at least, and where it
 -- is this one, x does not lie below this address.

@@ -2,6 +2,7 @@
 -- is not decided here, so the proofs go by what cannot be refuted.
 use Rattle.std.proofs.Common.{◌≡◌, ℕ, ◌+◌, List, [], ◌∷◌, Option, Some, None, refl, ap, ◌∙◌, subst, inl, ⊎_elim}
 use Rattle.std.specs.Prelude.{Contains, option_to_list}
+use Rattle.std.proofs.lemmas.List.Elements.{Contains-append_cases}
 use Rattle.cfg_model.specs.declared.flow.Flow.{Flow}
 use Rattle.cfg_model.specs.declared.flow.Flow.TheVariants as flows
 use Rattle.cfg_model.specs.declared.graph.Block.{Block}
@@ -15,7 +16,7 @@ use Rattle.cfg_model.specs.Graph.Block.{RunsTo, IsBlock, IsBlockTo, end_kind}
 use Rattle.cfg_model.specs.Graph.Listing.{Lists}
 use Rattle.cfg_model.specs.Graph.Graph.{BlockBefore}
 use Rattle.cfg_model.proofs.Graphs.Runs.{run_step}
-use Rattle.cfg_model.proofs.Graphs.Lists.{Contains-here, Contains-cons_cases, Contains-none}
+use Rattle.cfg_model.proofs.Graphs.Lists.{Contains-here, Contains-later, Contains-cons_cases, Contains-none}
 
 -- a lies on the run of a leader
 record IsCovered (map : InstructionMap) (seeds : List ℕ) (a : ℕ) : Type 0 where
@@ -64,9 +65,13 @@ module _ (map : InstructionMap) (seeds : List ℕ) where
       (λ more. fallen a b (flows.Branch (Some taken) fall) is from reached (among_fall fall b more))
       (Contains-cons_cases taken (option_to_list fall) b among)
   onward a b (Some (flows.Jump target)) is from covered reached among = targeted a b (flows.Jump target) is from reached among
-  onward a b (Some (flows.Call target fall)) is from covered reached among = absurd (Contains-none b among)
+  onward a b (Some (flows.Call target fall)) is from covered reached among =
+      targeted a b (flows.Call target fall) is from reached (Contains-later target (targets_at map a) b among)
   onward a b (Some (flows.IndirectCall fall)) is from covered reached among =
-      fallen a b (flows.IndirectCall fall) is from reached (among_fall fall b among)
+      ⊎_elim
+      (λ falls. fallen a b (flows.IndirectCall fall) is from reached (among_fall fall b falls))
+      (λ lands. targeted a b (flows.IndirectCall fall) is from reached lands)
+      (Contains-append_cases (option_to_list fall) (targets_at map a) b among)
   onward a b (Some (flows.Table entries full is_open)) is from covered reached among = targeted a b (flows.Table entries full is_open) is from reached among
   onward a b (Some flows.Return) is from covered reached among = absurd (Contains-none b among)
   onward a b (Some flows.Unknown) is from covered reached among = absurd (Contains-none b among)
@@ -78,7 +83,7 @@ covered {map} {seeds} {a} (Reached.seed among) missing = missing (at_leader map 
 covered {map} {seeds} {a = b} (Reached.onward {a = a} from among) missing =
     onward map seeds a b (flow_at map a) refl from (covered from) (Reached.onward from among) among missing
 covered {map} {seeds} {a = b} (Reached.called {a = a} {fall = fall} from calls) missing =
-    targeted map seeds a b (flows.Call b fall) calls from (Reached.called from calls) (Contains-here b []) missing
+    targeted map seeds a b (flows.Call b fall) calls from (Reached.called from calls) (Contains-here b (targets_at map a)) missing
 covered {map} {seeds} {a = b} (Reached.past_call from calls returns) missing =
     missing (at_leader map seeds b (Reached.past_call from calls returns) (StartsBlock.past_call from calls returns))
 

@@ -63,6 +63,7 @@ kind_order kinds.Tail kinds.Fall = refl
 kind_order kinds.Call kinds.Fall = refl
 kind_order kinds.After kinds.Fall = refl
 kind_order kinds.Table kinds.Fall = refl
+kind_order kinds.Landing kinds.Fall = refl
 kind_order a b = refl
 
 same_rank : (a b : EdgeKind) → rank a ≡ rank b → a ≡ b
@@ -73,6 +74,7 @@ same_rank kinds.Tail kinds.Fall h = cc
 same_rank kinds.Call kinds.Fall h = cc
 same_rank kinds.After kinds.Fall h = cc
 same_rank kinds.Table kinds.Fall h = cc
+same_rank kinds.Landing kinds.Fall h = cc
 same_rank a b h = cc
 
 edge_order : (a b : Edge) → cmp-value.it a b ≡ ordering_then (nat_cmp a.from b.from) (ordering_then (nat_cmp a.to b.to) (nat_cmp (rank a.kind) (rank b.kind)))

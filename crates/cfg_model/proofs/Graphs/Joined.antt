@@ -8,7 +8,7 @@ use Rattle.cfg_model.specs.declared.flow.Flow.TheVariants as flows
 use Rattle.cfg_model.specs.declared.graph.Block.{Block}
 use Rattle.cfg_model.specs.declared.graph.Edge.{Edge}
 use Rattle.cfg_model.specs.declared.graph.EdgeKind.{EdgeKind}
-use Rattle.cfg_model.specs.Program.Instructions.{Instruction, InstructionMap, IsLawful, flow_at}
+use Rattle.cfg_model.specs.Program.Instructions.{Instruction, InstructionMap, IsLawful, flow_at, targets_at}
 use Rattle.cfg_model.specs.Program.Chain.{GoesOnTo, IsTerminator, EndsChain}
 use Rattle.cfg_model.specs.Program.Successors.{IsSuccessor}
 use Rattle.cfg_model.specs.Program.Status.{Returns}
@@ -22,7 +22,9 @@ use Rattle.cfg_model.specs.Graph.Listing.{Lists}
 use Rattle.cfg_model.specs.Graph.Joined.{StartsABlock, EdgesJoinBlocks, EntriesStartBlocks, BodiesListBlocks}
 use Rattle.cfg_model.proofs.Program.Listed.{head_in}
 use Rattle.cfg_model.proofs.Program.Known.{successor_known, target_known, fall_known, successor_from_flow, reached_along}
+use Rattle.cfg_model.proofs.Program.Landing.{landing_follows, call_stands}
 use Rattle.cfg_model.proofs.Builder.StateGrowth.{none_is_some}
+use Rattle.cfg_model.proofs.Graphs.LeaderFacts.{pad_starts}
 use Rattle.cfg_model.proofs.Graphs.Lists.{Contains-here, Contains-later, Contains-none, Contains-cons_cases}
 use Rattle.cfg_model.proofs.Graphs.OneBlock.{not_both, straight_once}
 use Rattle.cfg_model.proofs.Graphs.Runs.{goes_up}
@@ -149,17 +151,19 @@ module _ (map : InstructionMap) (seeds : List ℕ) (lawful : IsLawful map) where
   leads_leader {k} reached stops (LeadsTo.jump {to = to} h) =
       onward_leads lawful reached (successor_from_flow map k (flows.Jump to) h to (head_in to [])) (StartsBlock.target reached h (head_in to []))
   leads_leader {k} reached stops (LeadsTo.call {to = to} {fall = fall} h) = record {
-    leader = record { reached = Reached.called reached h; starts = StartsBlock.target reached h (head_in to []) };
+    leader = record { reached = Reached.called reached h; starts = StartsBlock.target reached h (head_in to (targets_at map k)) };
     known = target_known map lawful k to h;
   }
   leads_leader {k} reached stops (LeadsTo.after_indirect {to = to} h) =
-      onward_leads lawful reached (successor_from_flow map k (flows.IndirectCall (Some to)) h to (there to)) (StartsBlock.fall reached h refl)
+      onward_leads lawful reached (successor_from_flow map k (flows.IndirectCall (Some to)) h to (Contains-append_left (option_to_list (Some to)) (targets_at map k) to (there to))) (StartsBlock.fall reached h refl)
   leads_leader {k} reached stops (LeadsTo.after_call {target = target} {to = to} h back) = record {
     leader = record { reached = Reached.past_call reached h back; starts = StartsBlock.past_call reached h back };
     known = fall_known map lawful k target to h;
   }
   leads_leader {k} reached stops (LeadsTo.table {to = to} {entries = entries} {full = full} {is_open = is_open} h c) =
       onward_leads lawful reached (successor_from_flow map k (flows.Table entries full is_open) h to c) (StartsBlock.target reached h c)
+  leads_leader {k} reached stops (LeadsTo.landing {to = to} calls c) =
+      onward_leads lawful reached (landing_follows map k to calls c) (pad_starts map seeds k to reached calls c)
 
   edge_leader : (edge : Edge) → IsEdge map seeds edge → IsKnownLeader map seeds edge.to
   edge_leader edge is = leads_leader (reached_along is.from.reached is.ends.runs) next_leads is.leads
@@ -192,6 +196,7 @@ module _ (map : InstructionMap) (seeds : List ℕ) (lawful : IsLawful map) where
       has_flow {k} (LeadsTo.after_indirect h) = some_flow (flow_at map k) _ h
       has_flow {k} (LeadsTo.after_call h back) = some_flow (flow_at map k) _ h
       has_flow {k} (LeadsTo.table h c) = some_flow (flow_at map k) _ h
+      has_flow {k} (LeadsTo.landing calls c) = call_stands (flow_at map k) calls
 
   module _ (blocks : List Block) (lists : Lists BlockBefore (IsBlock map seeds) blocks) where
     known_starts : {a : ℕ} → IsKnownLeader map seeds a → StartsABlock blocks a

@@ -8,12 +8,13 @@ use Rattle.cfg_model.specs.declared.flow.Flow.{Flow}
 use Rattle.cfg_model.specs.declared.flow.Flow.TheVariants.{Straight, Branch, Jump, Call, IndirectCall, Table, Return, Unknown, Stop}
 use Rattle.cfg_model.specs.Program.Instructions.{InstructionMap, Instruction, flow_at, length_at, targets_at, IsLawful, IsLawfulAt, FlowFits}
 use Rattle.cfg_model.specs.Program.Chain.{OnChain, GoesOnTo, IsTerminator, EndsChain}
-use Rattle.cfg_model.specs.Program.Successors.{successors_of_flow}
+use Rattle.cfg_model.specs.Program.Successors.{successors_of_flow, MayLand}
 use Rattle.cfg_model.specs.Program.Reach.{Reached}
 use Rattle.cfg_model.specs.Graph.Leader.{IsLeader, StartsBlock}
 use Rattle.cfg_model.specs.Builder.Waits.{IsTarget}
 use Rattle.cfg_model.specs.Program.Meeting.{IsMeeting}
-use Rattle.cfg_model.proofs.Program.Listed.{none_in, in_cases, head_in}
+use Rattle.cfg_model.proofs.Program.Listed.{none_in, in_cases, head_in, tail_in}
+use Rattle.cfg_model.proofs.Program.Landing.{call_ends, landing_follows}
 use Rattle.cfg_model.proofs.Builder.MapFacts.{same_or_other}
 use Rattle.cfg_model.proofs.Program.ChainFacts.{chain_up, chain_cases, one_next, goes_up, flow_of, straight_next}
 use Rattle.cfg_model.proofs.Program.Along.{next_is_successor}
@@ -123,13 +124,21 @@ target_starts map seeds k s r (Some (Branch taken fall)) e ends c =
       | inr in_fall ↦ StartsBlock.fall r e (listed fall s in_fall)
     ]
 target_starts map seeds k s r (Some (Jump target)) e ends c = StartsBlock.target r e c
-target_starts map seeds k s r (Some (Call target fall)) e ends c = absurd (none_in s c)
-target_starts map seeds k s r (Some (IndirectCall fall)) e ends c = StartsBlock.fall r e (listed fall s c)
+target_starts map seeds k s r (Some (Call target fall)) e ends c = StartsBlock.target r e (tail_in target s (targets_at map k) c)
+target_starts map seeds k s r (Some (IndirectCall fall)) e ends c =
+    elim (Contains-append_cases (option_to_list fall) (targets_at map k) s c) [
+      | inl falls ↦ StartsBlock.fall r e (listed fall s falls)
+      | inr lands ↦ StartsBlock.target r e lands
+    ]
 target_starts map seeds k s r (Some (Table entries full is_open)) e ends c = StartsBlock.target r e c
 target_starts map seeds k s r (Some Return) e ends c = absurd (none_in s c)
 target_starts map seeds k s r (Some Unknown) e ends c = absurd (none_in s c)
 target_starts map seeds k s r (Some Stop) e ends c = absurd (none_in s c)
 
+-- the landing pad of a reachable call
+pub pad_starts : (map : InstructionMap) (seeds : List ℕ) (k s : ℕ) → Reached map seeds k → MayLand map k → Contains (targets_at map k) s → StartsBlock map seeds s
+pad_starts map seeds k s r calls c = target_starts map seeds k s r (flow_at map k) refl (call_ends (flow_at map k) calls) (landing_follows map k s calls c)
+
 pub target_leads : (map : InstructionMap) (seeds : List ℕ) (k s : ℕ) → Reached map seeds k → IsTerminator map k → IsTarget map k s → IsLeader map seeds s
 target_leads map seeds k s r ends (IsTarget.onward successor) = record { reached = Reached.onward r successor; starts = target_starts map seeds k s r (flow_at map k) refl ends successor }
-target_leads map seeds k s r ends (IsTarget.called call) = record { reached = Reached.called r call; starts = StartsBlock.target r call (head_in s []) }
+target_leads map seeds k s r ends (IsTarget.called call) = record { reached = Reached.called r call; starts = StartsBlock.target r call (head_in s (targets_at map k)) }

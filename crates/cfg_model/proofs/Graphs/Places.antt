@@ -1,7 +1,7 @@
 -- Every reachable address lies in one block of an outline, and in no other. Which addresses are leaders is decided by the list of blocks.
 use Rattle.std.proofs.Common.{◌≡◌, ℕ, List, [], ◌∷◌, Option, Some, None, IsSome, Contains, option_to_list, refl, sym, ap, ◌∙◌, subst, inl, inr, ⊎_elim}
 use Rattle.std.proofs.lemmas.Bool.{cases_eq}
-use Rattle.std.proofs.lemmas.List.Elements.{All-contains}
+use Rattle.std.proofs.lemmas.List.Elements.{All-contains, Contains-append_cases}
 use Rattle.cfg_model.specs.declared.flow.Flow.{Flow}
 use Rattle.cfg_model.specs.declared.flow.Flow.TheVariants as flows
 use Rattle.cfg_model.specs.declared.graph.Block.{Block}
@@ -16,7 +16,7 @@ use Rattle.cfg_model.specs.Graph.Graph.{BlockBefore}
 use Rattle.cfg_model.specs.Graph.Joined.{StartsABlock}
 use Rattle.cfg_model.specs.Graph.Places.{HasABlock, EachAddressHasABlock, BlocksAreApart}
 use Rattle.cfg_model.proofs.Program.Known.{successor_known, target_known, fall_known, reached_along}
-use Rattle.cfg_model.proofs.Graphs.Lists.{Contains-here, Contains-cons_cases, Contains-none}
+use Rattle.cfg_model.proofs.Graphs.Lists.{Contains-here, Contains-later, Contains-cons_cases, Contains-none}
 use Rattle.cfg_model.proofs.Graphs.Runs.{run_step}
 use Rattle.cfg_model.proofs.Graphs.LeaderFacts.{joined}
 use Rattle.cfg_model.proofs.Graphs.OneBlock.{block_unique}
@@ -79,8 +79,13 @@ module _ (map : InstructionMap) (seeds : List ℕ) (blocks : List Block) (lawful
       (λ more. fallen a b (flows.Branch (Some taken) fall) is from reached (among_fall fall b more))
       (Contains-cons_cases taken (option_to_list fall) b among)
   onward a b (Some (flows.Jump target)) is from has reached among = targeted a b (flows.Jump target) is from reached among
-  onward a b (Some (flows.Call target fall)) is from has reached among = absurd (Contains-none b among)
-  onward a b (Some (flows.IndirectCall fall)) is from has reached among = fallen a b (flows.IndirectCall fall) is from reached (among_fall fall b among)
+  onward a b (Some (flows.Call target fall)) is from has reached among =
+      targeted a b (flows.Call target fall) is from reached (Contains-later target (targets_at map a) b among)
+  onward a b (Some (flows.IndirectCall fall)) is from has reached among =
+      ⊎_elim
+      (λ falls. fallen a b (flows.IndirectCall fall) is from reached (among_fall fall b falls))
+      (λ lands. targeted a b (flows.IndirectCall fall) is from reached lands)
+      (Contains-append_cases (option_to_list fall) (targets_at map a) b among)
   onward a b (Some (flows.Table entries full is_open)) is from has reached among = targeted a b (flows.Table entries full is_open) is from reached among
   onward a b (Some flows.Return) is from has reached among = absurd (Contains-none b among)
   onward a b (Some flows.Unknown) is from has reached among = absurd (Contains-none b among)
@@ -90,7 +95,7 @@ module _ (map : InstructionMap) (seeds : List ℕ) (blocks : List Block) (lawful
   has_block (Reached.seed {a = a} among) = at_start a (Reached.seed among) (StartsBlock.seed among)
   has_block (Reached.onward {a = a} {b = b} from way) = onward a b (flow_at map a) refl from (has_block from) (Reached.onward from way) way
   has_block (Reached.called {a = a} {target = target} {fall = fall} from calls) =
-      targeted a target (flows.Call target fall) calls from (Reached.called from calls) (Contains-here target [])
+      targeted a target (flows.Call target fall) calls from (Reached.called from calls) (Contains-here target (targets_at map a))
   has_block (Reached.past_call {fall = fall} from calls returns) =
       at_start fall (Reached.past_call from calls returns) (StartsBlock.past_call from calls returns)
 

@@ -1,7 +1,7 @@
 -- What a lawful program leads to is the address of an instruction.
-use Rattle.std.proofs.Common.{◌≡◌, ℕ, List, [], ◌∷◌, ◌++◌, length, Contains, All, Option, Some, None, IsSome, Bool, option_to_list, refl, sym, subst}
+use Rattle.std.proofs.Common.{◌≡◌, ℕ, List, [], ◌∷◌, ◌++◌, length, Contains, All, Option, Some, None, IsSome, Bool, option_to_list, refl, sym, subst, ⊎_elim}
 use Rattle.std.specs.Option.{option_map, option_map_or}
-use Rattle.std.proofs.lemmas.List.Elements.{All-contains}
+use Rattle.std.proofs.lemmas.List.Elements.{All-contains, Contains-append_cases}
 use Rattle.cfg_model.specs.declared.flow.Flow.{Flow}
 use Rattle.cfg_model.specs.declared.flow.Flow.TheVariants.{Straight, Branch, Jump, Call, IndirectCall, Table, Return, Unknown, Stop}
 use Rattle.cfg_model.specs.Program.Instructions.{Instruction, InstructionMap, IsLawful, IsLawfulAt, FlowFits, flow_at, targets_at, named_by}
@@ -24,8 +24,10 @@ successors_known P kept (Straight next) named all b h = All-contains P (next ∷
 successors_known P kept (Branch taken fall) named all b h =
     All-contains P (option_to_list taken ++ option_to_list fall) b named h
 successors_known P kept (Jump target) named all b h = All-contains P (target ∷ []) b named h
-successors_known P kept (Call target fall) named all b h = absurd (none_in b h)
-successors_known P kept (IndirectCall fall) named all b h = All-contains P (option_to_list fall) b named h
+successors_known P kept (Call target fall) named all b h = All-contains P kept b all h
+successors_known P kept (IndirectCall fall) named all b h =
+    ⊎_elim (λ falls. All-contains P (option_to_list fall) b named falls) (λ lands. All-contains P kept b all lands)
+    (Contains-append_cases (option_to_list fall) kept b h)
 successors_known P kept (Table entries full is_open) named all b h = All-contains P kept b all h
 successors_known P kept Return named all b h = absurd (none_in b h)
 successors_known P kept Unknown named all b h = absurd (none_in b h)

@@ -153,9 +153,6 @@ second = record { base = 0x20008; width = 4; count = 2 }
 abbrev tables_15 : ℕ → Option Extent
 tables_15 j = if j == 0x1001c then Some first else (if j == 0x10048 then Some second else None)
 
-abbrev reached_15 : ℕ → Type 0
-reached_15 j = (j ≡ 0x1001c) ⊎ (j ≡ 0x10048)
-
 base_of : (x e : Extent) → Some x ≡ Some e → e.base ≡ x.base
 base_of x e is = ap base_at (sym is)
   where
@@ -168,24 +165,23 @@ one_of true y e is = inl (base_of first e is)
 one_of false true e is = inr (base_of second e is)
 one_of false false e is = cc
 
-bases : (b : ℕ) (table : Extent) → IsBaseInside tables_15 reached_15 table b → (b ≡ 0x20000) ⊎ (b ≡ 0x20008)
+bases : (b : ℕ) (table : Extent) → IsBaseInside tables_15 table b → (b ≡ 0x20000) ⊎ (b ≡ 0x20008)
 bases b table is =
     ⊎_elim (λ e. inl (subst (λ x. x ≡ 0x20000) is.base e)) (λ e. inr (subst (λ x. x ≡ 0x20008) is.base e))
     (one_of (is.jump == 0x1001c) (is.jump == 0x10048) is.other is.at_jump)
 
-pub first_cut : IsCutTo tables_15 reached_15 0x1001c 2
+pub first_cut : IsCutTo tables_15 0x1001c 2
 first_cut = record {
-  counts = inl refl;
   table = first;
   at_jump = refl;
   base = 0x20008;
-  inside = record { jump = 0x10048; counts = inr refl; other = second; at_jump = refl; base = refl; above = omega arith; below = omega arith };
+  inside = record { jump = 0x10048; other = second; at_jump = refl; base = refl; above = omega arith; below = omega arith };
   least = λ b is. ⊎_elim (λ e. let up : 0x20000 < b = is.above in omega (arith, e, up)) (λ e. omega (arith, e)) (bases b first is);
   entries = refl;
   fewer = omega arith;
 }
 
-pub second_not_cut : (kept : ℕ) → IsCutTo tables_15 reached_15 0x10048 kept → ⊥
+pub second_not_cut : (kept : ℕ) → IsCutTo tables_15 0x10048 kept → ⊥
 second_not_cut kept cut =
     let table : 0x20008 ≡ cut.table.base = ap base_at cut.at_jump in
     let up : cut.table.base < cut.base = cut.inside.above in

@@ -77,7 +77,7 @@ row_8_lawful =
 pub row_9_lawful : IsLawful row_9
 row_9_lawful =
     each_placed (λ a i. IsLawfulAt row_9 a i) row_9_code (
-      lawful row_9 _ _ _ (inr refl) (omega arith) refl (refl, (refl, tt)),
+      lawful row_9 _ _ _ (inr refl) (omega arith) (omega arith) (refl, (refl, tt)),
       (lawful row_9 _ _ _ (inr refl) (omega arith) refl tt, tt),
     )
 
@@ -86,11 +86,11 @@ row_10_lawful =
     each_placed (λ a i. IsLawfulAt row_10 a i) row_10_code (
       lawful row_10 _ _ _ (inr refl) (omega arith) refl (refl, (refl, tt)),
       (
-        lawful row_10 _ _ _ (inr refl) (omega arith) refl (refl, (refl, tt)),
+        lawful row_10 _ _ _ (inr refl) (omega arith) (omega arith) (refl, (refl, tt)),
         (
           lawful row_10 _ _ _ (inr refl) (omega arith) refl tt,
           (
-            lawful row_10 _ _ _ (inr refl) (omega arith) refl (refl, (refl, tt)),
+            lawful row_10 _ _ _ (inr refl) (omega arith) (omega arith) (refl, (refl, tt)),
             (lawful row_10 _ _ _ (inr refl) (omega arith) refl tt, tt),
           ),
         ),

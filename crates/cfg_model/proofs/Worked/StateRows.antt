@@ -1,12 +1,12 @@
 -- Row 23: the state's events on the code of row 8, each with its reason, from the empty state.
 use Rattle.std.proofs.Common.{◌≡◌, ℕ, List, [], ◌∷◌, refl, sym, subst, arith}
-use Rattle.std.specs.Prelude.{◌≤◌, Contains, Option, Some, true, false}
+use Rattle.std.specs.Prelude.{◌≤◌, Contains, Some, true, false}
 use mathlib.Core.Logic.{inl, inr}
 use Rattle.std.specs.FinMap as maps
 use Rattle.std.specs.FinSet as sets
 use Rattle.cfg_model.specs.declared.state.Mark.TheVariants as marks
 use Rattle.cfg_model.specs.Program.Chain.{OnChain, IsTerminatorOf}
-use Rattle.cfg_model.specs.Program.Successors.{IsSuccessor, IsCall}
+use Rattle.cfg_model.specs.Program.Successors.{IsSuccessor}
 use Rattle.cfg_model.specs.Builder.Waiter.{follower}
 use Rattle.cfg_model.specs.Builder.Waits.{FollowsFrom, IsTarget}
 use Rattle.cfg_model.specs.Program.Meeting.{IsMeeting}
@@ -283,15 +283,12 @@ step_13 = simp maps.gets
 at_13 : maps.get terminators_13 0x10008 ≡ Some new_entry
 at_13 = simp maps.gets
 
--- 10008 ends the chain of a way on of the branch at 10004, which is no call
-depends : FollowsFrom row_8 0x10008 0x10004
+-- 10008 ends the chain of a way on of the branch at 10004, whatever is known of calls
+depends : {MayReturn : ℕ → Type 0} → FollowsFrom row_8 MayReturn 0x10008 0x10004
 depends = FollowsFrom.onward tt fall_in end_8
 
-no_call : (target : ℕ) (fall : Option ℕ) → IsCall row_8 0x10004 target fall → ⊥
-no_call target fall call = cc
-
 may_14 : May row_8 seeds state_13 (Event.Wait 0x10008 (follower 0x10004))
-may_14 = record { reason = record { entered = simp maps.gets; waiter = simp maps.gets; depends = depends; callee = λ target fall call. absurd (no_call target fall call) }; fits = tt }
+may_14 = record { reason = record { entered = simp maps.gets; waiter = simp maps.gets; depends = depends }; fits = tt }
 
 abbrev state_14 : BuilderState
 state_14 = state_of starts_12 ends_9 terminators_14
@@ -303,7 +300,7 @@ at_14 : maps.get terminators_14 0x10008 ≡ Some waiting
 at_14 = simp maps.gets
 
 may_15 : May row_8 seeds state_14 (Event.Wait 0x10008 (follower 0x10004))
-may_15 = record { reason = record { entered = simp maps.gets; waiter = simp maps.gets; depends = depends; callee = λ target fall call. absurd (no_call target fall call) }; fits = tt }
+may_15 = record { reason = record { entered = simp maps.gets; waiter = simp maps.gets; depends = depends }; fits = tt }
 
 -- false: it waits there already
 step_15 : Steps row_8 state_14 (Event.Wait 0x10008 (follower 0x10004)) state_14

@@ -18,8 +18,8 @@ pub two_and_a_half : kept_before addresses 0x20014 ≡ 2
 two_and_a_half = refl
 
 -- So a table of one entry is not cut, wherever another begins in it.
-pub one_entry_not_cut : (tables : Tables) (IsCounted : ℕ → Type 0) (j kept : ℕ) (cut : IsCutTo tables IsCounted j kept) → cut.table.count ≡ 1 → ⊥
-one_entry_not_cut tables IsCounted j kept cut one =
+pub one_entry_not_cut : (tables : Tables) (j kept : ℕ) (cut : IsCutTo tables j kept) → cut.table.count ≡ 1 → ⊥
+one_entry_not_cut tables j kept cut one =
     omega (arith, one, cut.fewer, cut.entries, le-max_left 1 ((cut.base - cut.table.base) / cut.table.width))
 
 -- A jump through an open table ends its block in one way, whether the table was cut or not.

@@ -1,11 +1,11 @@
 -- Row 10: waiters are placed, and told once what they wait for has been done.
-use Rattle.std.proofs.Common.{◌≡◌, ℕ, List, [], ◌∷◌, refl, subst, arith}
-use Rattle.std.specs.Prelude.{Contains, Option, Some, true, false, IsSome}
+use Rattle.std.proofs.Common.{◌≡◌, ℕ, List, [], ◌∷◌, refl, arith}
+use Rattle.std.specs.Prelude.{Contains, Some, true, false, IsSome}
 use mathlib.Core.Logic.{inl, inr}
 use Rattle.std.specs.FinMap as maps
 use Rattle.cfg_model.specs.declared.state.Mark.TheVariants as marks
 use Rattle.cfg_model.specs.Program.Chain.{OnChain, IsTerminatorOf}
-use Rattle.cfg_model.specs.Program.Successors.{IsSuccessor, IsCall}
+use Rattle.cfg_model.specs.Program.Successors.{IsSuccessor}
 use Rattle.cfg_model.specs.Builder.Waiter.{follower, released}
 use Rattle.cfg_model.specs.Builder.Waits.{FollowsFrom, IsTarget}
 use Rattle.cfg_model.specs.Builder.Event.{Event, Steps, new_entry}
@@ -118,11 +118,8 @@ state_of starts terminators = record { starts = starts; ends = maps.empty; termi
 abbrev opened : BuilderState
 opened = state_of starts_4 entered
 
-no_call : (target : ℕ) (fall : Option ℕ) → IsCall row_10 0x10000 target fall → ⊥
-no_call target fall call = cc
-
 may_wait_1 : May row_10 seeds opened (Event.Wait 0x10008 (follower 0x10000))
-may_wait_1 = record { reason = record { entered = simp maps.gets; waiter = simp maps.gets; depends = FollowsFrom.onward tt taken_in itself_8; callee = λ target fall call. absurd (no_call target fall call) }; fits = tt }
+may_wait_1 = record { reason = record { entered = simp maps.gets; waiter = simp maps.gets; depends = FollowsFrom.onward tt taken_in itself_8 }; fits = tt }
 
 at_8 : maps.get entered 0x10008 ≡ Some new_entry
 at_8 = simp maps.gets
@@ -131,7 +128,7 @@ step_wait_1 : Steps row_10 opened (Event.Wait 0x10008 (follower 0x10000)) (state
 step_wait_1 = rw at_8 (simp maps.gets)
 
 may_wait_2 : May row_10 seeds (state_of starts_4 waiting_1) (Event.Wait 0x10000 (released 0x1000c))
-may_wait_2 = record { reason = record { entered = simp maps.gets; waiter = simp maps.gets; depends = record { target = 0x10000; fall = 0x10010; call = refl; callee = itself_0 }; callee = tt }; fits = tt }
+may_wait_2 = record { reason = record { entered = simp maps.gets; waiter = simp maps.gets; depends = record { target = 0x10000; fall = 0x10010; call = refl; callee = itself_0 } }; fits = tt }
 
 at_0 : maps.get waiting_1 0x10000 ≡ Some new_entry
 at_0 = simp maps.gets
@@ -140,7 +137,7 @@ step_wait_2 : Steps row_10 (state_of starts_4 waiting_1) (Event.Wait 0x10000 (re
 step_wait_2 = rw at_0 (simp maps.gets)
 
 may_wait_3 : May row_10 seeds (state_of starts_4 waiting_2) (Event.Wait 0x1000c (released 0x10004))
-may_wait_3 = record { reason = record { entered = simp maps.gets; waiter = simp maps.gets; depends = record { target = 0x1000c; fall = 0x10008; call = refl; callee = itself_c }; callee = tt }; fits = tt }
+may_wait_3 = record { reason = record { entered = simp maps.gets; waiter = simp maps.gets; depends = record { target = 0x1000c; fall = 0x10008; call = refl; callee = itself_c } }; fits = tt }
 
 at_c : maps.get waiting_2 0x1000c ≡ Some new_entry
 at_c = simp maps.gets
@@ -211,9 +208,6 @@ step_enter = simp maps.gets
 at_0-released : maps.get released_1 0x10000 ≡ Some (record entry_0 { returned = true })
 at_0-released = simp maps.gets
 
-only_call : (target : ℕ) (fall : Option ℕ) → IsCall row_10 0x1000c target fall → 0x10000 ≡ target
-only_call target fall call = cc
-
 callee_released : EndReturns row_10 (Holds row_10 (state_of starts_5 released_1)) 0x10000
 callee_released = record { end = 0x10000; ends = itself_0; returned = rw at_0-released refl }
 
@@ -223,8 +217,7 @@ may_follow =
       reason = record {
         entered = simp maps.gets;
         waiter = simp maps.gets;
-        depends = FollowsFrom.past_call {target = 0x10000} refl itself_10;
-        callee = λ target fall call. subst (EndReturns row_10 (Holds row_10 (state_of starts_5 released_1))) (only_call target fall call) callee_released;
+        depends = FollowsFrom.past_call {target = 0x10000} refl callee_released itself_10;
       };
       fits = tt;
     }

@@ -1,11 +1,8 @@
 -- Facts: what may be known of a builder's state and stays true whatever else happens to it.
-use Rattle.std.specs.Prelude.{ℕ, List, Option, IsSome}
-use Rattle.cfg_model.specs.declared.state.WaitKind.{WaitKind}
-use Rattle.cfg_model.specs.declared.state.WaitKind.TheVariants.{Follow, Release}
+use Rattle.std.specs.Prelude.{ℕ, List, IsSome}
 use Rattle.cfg_model.specs.declared.state.Waiter.{Waiter}
 use Rattle.cfg_model.specs.Program.Instructions.{InstructionMap}
 use Rattle.cfg_model.specs.Program.Chain.{OnChain, IsTerminator}
-use Rattle.cfg_model.specs.Program.Successors.{IsCall}
 use Rattle.cfg_model.specs.Program.Status.{Returns}
 use Rattle.cfg_model.specs.Program.Reach.{Reached}
 use Rattle.cfg_model.specs.Graph.Leader.{IsLeader}
@@ -45,19 +42,10 @@ pub record IsReachedTerminator (map : InstructionMap) (seeds : List ℕ) (k : �
   pub reached : Reached map seeds k
   pub ends : IsTerminator map k
 
--- If this terminator is a call and follows another one, the call's target is such. Of a terminator
--- that is no call, or waits to be released, it says nothing.
-abbrev pub WhereCallFollows : InstructionMap → (ℕ → Type 0) → ℕ → WaitKind → Type 0
-WhereCallFollows map Such terminator Follow =
-    (target : ℕ) (fall : Option ℕ) → IsCall map terminator target fall → Such target
-WhereCallFollows map Such terminator Release = Unit {0}
-
--- What a wait says of the program alone: w depends on k and is a reachable terminator, and a call
--- that follows has a target that returns.
+-- What a wait says of the program alone: w depends on k, and is a reachable terminator.
 pub record IsSoundWait (map : InstructionMap) (seeds : List ℕ) (k : ℕ) (w : Waiter) : Type 0 where
-  pub depends : Depends map k w
+  pub depends : Depends map (Returns map) k w
   pub waiter : IsReachedTerminator map seeds w.terminator
-  pub callee : WhereCallFollows map (Returns map) w.terminator w.kind
 
 -- What a fact says of the program alone, whatever the state: it is true of the least closure.
 abbrev pub IsSoundFact : InstructionMap → List ℕ → Fact → Type 0

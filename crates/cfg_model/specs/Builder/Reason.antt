@@ -12,7 +12,7 @@ use Rattle.cfg_model.specs.Builder.Waits.{Depends, IsTarget, IsWait}
 use Rattle.cfg_model.specs.Builder.Waiter.{follower}
 use Rattle.cfg_model.specs.Program.Meeting.{IsStop}
 use Rattle.cfg_model.specs.Builder.Event.{Event}
-use Rattle.cfg_model.specs.Builder.Fact.{Fact, Holds, WhereCallFollows}
+use Rattle.cfg_model.specs.Builder.Fact.{Fact, Holds}
 use Rattle.cfg_model.specs.Builder.State.{BuilderState, EndMap, IsNear}
 
 -- The terminator of the chain of t is known to return.
@@ -69,13 +69,12 @@ pub record TerminatorReason (map : InstructionMap) (Known : Fact → Type 0) (k 
   pub start : Known (Fact.Start from)
   pub ends : IsTerminatorOf map from k
 
--- w may wait at k: both are entered, w depends on k, and a call that follows was released.
+-- w may wait at k: both are entered, and w depends on k, as far as it is known which calls return.
 pub record WaitReason (map : InstructionMap) (Known : Fact → Type 0) (k : ℕ)
     (w : Waiter) : Type 0 where
   pub entered : Known (Fact.Terminator k)
   pub waiter : Known (Fact.Terminator w.terminator)
-  pub depends : Depends map k w
-  pub callee : WhereCallFollows map (EndReturns map Known) w.terminator w.kind
+  pub depends : Depends map (EndReturns map Known) k w
 
 -- The terminator follows one that is known to return.
 pub record FollowsReturned (Known : Fact → Type 0) (k : ℕ) : Type 0 where

@@ -8,14 +8,15 @@ use Rattle.cfg_model.specs.Program.Instructions.{InstructionMap}
 use Rattle.cfg_model.specs.Program.Chain.{IsTerminator, IsTerminatorOf}
 use Rattle.cfg_model.specs.Program.Successors.{IsSuccessor, IsCall}
 
--- The terminator at this address returns if the one at k does, as far as its ways on decide. This
--- is so if k ends the chain of one of its successors, or of the fall if it is a call. A call also
--- needs that its target returns (return status of Meng et al., PPoPP 2021).
-pub data FollowsFrom (map : InstructionMap) (k terminator : ℕ) : Type 0 where
+-- The terminator at this address returns if the one at k does. This is so if k ends the chain of one
+-- of its successors, or of the fall if it is a call whose target is among those that return (return
+-- status of Meng et al., PPoPP 2021).
+pub data FollowsFrom (map : InstructionMap) (MayReturn : ℕ → Type 0) (k terminator : ℕ)
+    : Type 0 where
   onward : {to : ℕ} → IsTerminator map terminator → IsSuccessor map terminator to
-      → IsTerminatorOf map to k → FollowsFrom map k terminator
-  past_call : {target fall : ℕ} → IsCall map terminator target (Some fall)
-      → IsTerminatorOf map fall k → FollowsFrom map k terminator
+      → IsTerminatorOf map to k → FollowsFrom map MayReturn k terminator
+  past_call : {target fall : ℕ} → IsCall map terminator target (Some fall) → MayReturn target
+      → IsTerminatorOf map fall k → FollowsFrom map MayReturn k terminator
 
 -- The terminator at this address is a call with a fall, and k ends the chain of its target, so that
 -- the return of k frees the fall (call fall-through edges of Meng et al.).
@@ -25,17 +26,18 @@ pub record IsReleasedBy (map : InstructionMap) (k terminator : ℕ) : Type 0 whe
   pub call : IsCall map terminator target (Some fall)
   pub callee : IsTerminatorOf map target k
 
--- What it is for a terminator to depend on k, by the kind of its wait.
-abbrev pub DependsAs : InstructionMap → ℕ → ℕ → WaitKind → Type 0
-DependsAs map k terminator Follow = FollowsFrom map k terminator
-DependsAs map k terminator Release = IsReleasedBy map k terminator
+-- What it is for a terminator to depend on k, by the kind of its wait, if these targets return.
+abbrev pub DependsAs : InstructionMap → (ℕ → Type 0) → ℕ → ℕ → WaitKind → Type 0
+DependsAs map MayReturn k terminator Follow = FollowsFrom map MayReturn k terminator
+DependsAs map MayReturn k terminator Release = IsReleasedBy map k terminator
 
 -- The waiter depends on k.
-abbrev pub Depends : InstructionMap → ℕ → Waiter → Type 0
-Depends map k w = DependsAs map k w.terminator w.kind
+abbrev pub Depends : InstructionMap → (ℕ → Type 0) → ℕ → Waiter → Type 0
+Depends map MayReturn k w = DependsAs map MayReturn k w.terminator w.kind
 
 -- The targets of a terminator: the addresses that become starts on account of it alone. They are
--- its successors, and the target of a call. (The fall of a call waits for the target's return.)
+-- its successors, a landing pad among them, and the target of a call. (The fall of a call waits for
+-- the target's return.)
 pub data IsTarget (map : InstructionMap) (terminator to : ℕ) : Type 0 where
   onward : IsSuccessor map terminator to → IsTarget map terminator to
   called : {fall : Option ℕ} → IsCall map terminator to fall → IsTarget map terminator to

@@ -21,6 +21,7 @@ rank kinds.Tail = 3
 rank kinds.Call = 4
 rank kinds.After = 5
 rank kinds.Table = 6
+rank kinds.Landing = 7
 
 -- Blocks are in order by where they start, functions by their entries.
 abbrev pub BlockBefore : Block → Block → Type 0

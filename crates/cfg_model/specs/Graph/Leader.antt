@@ -9,11 +9,13 @@ use Rattle.cfg_model.specs.Program.Status.{Returns}
 use Rattle.cfg_model.specs.Program.Reach.{Reached}
 
 -- The addresses that a flow sends control to: the taken target of a branch, the target of a jump or
--- call, the kept targets of a table. Going on and returning from a known call do not count.
+-- call, the kept targets of a table, the landing pad of a call. Going on and returning from a known
+-- call do not count.
 abbrev pub targets_by : List ℕ → Flow → List ℕ
 targets_by kept (Branch taken fall) = option_to_list taken
 targets_by kept (Jump target) = target ∷ []
-targets_by kept (Call target fall) = target ∷ []
+targets_by kept (Call target fall) = target ∷ kept
+targets_by kept (IndirectCall fall) = kept
 targets_by kept (Table entries full is_open) = kept
 targets_by kept _ = []
 

@@ -1,7 +1,5 @@
 -- Table cuts: how many entries of a jump table are kept where another jump table begins inside it.
-use Rattle.std.specs.Prelude.{◌≡◌, ◌↔◌, ℕ, ◌+◌, ◌-◌, ◌*◌, ◌/◌, ◌<◌, ◌≤◌, max, List, Option, Some}
-use Rattle.cfg_model.specs.Program.Instructions.{InstructionMap}
-use Rattle.cfg_model.specs.Program.Reach.{Reached}
+use Rattle.std.specs.Prelude.{◌≡◌, ◌↔◌, ℕ, ◌+◌, ◌-◌, ◌*◌, ◌/◌, ◌<◌, ◌≤◌, max, Option, Some}
 
 -- Where a jump table lies: its base, the width of its entries in bytes, and their number.
 pub record Extent : Type 0 where
@@ -13,11 +11,9 @@ pub record Extent : Type 0 where
 abbrev pub Tables : Type 0
 Tables = ℕ → Option Extent
 
--- b is the base of the jump table of a jump that counts, strictly inside this one.
-pub record IsBaseInside (tables : Tables) (IsCounted : ℕ → Type 0) (table : Extent)
-    (b : ℕ) : Type 0 where
+-- b is the base of the jump table of some jump, reached or not, strictly inside this one.
+pub record IsBaseInside (tables : Tables) (table : Extent) (b : ℕ) : Type 0 where
   pub jump : ℕ
-  pub counts : IsCounted jump
   pub other : Extent
   pub at_jump : tables jump ≡ Some other
   pub base : other.base ≡ b
@@ -29,26 +25,22 @@ abbrev pub kept_before : Extent → ℕ → ℕ
 kept_before table b = max 1 ((b - table.base) / table.width)
 
 -- The jump table of j is cut to this many entries, fewer than it has: up to the least base of
--- another one inside it. The jumps that count are those reached if none is cut (this project's
--- profile).
-pub record IsCutTo (tables : Tables) (IsCounted : ℕ → Type 0) (j kept : ℕ) : Type 0 where
-  pub counts : IsCounted j
+-- another one inside it. All jumps that have a table count, reached or not (this project's profile).
+pub record IsCutTo (tables : Tables) (j kept : ℕ) : Type 0 where
   pub table : Extent
   pub at_jump : tables j ≡ Some table
   pub base : ℕ
-  pub inside : IsBaseInside tables IsCounted table base
-  pub least : (b : ℕ) → IsBaseInside tables IsCounted table b → base ≤ b
+  pub inside : IsBaseInside tables table base
+  pub least : (b : ℕ) → IsBaseInside tables table b → base ≤ b
   pub entries : kept ≡ kept_before table base
   pub fewer : kept < table.count
 
 -- These are the cuts of the jump tables: for each jump the number of entries kept, if it is cut.
-abbrev pub AreCuts : Tables → (ℕ → Type 0) → (ℕ → Option ℕ) → Type 0
-AreCuts tables IsCounted cuts =
-    (j kept : ℕ) → (cuts j ≡ Some kept) ↔ IsCutTo tables IsCounted j kept
+abbrev pub AreCuts : Tables → (ℕ → Option ℕ) → Type 0
+AreCuts tables cuts = (j kept : ℕ) → (cuts j ≡ Some kept) ↔ IsCutTo tables j kept
 
--- The cuts of jump tables are determined, if the jumps that are reached in a program count.
+-- The cuts of jump tables are determined.
 abbrev pub CutsAreUnique : Type 0
 CutsAreUnique =
-    (tables : Tables) (map : InstructionMap) (seeds : List ℕ) (cuts others : ℕ → Option ℕ)
-    → AreCuts tables (Reached map seeds) cuts → AreCuts tables (Reached map seeds) others
+    (tables : Tables) (cuts others : ℕ → Option ℕ) → AreCuts tables cuts → AreCuts tables others
     → cuts ≡ others

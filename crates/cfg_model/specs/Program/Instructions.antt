@@ -1,13 +1,14 @@
 -- A program as a control-flow graph sees it: a finite map from addresses to instructions.
-use Rattle.std.specs.Prelude.{◌≡◌, ℕ, ◌+◌, ◌<◌, ◌^◌, ◌⊎◌, List, [], ◌∷◌, ◌++◌}
+use Rattle.std.specs.Prelude.{◌≡◌, ℕ, ◌+◌, ◌<◌, ◌≤◌, ◌^◌, ◌⊎◌, List, [], ◌∷◌, ◌++◌}
 use Rattle.std.specs.Prelude.{length, All, Option, Some, IsSome, option_to_list}
 use Rattle.std.specs.Option.{option_map, option_map_or}
 use Rattle.cfg_model.specs.declared.flow.Flow.{Flow}
 use Rattle.cfg_model.specs.declared.flow.Flow.TheVariants.{Straight, Branch, Jump}
 use Rattle.cfg_model.specs.declared.flow.Flow.TheVariants.{Call, IndirectCall, Table}
 
--- One instruction: its length in bytes, its flow, and, if that is a table jump, the targets kept in
--- the table, in its order.
+-- One instruction: its length in bytes, its flow, and its kept targets. Those of a table jump are
+-- kept in the table, in its order; that of a call is its landing pad, where it goes on if the callee
+-- throws.
 pub record Instruction : Type 0 where
   pub bytes : ℕ
   pub flow : Flow
@@ -25,7 +26,7 @@ flow_at map a = option_map (λ i. i.flow) (map a)
 abbrev pub length_at : InstructionMap → ℕ → Option ℕ
 length_at map a = option_map (λ i. i.bytes) (map a)
 
--- Its kept targets; none but at a table jump.
+-- Its kept targets; none but at a table jump or a call.
 abbrev pub targets_at : InstructionMap → ℕ → List ℕ
 targets_at map a = option_map_or (λ i. i.targets) (map a) []
 
@@ -39,9 +40,11 @@ named_by (IndirectCall fall) = option_to_list fall
 named_by _ = []
 
 -- A straight instruction goes on right after itself. A table jump keeps the number of targets that
--- it says, one at least. No other instruction has kept targets.
+-- it says, one at least. A call has one landing pad at most. No other instruction has kept targets.
 abbrev pub FlowFits : ℕ → Instruction → Flow → Type 0
 FlowFits a i (Straight next) = (next ≡ a + i.bytes) × (i.targets ≡ [])
+FlowFits a i (Call target fall) = length i.targets ≤ 1
+FlowFits a i (IndirectCall fall) = length i.targets ≤ 1
 FlowFits a i (Table entries full is_open) = (entries ≡ length i.targets) × (0 < entries)
 FlowFits a i _ = i.targets ≡ []
 

@@ -6,14 +6,16 @@ use Rattle.cfg_model.specs.declared.flow.Flow.TheVariants.{Straight, Branch, Jum
 use Rattle.cfg_model.specs.declared.flow.Flow.TheVariants.{IndirectCall, Table, Return, Unknown}
 use Rattle.cfg_model.specs.Program.Instructions.{InstructionMap, flow_at, targets_at}
 
--- The intraprocedural successors that a flow gives, for the kept targets of a table. They are the
--- next address, both ways of a branch, the target of a jump, the kept targets, and the fall of a
--- call through a register. A call of a known address has none: its fall depends on its target.
+-- The intraprocedural successors that a flow gives, for these kept targets. They are the next
+-- address, both ways of a branch, the target of a jump, the kept targets of a table, the landing pad
+-- of a call, and the fall of a call through a register. The fall of a call of a known address is
+-- none: it depends on the target.
 abbrev pub successors_by : List ℕ → Flow → List ℕ
 successors_by kept (Straight next) = next ∷ []
 successors_by kept (Branch taken fall) = option_to_list taken ++ option_to_list fall
 successors_by kept (Jump target) = target ∷ []
-successors_by kept (IndirectCall fall) = option_to_list fall
+successors_by kept (Call target fall) = kept
+successors_by kept (IndirectCall fall) = option_to_list fall ++ kept
 successors_by kept (Table entries full is_open) = kept
 successors_by kept _ = []
 
@@ -31,6 +33,17 @@ IsSuccessor map a b = Contains (successors_of map a) b
 -- The instruction at a calls the known address target; fall is where it returns to.
 abbrev pub IsCall : InstructionMap → ℕ → ℕ → Option ℕ → Type 0
 IsCall map a target fall = flow_at map a ≡ Some (Call target fall)
+
+-- A flow that calls, a known address or through a register.
+abbrev pub Calls : Option Flow → Type 0
+Calls (Some (Call target fall)) = Unit {0}
+Calls (Some (IndirectCall fall)) = Unit {0}
+Calls _ = ⊥
+
+-- The instruction at a is a call, of a known address or through a register: it may have a landing
+-- pad.
+abbrev pub MayLand : InstructionMap → ℕ → Type 0
+MayLand map a = Calls (flow_at map a)
 
 -- A flow that leaves the function: a return, a jump to where nothing is known, or a branch that is
 -- cut off, since its other way leads out of the code.

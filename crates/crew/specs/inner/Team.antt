@@ -2,7 +2,7 @@
 use Rattle.std.specs.Prelude.{◌≡◌, ℕ, ◌+◌, ◌≤◌, List, All, length, map, Some, slice_get}
 use Rattle.cfg_model.specs.Program.Instructions.{InstructionMap}
 use Rattle.cfg_model.specs.Program.Reach.{AreSeeds}
-use Rattle.turn_slots.specs.Share.{IsSame}
+use Rattle.board.specs.Locks.Share.{IsSame}
 use Rattle.board.specs.Slots.{BoardId}
 use Rattle.board.specs.Seat.{SeatState, HoldsNothing}
 use Rattle.steal_pool.specs.Pool.{PoolValue, HandValue, DequeId, IsHandOf}

@@ -1,6 +1,6 @@
 -- What a worker has, and what it knows.
 use Rattle.std.specs.Prelude.{◌≡◌, ℕ, List, sum}
-use Rattle.turn_slots.specs.Share.{Share}
+use Rattle.board.specs.Locks.Share.{Share}
 use Rattle.cfg_model.specs.Program.Instructions.{InstructionMap}
 use Rattle.cfg_model.specs.Builder.Fact.{Fact, IsSoundFact}
 use Rattle.board.specs.Slots.{BoardId}

@@ -22,7 +22,7 @@ HasOperands (insns.Jalr rd rs1 imm) = IsRegister rd × IsRegister rs1
 HasOperands (insns.Branch kind rs1 rs2 offset) = IsRegister rs1 × IsRegister rs2
 HasOperands (insns.Load kind rd rs1 imm) = IsRegister rd × IsRegister rs1
 HasOperands (insns.Imm kind rd rs1 imm) = IsRegister rd × IsRegister rs1 × IsImmediate imm
-HasOperands (insns.ImmW kind rd rs1 imm) = IsRegister rd
+HasOperands (insns.ImmW kind rd rs1 imm) = IsRegister rd × IsRegister rs1
 HasOperands (insns.Reg kind rd rs1 rs2) = IsRegister rd × IsRegister rs1 × IsRegister rs2
 HasOperands (insns.RegW kind rd rs1 rs2) = IsRegister rd
 HasOperands (insns.Atomic kind wide acquire release rd rs1 rs2) = IsRegister rd
@@ -31,4 +31,6 @@ HasOperands (insns.Float writes reads) = IsRegister writes
 HasOperands (insns.ShiftAdd shift zero_extended rd rs1 rs2) =
     IsRegister rd × IsRegister rs1 × IsRegister rs2
 HasOperands (insns.Extend kind rd rs1) = IsRegister rd × IsRegister rs1
+HasOperands (insns.Vendor kind shift rd rs1 rs2) =
+    IsRegister rd × IsRegister rs1 × IsRegister rs2
 HasOperands _ = Unit {0}

@@ -110,7 +110,7 @@ step_4 : Steps row_9 state_3 (Event.Parsed 0x10000) state_4
 step_4 = simp maps.gets
 
 may_5 : May row_9 seeds state_4 (Event.Wait 0x10000 (released 0x10000))
-may_5 = record { reason = record { entered = simp maps.gets; waiter = simp maps.gets; depends = record { target = 0x10000; fall = 0x10004; call = refl; callee = itself }; callee = tt }; fits = tt }
+may_5 = record { reason = record { entered = simp maps.gets; waiter = simp maps.gets; depends = record { target = 0x10000; fall = 0x10004; call = refl; callee = itself } }; fits = tt }
 
 at_4 : maps.get entered 0x10000 ≡ Some new_entry
 at_4 = simp maps.gets

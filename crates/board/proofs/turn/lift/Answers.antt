@@ -1,5 +1,5 @@
 use Rattle.std.proofs.Common.{refl, sym, ap, ◌∙◌, subst, arith, Some, None, ◌∷◌, []}
-use Rattle.turn_slots.specs.Share.{IsAboveZero}
+use Rattle.board.specs.Locks.Share.{IsAboveZero}
 use Rattle.board.specs.Seat.{HasSlot}
 use Rattle.board.proofs.Hands.{leaves}
 use Rattle.board.proofs.Turns.{slot_out, found_is, laid, has_values, left}

@@ -1,24 +1,28 @@
-use Rattle.std.proofs.Common.{◌+◌, ◌^◌, ◌-◌, refl, arith, rules}
-use Rattle.cert_make.proofs.Settling.{no_return_after, no_target, rank_below, settled_by_call}
+use Rattle.std.proofs.Common.{◌<◌, ◌≤◌, sym, subst, refl, arith}
+use Rattle.cert_text.specs.declared.lines.ReturnLine.{ReturnLine}
+use Rattle.cert_make.specs.Inner.Returns.{IsSettledFor}
+use Rattle.cert_make.proofs.Settling.{both_alone, both_nearer, way_first}
 use Rattle.cert_make.proofs.returns.by_call.Goals as goal
 
-pub returns-in_err-one : goal.returns-in_err-one
-returns-in_err-one g c =
-    rw c.from_residual-in_err-one.ensures (no_target (g.C.Chains.map c.args.code.now) c.args.returns.now.lines.now c.args.k c.args.target c.in_ok-fall.fall (search rules) c.in_err-one.ensures)
+pub returns-then-way-rank : goal.returns-then-way-rank
+returns-then-way-rank g c =
+    let map = g.C.Chains.map c.args.code.now in
+    let lines = c.args.returns.now.lines.now in
+    let low : c.in-Some.way.rank ≤ c.args.rank = omega arith in
+    subst (λ (l : ReturnLine). IsSettledFor map lines c.args.k l) (sym c.line_of.ensures)
+    (refl, way_first map lines c.args.k c.in-Some.way.rank c.in-Some.way.to c.args.rank c.args.successors.now c.requires.successors c.requires.stays c.requires.both c.in-Some.ensures low)
 
-pub returns-in_err-other : goal.returns-in_err-other
-returns-in_err-other g c =
-    rw c.from_residual-in_err-other.ensures (no_return_after (g.C.Chains.map c.args.code.now) c.args.returns.now.lines.now c.args.k c.args.target c.in_ok-fall.fall (search rules) c.in_err-other.ensures)
+pub returns-else-way-rank : goal.returns-else-way-rank
+returns-else-way-rank g c =
+    let map = g.C.Chains.map c.args.code.now in
+    let lines = c.args.returns.now.lines.now in
+    let lower : c.args.rank < c.in-Some.way.rank = omega arith in
+    subst (λ (l : ReturnLine). IsSettledFor map lines c.args.k l) (sym c.line_of-else-way-rank.ensures)
+    (refl, both_nearer map lines c.args.k c.args.rank c.in-Some.way.rank c.in-Some.way.to c.args.successors.now c.requires.successors c.requires.stays c.requires.both c.in-Some.ensures lower)
 
-pub overflow_add-result : goal.overflow_add-result
-overflow_add-result g c =
-    let one_low = rank_below (g.C.Chains.map c.args.code.now) c.args.returns.now.lines.now c.in_ok-one.one c.args.target (2 ^ 64 - 1) c.requires.ranks c.in_ok-one.ensures in
-    let other_low = rank_below (g.C.Chains.map c.args.code.now) c.args.returns.now.lines.now c.in_ok-other.other c.in_ok-fall.fall (2 ^ 64 - 1) c.requires.ranks c.in_ok-other.ensures in
-    omega (arith, c.max.ensures, one_low, other_low)
-
-pub returns : goal.returns
-returns g c = (
-  refl,
-  settled_by_call (g.C.Chains.map c.args.code.now) c.args.returns.now.lines.now c.args.k c.args.target c.in_ok-fall.fall c.in_ok-one.one c.in_ok-other.other
-      (search rules) c.in_ok-one.ensures c.in_ok-other.ensures (c.max.result + 1) (omega (arith, c.max.ensures)) (omega (arith, c.max.ensures)) (λ more one other. omega (arith, c.max.ensures, one, other)),
-)
+pub returns-in-None : goal.returns-in-None
+returns-in-None g c =
+    let map = g.C.Chains.map c.args.code.now in
+    let lines = c.args.returns.now.lines.now in
+    subst (λ (l : ReturnLine). IsSettledFor map lines c.args.k l) (sym c.line_of-in-None.ensures)
+    (refl, both_alone map lines c.args.k c.args.rank c.args.successors.now c.requires.successors c.requires.stays c.requires.both c.in-None.ensures)

@@ -1,5 +1,5 @@
 use Rattle.std.proofs.Common.{◌+◌, ◌^◌, ◌-◌, refl, arith}
-use Rattle.cert_make.proofs.Settling.{no_successor, rank_below, settled_by_first}
+use Rattle.cert_make.proofs.Settling.{no_successor, rank_below, way_alone}
 use Rattle.cert_make.proofs.returns.by_successors.Goals as goal
 
 pub returns-in_err-way : goal.returns-in_err-way
@@ -13,6 +13,6 @@ overflow_add-result g c =
 pub returns : goal.returns
 returns g c = (
   refl,
-  settled_by_first (g.C.Chains.map c.args.code.now) c.args.returns.now.lines.now c.args.k c.in_ok-way.way.rank (c.in_ok-way.way.rank + 1) c.in_ok-way.way.to c.args.successors.now
-      c.requires.successors c.requires.stays c.requires.no_call c.in_ok-way.ensures refl,
+  way_alone (g.C.Chains.map c.args.code.now) c.args.returns.now.lines.now c.args.k c.in_ok-way.way.rank c.in_ok-way.way.to c.args.successors.now
+      c.requires.successors c.requires.stays c.requires.no_call c.in_ok-way.ensures,
 )

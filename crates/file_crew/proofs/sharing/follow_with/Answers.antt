@@ -1,5 +1,5 @@
 use Rattle.std.proofs.lemmas.Result.{IfOk-weaker}
-use Rattle.reached_cuts.specs.Reach.{IsReachOf}
+use Rattle.file_graph.specs.Reach.{IsReachOf}
 use Rattle.file_crew.proofs.sharing.follow_with.Goals as goal
 
 pub returns : goal.returns

@@ -1,6 +1,7 @@
 use Rattle.std.proofs.Common.{◌≡◌, ◌∙◌, sym, subst, arith, length, get_or, ◌+◌, false}
 use Rattle.table_cuts.specs.Extents.{extent_of}
 use Rattle.table_cuts.specs.Inner.{CutBy}
+use Rattle.code_view.specs.Tables.{AreAllTables}
 use Rattle.code_view.specs.declared.table_jump.TableJump.{TableJump}
 use Rattle.table_cuts.proofs.Found.{some_width}
 use Rattle.table_cuts.proofs.Kept.{HaveCuts, cuts-none, cuts-one, cuts-past, cuts-all, cuts-fit}
@@ -12,16 +13,18 @@ past : TableJump
 past = record { jump = 0; table = record { base = 0; width = 0; count = 0; bound = 0; add = 0; is_open = false } }
 
 pub loop-found-init : goal.loop-found-init
-loop-found-init c = subst (λ cuts. HaveCuts c.args.jumps.now c.in_ok-bases.bases.items cuts 0) (sym c.none-cuts.ensures) (cuts-none c.args.jumps.now c.in_ok-bases.bases.items)
+loop-found-init c = subst (λ cuts. HaveCuts c.jumps-jumps.result.now c.in_ok-bases.bases.items cuts 0) (sym c.none-cuts.ensures) (cuts-none c.jumps-jumps.result.now c.in_ok-bases.bases.items)
 
 pub cut_by-requires-clause-width : goal.cut_by-requires-clause-width
 unfolding past
-cut_by-requires-clause-width c = some_width c.args.jumps.now c.loop-found.found-index 0 past c.loop-found-test.true c.requires.0 c.requires.1
+cut_by-requires-clause-width c =
+    let all_of : AreAllTables c.requires.0 c.jumps-jumps.result.now = subst (AreAllTables c.requires.0) (sym c.jumps-jumps.ensures) c.requires.1 in
+    some_width c.jumps-jumps.result.now c.loop-found.found-index 0 past c.loop-found-test.true c.requires.0 all_of.tables
 
 pub loop-found-preserved : goal.loop-found-preserved
 unfolding past
 loop-found-preserved c =
-    let jumps = c.args.jumps.now in
+    let jumps = c.jumps-jumps.result.now in
     let bases = c.in_ok-bases.bases.items in
     let i = c.loop-found.found-index in
     let table = extent_of (get_or jumps i past).table in
@@ -37,10 +40,14 @@ loop-found-preserved c =
 
 pub returns-clause-cuts : goal.returns-clause-cuts
 returns-clause-cuts c =
-    let all : c.loop-found.found-index ≡ length c.args.jumps.now = omega arith in
-    cuts-all c.args.jumps.now c.in_ok-bases.bases.items c.in_ok-bases.ensures.bases c.loop-found.cuts c.loop-found.found-index all c.loop-found.invariant
+    let jumps = c.jumps-jumps.result.now in
+    let all : c.loop-found.found-index ≡ length jumps = omega arith in
+    λ bytes all_of. cuts-all jumps c.in_ok-bases.bases.items c.in_ok-bases.ensures.bases c.loop-found.cuts c.loop-found.found-index all c.loop-found.invariant
+    bytes (subst (AreAllTables bytes) (sym c.jumps-jumps.ensures) all_of)
 
 pub returns-clause-fits : goal.returns-clause-fits
 returns-clause-fits c =
-    let all : c.loop-found.found-index ≡ length c.args.jumps.now = omega arith in
-    cuts-fit c.args.jumps.now c.in_ok-bases.bases.items c.in_ok-bases.ensures.bases c.loop-found.cuts c.loop-found.found-index all c.loop-found.invariant
+    let jumps = c.jumps-jumps.result.now in
+    let all : c.loop-found.found-index ≡ length jumps = omega arith in
+    λ bytes all_of. cuts-fit jumps c.in_ok-bases.bases.items c.in_ok-bases.ensures.bases c.loop-found.cuts c.loop-found.found-index all c.loop-found.invariant
+    bytes (subst (AreAllTables bytes) (sym c.jumps-jumps.ensures) all_of)

@@ -7,7 +7,7 @@ graph_lives-requires-clause-order c = in-order c.in_ok-file.file.bytes c.graph-g
 pub graph_lives-requires-clause-bodies : goal.graph_lives-requires-clause-bodies
 graph_lives-requires-clause-bodies c = bodies-rise c.in_ok-file.file.bytes c.graph-graph.result.now c.graph-graph.ensures.of_file
 
-pub live_report-requires : goal.live_report-requires
-live_report-requires c =
+pub of_lives-requires : goal.of_lives-requires
+of_lives-requires c =
     let graph = c.graph-graph.result.now in
     record { lives = for-all c.image-image.result.now graph.blocks graph.edges graph.functions c.in_ok-lives.lives c.in_ok-lives.ensures }

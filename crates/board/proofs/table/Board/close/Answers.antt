@@ -1,6 +1,6 @@
 use Rattle.std.proofs.Common.{sym, ap, ◌∙◌, subst}
 use Rattle.std.specs.Mem.Slots.{slots_counts}
-use Rattle.turn_slots.specs.Share.{IsWhole}
+use Rattle.board.specs.Locks.Share.{IsWhole}
 use Rattle.cfg_model.specs.Builder.Fact.{Holds}
 use Rattle.cfg_model.specs.Builder.Kept.{IsKept}
 use Rattle.board.specs.Seat.{HasSlot, Knows}

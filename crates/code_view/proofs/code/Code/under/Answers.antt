@@ -8,5 +8,6 @@ invariant_of-result c = record {
   accepted = c.self.invariant.accepted;
   cuts = subst (λ bytes. CutsFit bytes (cut_of c.args.cuts.now)) (sym (ap (λ (f : FileCode). f.bytes) c.self.view_is)) c.requires.cuts;
   index = c.self.invariant.index;
+  calls = c.self.invariant.calls;
   tables = c.self.invariant.tables;
 }

@@ -4,7 +4,8 @@ use Rattle.jump_table.specs.Table.{table_at, table_targets}
 use Rattle.code_view.specs.Cuts.{cut_of}
 use Rattle.code_view.specs.FileCode.{FileCode}
 use Rattle.code_view.specs.Flow.{kept_entries}
-use Rattle.code_view.proofs.Lawful.{code_of, kept_of_table, targets-of-table, table-fits}
+use Rattle.code_view.proofs.Lawful.{code_of, table-fits}
+use Rattle.code_view.proofs.KeptTargets.{targets-of-table}
 use Rattle.code_view.proofs.Views.{lawful-view}
 use Rattle.code_view.proofs.code.CodeChains.targets.Goals as goal
 
@@ -27,20 +28,14 @@ returns-in-Some-clause-targets c =
     subst (λ targets. IfOk c.kept_targets.result (λ v. v.items ≡ targets))
     (ap (λ cut. take (kept_entries cut table) (table_targets c.self.inside.image.now table)) c.count.ensures
     ∙ ap (λ (f : FileCode). take (kept_entries (cut_of f.cuts a) table) (table_targets f.bytes table)) c.self.view_is
-    ∙ ap (kept_of_table code.bytes (cut_of code.cuts a)) c.in-Some.ensures
-    ∙ sym (targets-of-table code.bytes (cut_of code.cuts) a (code_of code.bytes (cut_of code.cuts) a c.requires)))
+    ∙ sym (targets-of-table code.bytes (cut_of code.cuts) a (code_of code.bytes (cut_of code.cuts) a c.requires) table (sym c.in-Some.ensures)))
     c.kept_targets.ensures
 
 pub returns-in-Some-clause-lawful : goal.returns-in-Some-clause-lawful
 returns-in-Some-clause-lawful c = lawful-view _ _ c.self.invariant.accepted c.self.invariant.cuts _ c.self.view_is
 
-pub returns-in-None-clause-targets : goal.returns-in-None-clause-targets
-returns-in-None-clause-targets c =
-    let code = c.args.self.now in
-    let a = c.args.a in
-    c.new.ensures.items
-    ∙ ap (kept_of_table code.bytes (cut_of code.cuts a)) c.in-None.ensures
-    ∙ sym (targets-of-table code.bytes (cut_of code.cuts) a (code_of code.bytes (cut_of code.cuts) a c.requires))
+pub pads-requires : goal.pads-requires
+pads-requires c = record { code = code_of c.args.self.now.bytes (cut_of c.args.self.now.cuts) c.args.a c.requires; table = sym c.in-None.ensures }
 
 pub returns-in-None-clause-lawful : goal.returns-in-None-clause-lawful
 returns-in-None-clause-lawful c = lawful-view _ _ c.self.invariant.accepted c.self.invariant.cuts _ c.self.view_is

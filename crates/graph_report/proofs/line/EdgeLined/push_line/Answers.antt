@@ -13,7 +13,7 @@ slice_bounds-push_front-end c =
 
 pub push_front-requires-clause-within : goal.push_front-requires-clause-within
 push_front-requires-clause-within c =
-    let most : c.edge_field-last.result.len ≤ 7 = c.edge_field-last.ensures.within in
+    let most : c.edge_field-last.result.len ≤ 9 = c.edge_field-last.ensures.within in
     line_within 38 12 (codes "edge") c.copy_from_slice.new.self (codes "            ") c.copy_from_slice-2.new.self
     (ap (λ (n : ℕ). 4 + n) c.copy_from_slice.ensures.len) refl c.copy_from_slice-2.ensures.len
     (38 + c.edge_field-last.result.len) (omega (arith, most))

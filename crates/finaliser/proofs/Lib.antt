@@ -1,2 +1,0 @@
-mod Returning
-mod StatusRead

@@ -1,0 +1,35 @@
+use Rattle.std.proofs.Common.{◌≡◌, ◌+◌, ◌-◌, ◌*◌, ◌<◌, ◌≤◌, suc, ◌∙◌, sym, arith}
+use Rattle.jump_table.specs.Pair.{spill_at}
+use Rattle.jump_table.proofs.Nearest.{not_before, nearest-here, nearest-further, nearest-past, nearest-end}
+use Rattle.jump_table.proofs.Searches.{all-spills}
+use Rattle.jump_table.proofs.pair.spilled_before.Goals as goal
+
+pub loop-parcels-init : goal.loop-parcels-init
+loop-parcels-init c = all-spills c.args.image.now c.args.start c.args.q c.args.slot
+
+pub returns-then-is_before_section : goal.returns-then-is_before_section
+returns-then-is_before_section c =
+    let past : c.args.q < c.args.start + 2 * c.loop-parcels.parcels = c.is_before_section.ensures.0 c.if-is_before_section.true in
+    sym (c.loop-parcels.invariant ∙ nearest-past (spill_at c.args.image.now c.args.start c.args.q c.args.slot) c.args.start c.args.q (2049 - c.loop-parcels.parcels) (2 * c.loop-parcels.parcels) past)
+
+pub returns-in-Some : goal.returns-in-Some
+returns-in-Some c =
+    let parcels = c.loop-parcels.parcels in
+    let left : 2049 - parcels ≡ suc (2049 - (parcels + 1)) = omega arith in
+    let within : c.args.start + 2 * parcels ≤ c.args.q = not_before c.is_before_section.result c.args.q (c.args.start + 2 * parcels) c.is_before_section.ensures.1 c.if-is_before_section.false in
+    let found = sym c.spill_at.ensures ∙ c.in-Some.is in
+    sym (c.loop-parcels.invariant ∙ nearest-here (spill_at c.args.image.now c.args.start c.args.q c.args.slot) c.args.start c.args.q (2049 - parcels) (2049 - (parcels + 1)) (2 * parcels) c.in-Some.value left within found)
+
+pub loop-parcels-preserved : goal.loop-parcels-preserved
+loop-parcels-preserved c =
+    let parcels = c.loop-parcels.parcels in
+    let left : 2049 - parcels ≡ suc (2049 - (parcels + 1)) = omega arith in
+    let within : c.args.start + 2 * parcels ≤ c.args.q = not_before c.is_before_section.result c.args.q (c.args.start + 2 * parcels) c.is_before_section.ensures.1 c.if-is_before_section.false in
+    let next : 2 * (parcels + 1) ≡ 2 * parcels + 2 = omega arith in
+    let none = sym c.spill_at.ensures ∙ c.in_default.is in
+    c.loop-parcels.invariant ∙ nearest-further (spill_at c.args.image.now c.args.start c.args.q c.args.slot) c.args.start c.args.q (2049 - parcels) (2049 - (parcels + 1)) (2 * parcels) (2 * (parcels + 1)) left next within none
+
+pub returns : goal.returns
+returns c =
+    let left : 2049 - c.loop-parcels.parcels ≡ 0 = omega arith in
+    sym (c.loop-parcels.invariant ∙ nearest-end (spill_at c.args.image.now c.args.start c.args.q c.args.slot) c.args.start c.args.q (2049 - c.loop-parcels.parcels) (2 * c.loop-parcels.parcels) left)

@@ -1,0 +1,38 @@
+use Rattle.std.proofs.Common.{◌≡◌, ◌∙◌, ℕ, ◌+◌, ◌-◌, ◌*◌, ◌<◌, ◌≤◌, ◌==◌, get_or, nat_lt, Bool, true, false, List, None, cond, refl, sym, ap, inl, inr, arith}
+use Rattle.std.specs.Option.{option_and_then}
+use Rattle.std.proofs.lemmas.Bool.{cases_eq}
+use Rattle.jump_table.specs.declared.approach.Approach.{Approach}
+use Rattle.jump_table.specs.declared.pair.Origin.TheVariants.{Register}
+use Rattle.jump_table.specs.declared.values.Form.TheVariants.{Hoisted}
+use Rattle.jump_table.specs.declared.values.Value.TheVariants.{Const, Unknown, Far}
+use Rattle.jump_table.specs.Inner.Steps.{LeadsNowhere}
+use Rattle.jump_table.specs.Table.{place_of, hoisted_place}
+use Rattle.jump_table.specs.Values.{entered}
+use Rattle.jump_table.proofs.Runs.{value-here, value-none}
+use Rattle.jump_table.proofs.Ways.{steps-none}
+use Rattle.jump_table.proofs.place.hoisted_place.Goals as goal
+
+-- what a register holds before a run tells no place
+entered-place : (r : ℕ) (zero number : Bool) → place_of true 1024 (cond zero (Const 0) (cond number (Far (Register r)) Unknown)) ≡ None
+entered-place r true number = refl
+entered-place r false true = refl
+entered-place r false false = refl
+
+at-jump : (bytes : List ℕ) (start j r q : ℕ) → q ≡ j → hoisted_place bytes start j r q ≡ None
+at-jump bytes start j r q is = ap (option_and_then (place_of true 1024)) (value-here bytes start j (Hoisted start q) 16 q entered r is) ∙ entered-place r (r == 0) (nat_lt r 32)
+
+from-nowhere : (bytes : List ℕ) (start j r k : ℕ) → LeadsNowhere bytes start j k → hoisted_place bytes start j r (j - 2 * k) ≡ None
+from-nowhere bytes start j r k nowhere = ap (option_and_then (place_of true 1024)) (value-none bytes start j (Hoisted start (j - 2 * k)) 16 (j - 2 * k) entered r (nowhere 16))
+
+-- a place of no step tells none: it is the jump's, or no run leads from there to the jump
+no-step : (way : Approach) (r k : ℕ) → k < 33 → way.start + 2 * k ≤ way.jump → get_or way.steps k None ≡ None → hoisted_place way.image.now way.start way.jump r (way.jump - 2 * k) ≡ None
+no-step way r k few inside none =
+    elim (cases_eq k 0) [
+      | inl zero ↦ at-jump way.image.now way.start way.jump r (way.jump - 2 * k) (omega arith)
+      | inr some ↦ from-nowhere way.image.now way.start way.jump r k (steps-none way.image.now way.start way.jump way.steps way.lead k (grind arith) few inside none)
+    ]
+
+pub returns-in_err-way : goal.returns-in_err-way
+returns-in_err-way c =
+    c.from_residual.ensures
+    ∙ sym (no-step c.args.way.now c.args.register c.args.parcels c.requires.few c.requires.inside c.in_err-way.was)

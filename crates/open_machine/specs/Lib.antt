@@ -1,0 +1,5 @@
+pub mod World
+pub mod Asked
+pub mod Step
+pub mod Runs
+pub mod Laws

@@ -1,3 +1,0 @@
--- Lemmas on leaders, blocks and edges.
-pub mod Leaders
-pub mod Blocks
