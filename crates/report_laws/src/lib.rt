@@ -6,6 +6,8 @@
 ghost use Rattle.report_laws.specs.Reported.{OfEachReport, ReportsAreOfFiles};
 ghost use Rattle.report_laws.specs.Reported.{ReportsHaveOutlines, EntriesAreSeeds};
 ghost use Rattle.report_laws.specs.Laws.{StepsCovered, PairsCovered, TableRunsCovered};
+ghost use Rattle.report_laws.specs.Laws.{OpenStepsCovered, OpenPairsCovered};
+ghost use Rattle.report_laws.specs.Laws.{OpenTableRunsCovered};
 ghost use Rattle.report_laws.specs.Laws.{RunsAlike, FreeForEver, PreparedKeep};
 ghost use Rattle.run_laws.specs.Whole.{RunsStay, ReturnsAreSaid, NoReturnIsNotTaken};
 ghost use Rattle.run_laws.specs.Whole.{NoReturnNeverEnds, ReturnsHaveEdges};
@@ -20,15 +22,18 @@ pub fn reports_are_of_files()
 {}
 
 /// Every step of the machine is covered by the graph in the report: as `every_step_is_covered` of
-/// `edge_cover` says.
+/// `edge_cover` says of the written machine, and `every_open_step_is_covered` of the open one.
 pub fn reported_steps_are_covered()
     ensures steps { OfEachReport StepsCovered }
     ensures pairs { OfEachReport PairsCovered }
     ensures tables { OfEachReport TableRunsCovered }
+    ensures open_steps { OfEachReport OpenStepsCovered }
+    ensures open_pairs { OfEachReport OpenPairsCovered }
+    ensures open_tables { OfEachReport OpenTableRunsCovered }
 {}
 
-/// It does not matter what the registers hold that the report calls free: as
-/// `free_registers_are_free` of `free_laws` says.
+/// It does not matter to a run of the open machine what the registers hold that the report calls
+/// free: as `free_registers_are_free` of `free_laws` says.
 pub fn reported_registers_are_free()
     ensures within { OfEachReport RunsAlike }
     ensures always { OfEachReport FreeForEver }
