@@ -213,7 +213,13 @@ class CheckTrace(InFolder):
     def test_handlers_come_back(self) -> None:
         # Not by the stack of calls, but by code that is not the file's. Then the interrupted call goes on.
         self.of_order()
-        found = broken(self.checked(0x10010, 0x10014, "--- SIGURG {si_signo=SIGURG} ---", 0x10000, 0x10008, 0x10004, 0x30000, 0x1001C)[1])
+        signal = "--- SIGURG {si_signo=SIGURG} ---"
+        # One handler right after another, and one at a return.
+        for before, steps in (("10010 (i)", (0x10010, signal, 0x10008, 0x30000, signal, 0x10008, 0x30000, 0x10014)),
+                              ("10008 (g)", (0x10000, 0x10008, signal, 0x10008, 0x30000, signal, 0x10008, 0x30000, 0x10008))):
+            self.assertEqual([one.partition(",")[0] for one in broken(self.checked(*steps)[1])],
+                             [f"a signal interrupts the run: from {at} to 10008 (g)" for at in (before, "30000 (after j)")])
+        found = broken(self.checked(0x10010, 0x10014, signal, 0x10000, 0x10008, 0x10004, 0x30000, 0x1001C)[1])
         self.assertEqual(found, ["a signal interrupts the run: from 10014 (i+0x4) to 10000 (f), 1 times, first at step 3"])
 
     def test_what_is_unwound(self) -> None:
