@@ -5,12 +5,12 @@ use Rattle.std.specs.Option.{option_map}
 use mathlib.Core.Logic.{inl, inr}
 use Rattle.std.specs.FinMap as maps
 use Rattle.cfg_model.specs.Program.Instructions.{InstructionMap, IsLawful}
-use Rattle.cfg_model.specs.Builder.Event.{Event, Steps}
-use Rattle.cfg_model.specs.Builder.Fact.{Fact, Holds}
-use Rattle.cfg_model.specs.Builder.Kept.{IsKept}
-use Rattle.cfg_model.specs.Builder.Reason.{Reason}
-use Rattle.cfg_model.specs.Builder.Shard.{Shard, shard_of, only}
-use Rattle.cfg_model.specs.Builder.State.{BuilderState, EndMap, EndEntry, HasEnd, IsNear, near_at, IsAnchored}
+use Rattle.builder_model.specs.Event.{Event, Steps}
+use Rattle.builder_model.specs.Fact.{Fact, Holds}
+use Rattle.builder_model.specs.Kept.{IsKept}
+use Rattle.builder_model.specs.Reason.{Reason}
+use Rattle.builder_model.specs.Shard.{Shard, shard_of, only}
+use Rattle.builder_model.specs.State.{BuilderState, EndMap, EndEntry, HasEnd, IsNear, near_at, IsAnchored}
 use Rattle.core_state.specs.declared.answer.Arrival.{Arrival}
 use Rattle.core_state.specs.declared.answer.Arrival.TheVariants.{Same, Split}
 use Rattle.core_state.specs.declared.answer.PlaceEnd.{PlaceEnd}

@@ -4,13 +4,13 @@ use Rattle.std.specs.Prelude.{Result, Ok, Err, OnOk, OnErr, IfOk}
 use Rattle.atomic_table.specs.Table.{Me}
 use Rattle.atomic_table.specs.declared.shared.Seat.{Seat}
 use Rattle.cfg_model.specs.Program.Instructions.{InstructionMap, IsLawful}
-use Rattle.cfg_model.specs.Builder.Brought.{facts_of}
-use Rattle.cfg_model.specs.Builder.Event.{Event, Steps}
-use Rattle.cfg_model.specs.Builder.Fact.{Fact, Holds, IsSoundFact}
-use Rattle.cfg_model.specs.Builder.Kept.{IsKept}
-use Rattle.cfg_model.specs.Builder.Reason.{Reason}
-use Rattle.cfg_model.specs.Builder.Shard.{Shard, only, shard_of_event}
-use Rattle.cfg_model.specs.Builder.State.{BuilderState}
+use Rattle.builder_model.specs.Brought.{facts_of}
+use Rattle.builder_model.specs.Event.{Event, Steps}
+use Rattle.builder_model.specs.Fact.{Fact, Holds, IsSoundFact}
+use Rattle.builder_model.specs.Kept.{IsKept}
+use Rattle.builder_model.specs.Reason.{Reason}
+use Rattle.builder_model.specs.Shard.{Shard, only, shard_of_event}
+use Rattle.builder_model.specs.State.{BuilderState}
 use Rattle.split_laws.proofs.FactLaws.{reason_more}
 use Rattle.std.specs.declared.alloc.AllocError.{AllocError as Memory}
 use Rattle.core_state.specs.declared.answer.ShardKind.{ShardKind}

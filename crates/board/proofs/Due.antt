@@ -4,11 +4,11 @@ use Rattle.std.specs.Prelude.{◌↔◌, Result, Ok, Err, OnOk, IfOk, Some, IsTr
 use mathlib.Core.Logic.{inl}
 use Rattle.cfg_model.specs.Program.Instructions.{InstructionMap}
 use Rattle.cfg_model.specs.Program.Chain.{OnChain}
-use Rattle.cfg_model.specs.Builder.Event.{Event, Steps, ArrivesAt}
-use Rattle.cfg_model.specs.Builder.Fact.{Fact, Holds}
-use Rattle.cfg_model.specs.Builder.Shard.{Shard, shard_of, shard_of_event, shard_of_fact, only}
-use Rattle.cfg_model.specs.Builder.State.{BuilderState, EndMap, IsNear}
-use Rattle.cfg_model.proofs.Builder.EndGrowth.{StandsIn, none_stand}
+use Rattle.builder_model.specs.Event.{Event, Steps, ArrivesAt}
+use Rattle.builder_model.specs.Fact.{Fact, Holds}
+use Rattle.builder_model.specs.Shard.{Shard, shard_of, shard_of_event, shard_of_fact, only}
+use Rattle.builder_model.specs.State.{BuilderState, EndMap, IsNear}
+use Rattle.builder_model.proofs.EndGrowth.{StandsIn, none_stand}
 use Rattle.status_laws.proofs.PartLaws.{facts_read_back}
 use Rattle.status_laws.proofs.ShardLaws.{of_whole}
 use Rattle.core_state.specs.declared.answer.PlaceEnd.{PlaceEnd}

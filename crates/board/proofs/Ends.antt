@@ -18,12 +18,12 @@ use Rattle.board.specs.Locks.Words.{turn_word}
 use Rattle.board.specs.Locks.Rule as turns
 use Rattle.board.proofs.Locks.Steps as turn_steps
 use Rattle.cfg_model.specs.Program.Instructions.{InstructionMap}
-use Rattle.cfg_model.specs.Builder.Fact.{Fact, Holds}
-use Rattle.cfg_model.specs.Builder.Kept as states
-use Rattle.cfg_model.specs.Builder.Shard.{shard_of, part_of}
-use Rattle.cfg_model.specs.declared.state.Mark.{Mark}
-use Rattle.cfg_model.specs.Builder.State.{BuilderState, StartMap, EndMap, TerminatorMap, EndEntry, TerminatorEntry, empty_state}
-use Rattle.cfg_model.proofs.Builder.StateGrowth.{none_is_some}
+use Rattle.builder_model.specs.Fact.{Fact, Holds}
+use Rattle.builder_model.specs.Kept as states
+use Rattle.builder_model.specs.Shard.{shard_of, part_of}
+use Rattle.builder_model.specs.declared.state.Mark.{Mark}
+use Rattle.builder_model.specs.State.{BuilderState, StartMap, EndMap, TerminatorMap, EndEntry, TerminatorEntry, empty_state}
+use Rattle.cfg_model.proofs.Program.MapFacts.{none_is_some}
 use Rattle.status_laws.proofs.KeptLaws.{empty_is_kept}
 use Rattle.status_laws.proofs.ShardLaws.{part_get, part_own}
 use Rattle.core_state.specs.Joined.{AreShards, joined}

@@ -17,12 +17,12 @@ use Rattle.board.specs.Locks.Words.{turn_word}
 use Rattle.board.specs.Locks.Rule as turns
 use Rattle.board.proofs.Locks.Touches.{sound_of, stands, alone}
 use Rattle.cfg_model.specs.Program.Instructions.{InstructionMap, IsLawful}
-use Rattle.cfg_model.specs.Builder.Event.{Event, Steps}
-use Rattle.cfg_model.specs.Builder.Fact.{Fact, Holds}
-use Rattle.cfg_model.specs.Builder.Reason.{Reason, May}
-use Rattle.cfg_model.specs.Builder.Shard.{only, shard_of_event, IsSameShard}
-use Rattle.cfg_model.specs.Builder.State.{BuilderState, IsEntered}
-use Rattle.cfg_model.specs.declared.state.Waiter.{Waiter}
+use Rattle.builder_model.specs.Event.{Event, Steps}
+use Rattle.builder_model.specs.Fact.{Fact, Holds}
+use Rattle.builder_model.specs.Reason.{Reason, May}
+use Rattle.builder_model.specs.Shard.{only, shard_of_event, IsSameShard}
+use Rattle.builder_model.specs.State.{BuilderState, IsEntered}
+use Rattle.builder_model.specs.declared.state.Waiter.{Waiter}
 use Rattle.split_laws.proofs.FactLaws.{facts_last, reason_more}
 use Rattle.split_laws.proofs.AllowedLaws.{reasons_suffice}
 use Rattle.split_laws.proofs.MeetingLaws.{allowed_event_steps}
@@ -128,7 +128,7 @@ module _ (code : InstructionMap) (seeds : List ℕ) (lawful : IsLawful code) (id
     }
 
   -- a waiter's terminator is entered
-  pub shown : (k at_ : ℕ) (w : Waiter) → Rattle.cfg_model.specs.Builder.State.WaitsAt values.second.terminators k w → w.terminator ≡ at_ → IsEntered kept.whole.terminators at_
+  pub shown : (k at_ : ℕ) (w : Waiter) → Rattle.builder_model.specs.State.WaitsAt values.second.terminators k w → w.terminator ≡ at_ → IsEntered kept.whole.terminators at_
   shown k at_ w waits is =
       let there = parts_are_shown code kept.whole (shard_in i) (Fact.Waits k w) (subst (λ (part : BuilderState). Holds code part (Fact.Waits k w)) (kept.held i id v values at noted) waits) in
       subst (IsEntered kept.whole.terminators) is (kept.kept.waits k w there).waiter

@@ -17,9 +17,9 @@ use Rattle.board.specs.Locks.Plays as turn_plays
 use Rattle.board.proofs.Locks.Steps as turn_steps
 use Rattle.board.proofs.Locks.Marks.{same_slot}
 use Rattle.cfg_model.specs.Program.Instructions.{InstructionMap}
-use Rattle.cfg_model.specs.Builder.Fact.{Fact, Holds}
-use Rattle.cfg_model.specs.Builder.Shard.{only}
-use Rattle.cfg_model.specs.Builder.State.{BuilderState}
+use Rattle.builder_model.specs.Fact.{Fact, Holds}
+use Rattle.builder_model.specs.Shard.{only}
+use Rattle.builder_model.specs.State.{BuilderState}
 use Rattle.status_laws.proofs.PartLaws.{parts_are_shown}
 use Rattle.board.specs.declared.view.View.{View}
 use Rattle.board.specs.declared.piece.Piece.{Piece}

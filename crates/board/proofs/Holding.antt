@@ -6,9 +6,9 @@ use Rattle.atomic_table.specs.Table.{Me}
 use Rattle.atomic_table.specs.declared.shared.Seat.{Seat}
 use Rattle.board.specs.Locks.Share.{IsAboveZero}
 use Rattle.cfg_model.specs.Program.Instructions.{InstructionMap}
-use Rattle.cfg_model.specs.Builder.Fact.{Fact, Holds, IsSoundFact}
-use Rattle.cfg_model.specs.Builder.Shard.{Shard, only}
-use Rattle.cfg_model.specs.Builder.State.{BuilderState}
+use Rattle.builder_model.specs.Fact.{Fact, Holds, IsSoundFact}
+use Rattle.builder_model.specs.Shard.{Shard, only}
+use Rattle.builder_model.specs.State.{BuilderState}
 use Rattle.board.specs.declared.view.View.{View}
 use Rattle.board.specs.declared.piece.Piece.{Piece}
 use Rattle.board.specs.Slots.{slot_of, shard_in}

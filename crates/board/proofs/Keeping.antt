@@ -12,9 +12,9 @@ use Rattle.board.specs.Locks.TurnView.{TurnView}
 use Rattle.board.specs.Locks.Words.{turn_word}
 use Rattle.board.specs.Locks.Rule as turns
 use Rattle.cfg_model.specs.Program.Instructions.{InstructionMap}
-use Rattle.cfg_model.specs.Builder.Fact.{Fact, Holds}
-use Rattle.cfg_model.specs.Builder.Shard.{only}
-use Rattle.cfg_model.specs.Builder.State.{BuilderState}
+use Rattle.builder_model.specs.Fact.{Fact, Holds}
+use Rattle.builder_model.specs.Shard.{only}
+use Rattle.builder_model.specs.State.{BuilderState}
 use Rattle.board.specs.declared.view.View.{View}
 use Rattle.board.specs.declared.piece.Piece.{Piece}
 use Rattle.board.specs.Slots.{shard_in, event_word}

@@ -7,12 +7,12 @@ use Rattle.std.specs.FinMap as maps
 use Rattle.atomic_table.specs.Table.{Me}
 use Rattle.atomic_table.specs.declared.shared.Seat.{Seat}
 use Rattle.cfg_model.specs.Program.Instructions.{InstructionMap}
-use Rattle.cfg_model.specs.declared.state.Waiter.{Waiter}
-use Rattle.cfg_model.specs.Builder.Event.{Event, entry_with_waiter}
-use Rattle.cfg_model.specs.Builder.Fact.{Fact, Holds}
-use Rattle.cfg_model.specs.Builder.Shard.{Shard, shard_of, shard_of_event, only}
-use Rattle.cfg_model.specs.Builder.State.{BuilderState, EndEntry, IsMoved, near_at, StandsAt, IsStart, WaitsAt, IsReturned}
-use Rattle.cfg_model.proofs.Builder.StateGrowth.{changed_grows, waiter_grows}
+use Rattle.builder_model.specs.declared.state.Waiter.{Waiter}
+use Rattle.builder_model.specs.Event.{Event, entry_with_waiter}
+use Rattle.builder_model.specs.Fact.{Fact, Holds}
+use Rattle.builder_model.specs.Shard.{Shard, shard_of, shard_of_event, only}
+use Rattle.builder_model.specs.State.{BuilderState, EndEntry, IsMoved, near_at, StandsAt, IsStart, WaitsAt, IsReturned}
+use Rattle.builder_model.proofs.StateGrowth.{changed_grows, waiter_grows}
 use Rattle.core_state.specs.Least.{IsLeast}
 use Rattle.core_state.specs.Line.{IsNextInLine}
 use Rattle.core_state.specs.declared.answer.PlaceEnd.{PlaceEnd}

@@ -5,9 +5,9 @@ use Rattle.std.proofs.lemmas.List.{set-get_or}
 use Rattle.atomic_table.specs.Table.{Me}
 use Rattle.board.specs.Locks.Share.{Share, IsAboveZero}
 use Rattle.cfg_model.specs.Program.Instructions.{InstructionMap}
-use Rattle.cfg_model.specs.Builder.Event.{Event, Steps}
-use Rattle.cfg_model.specs.Builder.Reason.{Reason}
-use Rattle.cfg_model.specs.Builder.State.{BuilderState}
+use Rattle.builder_model.specs.Event.{Event, Steps}
+use Rattle.builder_model.specs.Reason.{Reason}
+use Rattle.builder_model.specs.State.{BuilderState}
 use Rattle.board.specs.declared.view.View.{View}
 use Rattle.board.specs.declared.piece.Piece.{Piece}
 use Rattle.board.specs.Seat.{Values, AnyShows}

@@ -5,16 +5,17 @@ use mathlib.Core.Logic.{inl, inr}
 use Rattle.std.specs.Ordering.{nat_cmp}
 use Rattle.std.specs.FinMap as maps
 use Rattle.cfg_model.specs.Program.Instructions.{InstructionMap}
-use Rattle.cfg_model.specs.declared.state.Mark.{Mark}
-use Rattle.cfg_model.specs.declared.state.Mark.TheVariants as marks
-use Rattle.cfg_model.specs.declared.state.Waiter.{Waiter}
-use Rattle.cfg_model.specs.Builder.Event.{new_entry}
-use Rattle.cfg_model.specs.Builder.Fact.{Fact, Holds}
-use Rattle.cfg_model.specs.Builder.Shard.{Shard, only, IsSameShard}
-use Rattle.cfg_model.specs.Builder.State.{BuilderState, EndEntry, TerminatorEntry, IsEntered}
-use Rattle.cfg_model.proofs.Builder.MapFacts.{same_or_other, get_here, get_apart}
-use Rattle.cfg_model.proofs.Builder.StateGrowth.{false_true, no_waiter, no_told, none_is_some}
-use Rattle.cfg_model.proofs.Builder.EndGrowth.{StandsIn, none_stand}
+use Rattle.builder_model.specs.declared.state.Mark.{Mark}
+use Rattle.builder_model.specs.declared.state.Mark.TheVariants as marks
+use Rattle.builder_model.specs.declared.state.Waiter.{Waiter}
+use Rattle.builder_model.specs.Event.{new_entry}
+use Rattle.builder_model.specs.Fact.{Fact, Holds}
+use Rattle.builder_model.specs.Shard.{Shard, only, IsSameShard}
+use Rattle.builder_model.specs.State.{BuilderState, EndEntry, TerminatorEntry, IsEntered}
+use Rattle.cfg_model.proofs.Program.MapFacts.{same_or_other, get_here, get_apart}
+use Rattle.builder_model.proofs.StateGrowth.{false_true, no_waiter, no_told}
+use Rattle.cfg_model.proofs.Program.MapFacts.{none_is_some}
+use Rattle.builder_model.proofs.EndGrowth.{StandsIn, none_stand}
 use Rattle.status_laws.proofs.ShardLaws.{Returned, Done, Waits, Told, no_mark}
 use Rattle.board.specs.declared.piece.Piece.{Piece}
 use Rattle.board.specs.declared.piece.Piece.TheVariants.{Starts, Ends, Terms}

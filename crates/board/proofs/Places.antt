@@ -2,8 +2,8 @@
 use Rattle.std.proofs.Common.{◌≡◌, ◌≢◌, ℕ, ◌+◌, ◌-◌, ◌<◌, refl, sym, ap, ◌∙◌, arith, lt-ltb, le-ltb}
 use Rattle.std.proofs.lemmas.Bool.{cases_lt}
 use mathlib.Core.Logic.{inl, inr}
-use Rattle.cfg_model.specs.Builder.Shard.{Shard, shard_of, shard_of_event}
-use Rattle.cfg_model.specs.Builder.Event.{Event}
+use Rattle.builder_model.specs.Shard.{Shard, shard_of, shard_of_event}
+use Rattle.builder_model.specs.Event.{Event}
 use Rattle.core_state.specs.declared.answer.ShardKind.{ShardKind}
 use Rattle.core_state.specs.declared.answer.ShardKind.TheVariants.{Starts, Ends, Terms}
 use Rattle.core_state.proofs.Shards.{shard_below}

@@ -8,11 +8,11 @@ use Rattle.atomic_table.specs.Table.{Me}
 use Rattle.atomic_table.specs.declared.shared.Seat.{Seat}
 use Rattle.board.specs.Locks.Share.{IsAboveZero}
 use Rattle.cfg_model.specs.Program.Instructions.{InstructionMap}
-use Rattle.cfg_model.specs.Builder.Event.{Event}
-use Rattle.cfg_model.specs.Builder.Fact.{Fact, Holds, IsSoundFact}
-use Rattle.cfg_model.specs.Builder.Reason.{Reason}
-use Rattle.cfg_model.specs.Builder.Shard.{Shard, only, shard_of_event}
-use Rattle.cfg_model.specs.Builder.State.{BuilderState}
+use Rattle.builder_model.specs.Event.{Event}
+use Rattle.builder_model.specs.Fact.{Fact, Holds, IsSoundFact}
+use Rattle.builder_model.specs.Reason.{Reason}
+use Rattle.builder_model.specs.Shard.{Shard, only, shard_of_event}
+use Rattle.builder_model.specs.State.{BuilderState}
 use Rattle.split_laws.proofs.FactLaws.{reason_more}
 use Rattle.board.specs.declared.view.View.{View}
 use Rattle.board.specs.declared.piece.Piece.{Piece}

@@ -5,7 +5,7 @@ use Rattle.std.proofs.Math.Nat.{mul-pos}
 use Rattle.atomic_table.specs.declared.shared.Seat.{Seat}
 use Rattle.board.specs.Locks.Share.{Share, both, IsAboveZero}
 use Rattle.cfg_model.specs.Program.Instructions.{InstructionMap}
-use Rattle.cfg_model.specs.Builder.Fact.{IsSoundFact}
+use Rattle.builder_model.specs.Fact.{IsSoundFact}
 use Rattle.board.specs.declared.view.View.{View}
 use Rattle.board.specs.declared.piece.Piece.{Piece}
 use Rattle.board.specs.Seat.{AnyShows}

@@ -16,7 +16,7 @@ use Rattle.board.specs.Locks.Rule as turns
 use Rattle.board.specs.Locks.Plays as turn_plays
 use Rattle.board.proofs.Locks.Steps as turn_steps
 use Rattle.cfg_model.specs.Program.Instructions.{InstructionMap}
-use Rattle.cfg_model.specs.Builder.Shard.{only}
+use Rattle.builder_model.specs.Shard.{only}
 use Rattle.board.specs.declared.view.View.{View}
 use Rattle.board.specs.declared.piece.Piece.{Piece}
 use Rattle.board.specs.Slots.{shard_in}

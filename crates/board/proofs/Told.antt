@@ -6,16 +6,16 @@ use Rattle.std.specs.FinMap as maps
 use Rattle.std.specs.FinSet as sets
 use Rattle.cfg_model.specs.Program.Instructions.{InstructionMap, IsLawful}
 use Rattle.cfg_model.specs.Program.Chain.{OnChain}
-use Rattle.cfg_model.specs.Builder.Brought.{facts_of}
-use Rattle.cfg_model.specs.Builder.Event.{Event, Steps, Arrives, ArrivesAt, with_displaced}
-use Rattle.cfg_model.specs.Builder.Fact.{Fact, Holds, IsSoundFact}
-use Rattle.cfg_model.specs.Builder.Kept.{IsKept}
-use Rattle.cfg_model.specs.Builder.Reason.{Reason, May}
-use Rattle.cfg_model.specs.Builder.Shard.{Shard, shard_of, shard_of_event, shard_of_fact, only, part_of}
-use Rattle.cfg_model.specs.Builder.State.{BuilderState, EndMap, EndEntry, StandsAt, IsAnchored, HasEnd}
+use Rattle.builder_model.specs.Brought.{facts_of}
+use Rattle.builder_model.specs.Event.{Event, Steps, Arrives, ArrivesAt, with_displaced}
+use Rattle.builder_model.specs.Fact.{Fact, Holds, IsSoundFact}
+use Rattle.builder_model.specs.Kept.{IsKept}
+use Rattle.builder_model.specs.Reason.{Reason, May}
+use Rattle.builder_model.specs.Shard.{Shard, shard_of, shard_of_event, shard_of_fact, only, part_of}
+use Rattle.builder_model.specs.State.{BuilderState, EndMap, EndEntry, StandsAt, IsAnchored, HasEnd}
 use Rattle.cfg_model.proofs.Program.Listed.{head_in}
-use Rattle.cfg_model.proofs.Builder.MapFacts.{get_here}
-use Rattle.cfg_model.proofs.Builder.EndGrowth.{StandsIn, none_stand, displaced_has}
+use Rattle.cfg_model.proofs.Program.MapFacts.{get_here}
+use Rattle.builder_model.proofs.EndGrowth.{StandsIn, none_stand, displaced_has}
 use Rattle.split_laws.proofs.AllowedLaws.{reasons_suffice}
 use Rattle.split_laws.proofs.MeetingLaws.{allowed_event_steps}
 use Rattle.split_laws.proofs.StepLaws.{step_is_unique}

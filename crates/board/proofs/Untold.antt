@@ -6,13 +6,13 @@ use mathlib.Core.Logic.{inl, inr}
 use Rattle.std.specs.FinMap as maps
 use Rattle.atomic_table.specs.Table.{Me}
 use Rattle.atomic_table.specs.declared.shared.Seat.{Seat}
-use Rattle.cfg_model.specs.declared.state.Waiter.{Waiter}
+use Rattle.builder_model.specs.declared.state.Waiter.{Waiter}
 use Rattle.cfg_model.specs.Program.Instructions.{InstructionMap}
-use Rattle.cfg_model.specs.Builder.Fact.{Fact}
-use Rattle.cfg_model.specs.Builder.Kept.{IsKept}
-use Rattle.cfg_model.specs.Builder.Shard.{Shard, shard_of}
-use Rattle.cfg_model.specs.Builder.State.{BuilderState, TerminatorMap, TerminatorEntry, IsEntered, WaitsAt, waiters_at}
-use Rattle.cfg_model.proofs.Builder.StateGrowth.{no_waiter}
+use Rattle.builder_model.specs.Fact.{Fact}
+use Rattle.builder_model.specs.Kept.{IsKept}
+use Rattle.builder_model.specs.Shard.{Shard, shard_of}
+use Rattle.builder_model.specs.State.{BuilderState, TerminatorMap, TerminatorEntry, IsEntered, WaitsAt, waiters_at}
+use Rattle.builder_model.proofs.StateGrowth.{no_waiter}
 use Rattle.status_laws.proofs.PartLaws.{parts_are_shown}
 use Rattle.status_laws.proofs.SoundLaws.{kept_is_sound, sound_facts_hold}
 use Rattle.status_laws.proofs.ShardLaws.{Waits}

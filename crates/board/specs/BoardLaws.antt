@@ -7,10 +7,10 @@ use Rattle.atomic_table.specs.Table.{Me, State, Step}
 use Rattle.board.specs.Locks.Share.{AddUpToOne}
 use Rattle.board.specs.Locks.Words.{turn_word}
 use Rattle.cfg_model.specs.Program.Instructions.{InstructionMap}
-use Rattle.cfg_model.specs.Builder.Fact.{Fact, Holds}
-use Rattle.cfg_model.specs.Builder.Kept as states
-use Rattle.cfg_model.specs.Builder.Shard.{Shard, only}
-use Rattle.cfg_model.specs.Builder.State.{BuilderState}
+use Rattle.builder_model.specs.Fact.{Fact, Holds}
+use Rattle.builder_model.specs.Kept as states
+use Rattle.builder_model.specs.Shard.{Shard, only}
+use Rattle.builder_model.specs.State.{BuilderState}
 use Rattle.board.specs.declared.view.View.{View}
 use Rattle.board.specs.declared.piece.Piece.{Piece}
 use Rattle.board.specs.Slots.{BoardId, event_word, shard_in}

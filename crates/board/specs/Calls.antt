@@ -5,14 +5,14 @@ use Rattle.std.specs.FinMap as maps
 use Rattle.std.specs.Coded.{Coded, code_by, coded×}
 use Rattle.board.specs.Locks.Share.{IsWhole}
 use Rattle.cfg_model.specs.Program.Instructions.{InstructionMap}
-use Rattle.cfg_model.specs.declared.state.Waiter.{Waiter}
-use Rattle.cfg_model.specs.Builder.Event.{Event, Steps, new_entry}
-use Rattle.cfg_model.specs.Builder.Fact.{Fact, Holds, IsSoundFact}
-use Rattle.cfg_model.specs.Builder.Kept.{IsKept}
-use Rattle.cfg_model.specs.Builder.Reason.{May}
-use Rattle.cfg_model.specs.Builder.Shard.{Shard, shard_of, shard_of_event, only}
-use Rattle.cfg_model.specs.Builder.Codes.{coded_state}
-use Rattle.cfg_model.specs.Builder.State.{BuilderState, empty_state, IsNear, near_at}
+use Rattle.builder_model.specs.declared.state.Waiter.{Waiter}
+use Rattle.builder_model.specs.Event.{Event, Steps, new_entry}
+use Rattle.builder_model.specs.Fact.{Fact, Holds, IsSoundFact}
+use Rattle.builder_model.specs.Kept.{IsKept}
+use Rattle.builder_model.specs.Reason.{May}
+use Rattle.builder_model.specs.Shard.{Shard, shard_of, shard_of_event, only}
+use Rattle.builder_model.specs.Codes.{coded_state}
+use Rattle.builder_model.specs.State.{BuilderState, empty_state, IsNear, near_at}
 use Rattle.core_state.specs.declared.answer.Arrival.{Arrival}
 use Rattle.core_state.specs.Answer.{arrival_of}
 use Rattle.core_state.specs.Place.{Remembers}

@@ -1,8 +1,8 @@
 -- The values that lie in slots, as parts of a state.
 use Rattle.std.specs.Prelude.{ℕ}
 use Rattle.std.specs.FinMap as maps
-use Rattle.cfg_model.specs.Builder.Shard.{Shard, part_of}
-use Rattle.cfg_model.specs.Builder.State.{BuilderState}
+use Rattle.builder_model.specs.Shard.{Shard, part_of}
+use Rattle.builder_model.specs.State.{BuilderState}
 use Rattle.board.specs.declared.piece.Piece.{Piece}
 use Rattle.board.specs.declared.piece.Piece.TheVariants.{Starts, Ends, Terms}
 use Rattle.board.specs.Slots.{shard_in}

@@ -7,11 +7,11 @@ use Rattle.atomic_table.specs.Table.{Me, Step, rest}
 use Rattle.board.specs.Locks.Share.{nothing, IsWhole}
 use Rattle.board.specs.Locks.Words.{turn_word}
 use Rattle.cfg_model.specs.Program.Instructions.{InstructionMap}
-use Rattle.cfg_model.specs.Builder.Fact.{Fact, Holds}
-use Rattle.cfg_model.specs.Builder.Kept.{IsKept}
-use Rattle.cfg_model.specs.Builder.Shard.{only}
-use Rattle.cfg_model.specs.Builder.State.{BuilderState}
-use Rattle.cfg_model.specs.declared.state.Waiter.{Waiter}
+use Rattle.builder_model.specs.Fact.{Fact, Holds}
+use Rattle.builder_model.specs.Kept.{IsKept}
+use Rattle.builder_model.specs.Shard.{only}
+use Rattle.builder_model.specs.State.{BuilderState}
+use Rattle.builder_model.specs.declared.state.Waiter.{Waiter}
 use Rattle.board.specs.declared.view.View.{View}
 use Rattle.board.specs.declared.piece.Piece.{Piece}
 use Rattle.board.specs.Slots.{shard_in, event_word}

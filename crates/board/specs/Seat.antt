@@ -6,10 +6,10 @@ use Rattle.std.specs.Coded.{Coded, code_by, coded×, coded_ℕ, coded_list, code
 use Rattle.atomic_table.specs.Seated.{table_id_coded}
 use Rattle.board.specs.Locks.Share.{Share, whole, half, both, share_coded}
 use Rattle.cfg_model.specs.Program.Instructions.{InstructionMap}
-use Rattle.cfg_model.specs.Builder.Codes.{coded_state}
-use Rattle.cfg_model.specs.Builder.Fact.{Fact, Holds}
-use Rattle.cfg_model.specs.Builder.Shard.{Shard}
-use Rattle.cfg_model.specs.Builder.State.{BuilderState, empty_state}
+use Rattle.builder_model.specs.Codes.{coded_state}
+use Rattle.builder_model.specs.Fact.{Fact, Holds}
+use Rattle.builder_model.specs.Shard.{Shard}
+use Rattle.builder_model.specs.State.{BuilderState, empty_state}
 use Rattle.board.specs.Slots.{BoardId, slot_of}
 
 -- The values of a shard in one turn of a seat, each as the state that has its entries alone.

@@ -1,7 +1,7 @@
 -- Where the shards lie on a board, which is 192 slots, each with a turn word and an event word.
 use Rattle.std.specs.Prelude.{ℕ, ◌+◌, ◌-◌, ◌*◌, nat_lt, if◌then◌else◌}
 use Rattle.atomic_table.specs.Seated.{TableId}
-use Rattle.cfg_model.specs.Builder.Shard.{Shard, shard_of}
+use Rattle.builder_model.specs.Shard.{Shard, shard_of}
 use Rattle.core_state.specs.declared.answer.ShardKind.{ShardKind}
 use Rattle.core_state.specs.declared.answer.ShardKind.TheVariants.{Starts, Ends, Terms}
 

@@ -2,8 +2,8 @@
 //! them stand here twice, with more that they answer.
 ghost use Rattle.std.specs.Prelude.{◌≡◌, ◌<◌, ◌∷◌, [], Some, OnOk, OnErr, IfOk};
 ghost use Rattle.cfg_model.specs.Program.Instructions.{IsLawful};
-ghost use Rattle.cfg_model.specs.Builder.Shard.{shard_of_event};
-ghost use Rattle.cfg_model.specs.Builder.Reason.{Reason};
+ghost use Rattle.builder_model.specs.Shard.{shard_of_event};
+ghost use Rattle.builder_model.specs.Reason.{Reason};
 ghost use Rattle.core_state.specs.Place.{Brings};
 ghost use Rattle.board.specs.Slots.{shard_for, slot_of};
 ghost use Rattle.board.specs.Seat.{Knows, HoldsShard, found, left};
@@ -16,16 +16,16 @@ use crate::piece::Piece;
 use crate::seat::Seat;
 use crate::table::Board;
 use crate::turn::{TableSeat, give, note, slot_at, take};
-use cfg_model::Waiter;
+use builder_model::Waiter;
 use core_state::{Arrival, Job, Memory, PlaceEnd, ShardKind, Walk, shard};
 use std::marker::PhantomData;
 
 /// A change of one shard of the board that works for `J`, which answers an `A`.
 pub(crate) trait Change<J: Job, A> {
     ghost use Rattle.std.specs.Prelude.{◌≡◌, OnOk, OnErr, IfOk};
-    ghost use Rattle.cfg_model.specs.Builder.Event.{Event, Steps};
-    ghost use Rattle.cfg_model.specs.Builder.Shard.{shard_of_event};
-    ghost use Rattle.cfg_model.specs.Builder.State.{BuilderState};
+    ghost use Rattle.builder_model.specs.Event.{Event, Steps};
+    ghost use Rattle.builder_model.specs.Shard.{shard_of_event};
+    ghost use Rattle.builder_model.specs.State.{BuilderState};
     ghost use Rattle.board.specs.Inner.Inside.{IsDue};
     ghost use Rattle.board.specs.Pieces.{part_in, IsLike};
 
@@ -142,8 +142,8 @@ pub(crate) struct Want {
 
 impl<J: Job> Change<J, bool> for Want {
     ghost use Rattle.std.specs.Prelude.{◌↔◌, IsTrue};
-    ghost use Rattle.cfg_model.specs.Builder.Event.{Event};
-    ghost use Rattle.cfg_model.specs.Builder.State.{IsStart};
+    ghost use Rattle.builder_model.specs.Event.{Event};
+    ghost use Rattle.builder_model.specs.State.{IsStart};
 
     ghost event = { λ c. Event.Want c.s };
 
@@ -167,8 +167,8 @@ pub(crate) struct WantInLine {
 
 impl<J: Job> Change<J, (bool, Option<u64>)> for WantInLine {
     ghost use Rattle.std.specs.Prelude.{◌↔◌, IsTrue};
-    ghost use Rattle.cfg_model.specs.Builder.Event.{Event};
-    ghost use Rattle.cfg_model.specs.Builder.State.{IsStart};
+    ghost use Rattle.builder_model.specs.Event.{Event};
+    ghost use Rattle.builder_model.specs.State.{IsStart};
     ghost use Rattle.core_state.specs.Line.{IsNextInLine};
 
     ghost event = { λ c. Event.Want c.s };
@@ -193,7 +193,7 @@ pub(crate) struct Parsed {
 }
 
 impl<J: Job> Change<J, ()> for Parsed {
-    ghost use Rattle.cfg_model.specs.Builder.Event.{Event};
+    ghost use Rattle.builder_model.specs.Event.{Event};
 
     ghost event = { λ c. Event.Parsed c.s };
 
@@ -221,7 +221,7 @@ pub(crate) struct Arrive<'a, J: Job, W: Walk> {
 }
 
 impl<J: Job, W: Walk> Change<J, Arrival> for Arrive<'_, J, W> {
-    ghost use Rattle.cfg_model.specs.Builder.Event.{Event};
+    ghost use Rattle.builder_model.specs.Event.{Event};
     ghost use Rattle.board.specs.Calls.{IsArrivalAt};
 
     ghost event = { λ c. Event.Arrive c.k c.s };
@@ -246,7 +246,7 @@ pub(crate) struct Settle {
 }
 
 impl<J: Job> Change<J, ()> for Settle {
-    ghost use Rattle.cfg_model.specs.Builder.Event.{Event};
+    ghost use Rattle.builder_model.specs.Event.{Event};
 
     ghost event = { λ c. Event.Settle c.k c.x };
 
@@ -271,8 +271,8 @@ pub(crate) struct Term {
 
 impl<J: Job> Change<J, bool> for Term {
     ghost use Rattle.std.specs.Prelude.{◌↔◌, IsTrue};
-    ghost use Rattle.cfg_model.specs.Builder.Event.{Event};
-    ghost use Rattle.cfg_model.specs.Builder.State.{IsEntered};
+    ghost use Rattle.builder_model.specs.Event.{Event};
+    ghost use Rattle.builder_model.specs.State.{IsEntered};
 
     ghost event = { λ c. Event.Terminator c.k };
 
@@ -297,8 +297,8 @@ pub(crate) struct Wait {
 
 impl<J: Job> Change<J, bool> for Wait {
     ghost use Rattle.std.specs.Prelude.{◌↔◌, IsTrue};
-    ghost use Rattle.cfg_model.specs.Builder.Event.{Event};
-    ghost use Rattle.cfg_model.specs.Builder.State.{WaitsAt};
+    ghost use Rattle.builder_model.specs.Event.{Event};
+    ghost use Rattle.builder_model.specs.State.{WaitsAt};
 
     ghost event = { λ c. Event.Wait c.k c.w };
 
@@ -323,8 +323,8 @@ pub(crate) struct PlaceWaiter {
 
 impl<J: Job> Change<J, bool> for PlaceWaiter {
     ghost use Rattle.std.specs.Prelude.{◌↔◌, IsTrue};
-    ghost use Rattle.cfg_model.specs.Builder.Event.{Event};
-    ghost use Rattle.cfg_model.specs.Builder.State.{WaitsAt, IsReturned};
+    ghost use Rattle.builder_model.specs.Event.{Event};
+    ghost use Rattle.builder_model.specs.State.{WaitsAt, IsReturned};
 
     ghost event = { λ c. Event.Wait c.k c.w };
 
@@ -349,8 +349,8 @@ pub(crate) struct Returned {
 
 impl<J: Job> Change<J, bool> for Returned {
     ghost use Rattle.std.specs.Prelude.{◌↔◌, IsTrue};
-    ghost use Rattle.cfg_model.specs.Builder.Event.{Event};
-    ghost use Rattle.cfg_model.specs.Builder.State.{IsReturned};
+    ghost use Rattle.builder_model.specs.Event.{Event};
+    ghost use Rattle.builder_model.specs.State.{IsReturned};
 
     ghost event = { λ c. Event.Returned c.k };
 
@@ -374,7 +374,7 @@ pub(crate) struct Told {
 }
 
 impl<J: Job> Change<J, ()> for Told {
-    ghost use Rattle.cfg_model.specs.Builder.Event.{Event};
+    ghost use Rattle.builder_model.specs.Event.{Event};
 
     ghost event = { λ c. Event.Told c.k c.w };
 
@@ -401,7 +401,7 @@ pub(crate) struct MarkTold {
 
 impl<J: Job> Change<J, bool> for MarkTold {
     ghost use Rattle.std.specs.Prelude.{◌↔◌, IsTrue};
-    ghost use Rattle.cfg_model.specs.Builder.Event.{Event};
+    ghost use Rattle.builder_model.specs.Event.{Event};
     ghost use Rattle.core_state.specs.Reads.{HasNextToTell};
 
     ghost event = { λ c. Event.Told c.k c.w };
@@ -425,7 +425,7 @@ pub(crate) struct EdgesDone {
 }
 
 impl<J: Job> Change<J, ()> for EdgesDone {
-    ghost use Rattle.cfg_model.specs.Builder.Event.{Event};
+    ghost use Rattle.builder_model.specs.Event.{Event};
 
     ghost event = { λ c. Event.EdgesDone c.k };
 

@@ -1,11 +1,11 @@
 //! The nine changes of a builder's state, as a seat makes them on the board, and three of them in
 //! another call that answers more.
 ghost use Rattle.std.specs.Prelude.{◌≡◌, ◌↔◌, ◌<◌, IsTrue, IsFalse, OnOk, IfOk, IfSome};
-ghost use Rattle.cfg_model.specs.Builder.Event.{Event};
-ghost use Rattle.cfg_model.specs.Builder.Fact.{Fact};
-ghost use Rattle.cfg_model.specs.Builder.Reason.{Reason};
-ghost use Rattle.cfg_model.specs.Builder.Shard.{Shard, shard_of};
-ghost use Rattle.cfg_model.specs.Builder.State.{IsStart, IsEntered, WaitsAt, IsReturned};
+ghost use Rattle.builder_model.specs.Event.{Event};
+ghost use Rattle.builder_model.specs.Fact.{Fact};
+ghost use Rattle.builder_model.specs.Reason.{Reason};
+ghost use Rattle.builder_model.specs.Shard.{Shard, shard_of};
+ghost use Rattle.builder_model.specs.State.{IsStart, IsEntered, WaitsAt, IsReturned};
 ghost use Rattle.core_state.specs.Line.{IsNextInLine};
 ghost use Rattle.core_state.specs.Place.{Brings, near_after};
 ghost use Rattle.core_state.specs.Reads.{HasNextToTell};
@@ -19,7 +19,8 @@ use crate::change::{
 };
 use crate::seat::Seat;
 use crate::table::Board;
-use cfg_model::{Chains, Waiter};
+use builder_model::Waiter;
+use cfg_model::Chains;
 use core_state::{Along, Arrival, Job, PlaceEnd, ShardKind, Walk};
 use std::marker::PhantomData;
 

@@ -1,10 +1,10 @@
 //! What a seat reads on the board.
 ghost use Rattle.std.specs.Prelude.{◌≡◌, ◌↔◌, ◌<◌, ◌∷◌, [], IsTrue, OnOk, IfOk};
 ghost use Rattle.std.specs.Prelude.{IfSome, OnSome, IfNone, IsSome, Some};
-ghost use Rattle.cfg_model.specs.declared.state.Waiter.{Waiter};
-ghost use Rattle.cfg_model.specs.Builder.Fact.{Fact};
-ghost use Rattle.cfg_model.specs.Builder.Shard.{Shard, shard_of};
-ghost use Rattle.cfg_model.specs.Builder.State.{IsStart, IsMoved, near_at};
+ghost use Rattle.builder_model.specs.declared.state.Waiter.{Waiter};
+ghost use Rattle.builder_model.specs.Fact.{Fact};
+ghost use Rattle.builder_model.specs.Shard.{Shard, shard_of};
+ghost use Rattle.builder_model.specs.State.{IsStart, IsMoved, near_at};
 ghost use Rattle.core_state.specs.Least.{IsLeast};
 ghost use Rattle.core_state.specs.Line.{IsNextInLine};
 ghost use Rattle.core_state.specs.Reads.{IsNextToTell};
@@ -21,13 +21,13 @@ use crate::piece::Piece;
 use crate::seat::Seat;
 use crate::table::Board;
 use crate::turn::{TableSeat, give, learn, slot_at, take};
-use cfg_model::Waiter;
+use builder_model::Waiter;
 use core_state::{Job, PlaceEnd, ShardKind, shard};
 
 /// A read of one shard, which answers an `A`.
 trait Sight<A> {
-    ghost use Rattle.cfg_model.specs.Builder.Shard.{Shard};
-    ghost use Rattle.cfg_model.specs.Builder.State.{BuilderState};
+    ghost use Rattle.builder_model.specs.Shard.{Shard};
+    ghost use Rattle.builder_model.specs.State.{BuilderState};
     ghost use Rattle.board.specs.Pieces.{part_in, IsLike};
 
     /// The shard that it reads.
@@ -100,8 +100,8 @@ struct Near {
 
 impl Sight<Option<u64>> for Near {
     ghost use Rattle.std.specs.Prelude.{◌≡◌};
-    ghost use Rattle.cfg_model.specs.Builder.Shard.{Shard, shard_of};
-    ghost use Rattle.cfg_model.specs.Builder.State.{near_at};
+    ghost use Rattle.builder_model.specs.Shard.{Shard, shard_of};
+    ghost use Rattle.builder_model.specs.State.{near_at};
 
     ghost place = { λ c. Shard.Ends (shard_of c.k) };
 
@@ -122,8 +122,8 @@ struct Moved {
 }
 
 impl Sight<Option<u64>> for Moved {
-    ghost use Rattle.cfg_model.specs.Builder.Shard.{Shard, shard_of};
-    ghost use Rattle.cfg_model.specs.Builder.State.{IsMoved};
+    ghost use Rattle.builder_model.specs.Shard.{Shard, shard_of};
+    ghost use Rattle.builder_model.specs.State.{IsMoved};
     ghost use Rattle.core_state.specs.Least.{IsLeast};
 
     ghost place = { λ c. Shard.Ends (shard_of c.k) };
@@ -145,7 +145,7 @@ struct Untold {
 }
 
 impl Sight<Option<Waiter>> for Untold {
-    ghost use Rattle.cfg_model.specs.Builder.Shard.{Shard, shard_of};
+    ghost use Rattle.builder_model.specs.Shard.{Shard, shard_of};
     ghost use Rattle.core_state.specs.Reads.{IsNextToTell};
 
     ghost place = { λ c. Shard.Terminators (shard_of c.k) };
@@ -168,8 +168,8 @@ struct HasStart {
 
 impl Sight<bool> for HasStart {
     ghost use Rattle.std.specs.Prelude.{◌↔◌, IsTrue};
-    ghost use Rattle.cfg_model.specs.Builder.Shard.{Shard, shard_of};
-    ghost use Rattle.cfg_model.specs.Builder.State.{IsStart};
+    ghost use Rattle.builder_model.specs.Shard.{Shard, shard_of};
+    ghost use Rattle.builder_model.specs.State.{IsStart};
 
     ghost place = { λ c. Shard.Starts (shard_of c.s) };
 
@@ -190,7 +190,7 @@ struct StartBehind {
 }
 
 impl Sight<Option<u64>> for StartBehind {
-    ghost use Rattle.cfg_model.specs.Builder.Shard.{Shard, shard_of};
+    ghost use Rattle.builder_model.specs.Shard.{Shard, shard_of};
     ghost use Rattle.core_state.specs.Line.{IsNextInLine};
 
     ghost place = { λ c. Shard.Starts (shard_of c.a) };
@@ -213,8 +213,8 @@ struct StartsFrom {
 
 impl Sight<(bool, Option<u64>)> for StartsFrom {
     ghost use Rattle.std.specs.Prelude.{◌↔◌, IsTrue};
-    ghost use Rattle.cfg_model.specs.Builder.Shard.{Shard, shard_of};
-    ghost use Rattle.cfg_model.specs.Builder.State.{IsStart};
+    ghost use Rattle.builder_model.specs.Shard.{Shard, shard_of};
+    ghost use Rattle.builder_model.specs.State.{IsStart};
     ghost use Rattle.core_state.specs.Line.{IsNextInLine};
 
     ghost place = { λ c. Shard.Starts (shard_of c.a) };

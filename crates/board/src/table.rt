@@ -3,9 +3,9 @@ ghost use Rattle.std.specs.Prelude.{◌≡◌, ◌≤◌, ◌<◌, ℕ, [], vec_
 ghost use Rattle.std.specs.Mem.Slots.{slots_items, slots_len, IsFull};
 ghost use Rattle.board.specs.Locks.Share.{IsWhole};
 ghost use Rattle.cfg_model.specs.Program.Reach.{AreSeeds};
-ghost use Rattle.cfg_model.specs.Builder.Fact.{Fact, Holds};
-ghost use Rattle.cfg_model.specs.Builder.Kept.{IsKept};
-ghost use Rattle.cfg_model.specs.Builder.State.{BuilderState, empty_state};
+ghost use Rattle.builder_model.specs.Fact.{Fact, Holds};
+ghost use Rattle.builder_model.specs.Kept.{IsKept};
+ghost use Rattle.builder_model.specs.State.{BuilderState, empty_state};
 ghost use Rattle.board.specs.Seat.{HoldsNothing, Knows, first_seat};
 ghost use Rattle.board.specs.Inner.Closing.{AreOf, starts_room, ends_room, terms_room};
 ghost use Rattle.board.specs.Inner.Closing.{starts_with, ends_with, terms_with};

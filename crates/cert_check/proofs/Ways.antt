@@ -10,11 +10,10 @@ use Rattle.cfg_model.specs.declared.graph.EdgeKind.{EdgeKind}
 use Rattle.cfg_model.specs.declared.graph.EdgeKind.TheVariants as kinds
 use Rattle.cfg_model.specs.Program.Instructions.{InstructionMap, flow_at, targets_at}
 use Rattle.cfg_model.specs.Program.Chain.{GoesOnTo, IsTerminator}
-use Rattle.cfg_model.specs.Program.Successors.{successors_of_flow}
+use Rattle.cfg_model.specs.Program.Successors.{successors_of_flow, IsTarget}
 use Rattle.cfg_model.specs.Graph.Block.{IsLastOf}
 use Rattle.cfg_model.specs.Graph.Edge.{LeadsTo, Leaves}
 use Rattle.cfg_model.specs.Graph.Listing.{Gains}
-use Rattle.cfg_model.specs.Builder.Waits.{IsTarget}
 use Rattle.cfg_model.proofs.Program.Listed.{none_in, in_cases, head_in}
 use Rattle.cfg_model.proofs.Graphs.OneBlock.{not_both, one_last}
 use Rattle.cert_text.specs.declared.lines.ReturnLine.{ReturnLine}

@@ -3,7 +3,7 @@ use Rattle.std.proofs.Common.{◌≡◌, ℕ, List, [], ◌∷◌}
 use Rattle.std.specs.Prelude.{◌⊎◌, Contains}
 use mathlib.Core.Logic.{inl, inr}
 use Rattle.cfg_model.proofs.Program.Listed.{none_in, head_in, tail_in, in_cases}
-use Rattle.cfg_model.proofs.Builder.MapFacts.{same_or_other}
+use Rattle.cfg_model.proofs.Program.MapFacts.{same_or_other}
 use Rattle.std.proofs.Common.{ap, ◌∙◌}
 
 -- an item of this number

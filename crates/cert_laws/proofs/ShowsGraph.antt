@@ -7,13 +7,11 @@ use Rattle.cfg_model.specs.declared.flow.Flow.{Flow}
 use Rattle.cfg_model.specs.declared.flow.Flow.TheVariants.{Straight, Branch, Jump, Call, IndirectCall, Table, Return, Unknown, Stop}
 use Rattle.cfg_model.specs.Program.Instructions.{InstructionMap, IsLawful, flow_at, length_at, targets_at}
 use Rattle.cfg_model.specs.Program.Chain.{OnChain, GoesOnTo, IsTerminator, IsTerminatorOf, EndsChain}
-use Rattle.cfg_model.specs.Program.Successors.{IsSuccessor, IsCall, successors_of_flow, LeavesFunction}
+use Rattle.cfg_model.specs.Program.Successors.{IsSuccessor, IsCall, successors_of_flow, LeavesFunction, IsTarget}
 use Rattle.cfg_model.specs.Program.Status.{Returns}
-use Rattle.cfg_model.specs.Program.Reach.{Reached}
+use Rattle.cfg_model.specs.Program.Reach.{Reached, IsReachedTerminator}
 use Rattle.cfg_model.specs.Graph.Leader.{IsLeader, StartsBlock, targets_by, fall_by}
 use Rattle.cfg_model.specs.Graph.Block.{RunsTo}
-use Rattle.cfg_model.specs.Builder.Waits.{IsTarget}
-use Rattle.cfg_model.specs.Builder.Fact.{IsReachedTerminator}
 use Rattle.cfg_model.proofs.Program.Listed.{none_in, in_cases, head_in}
 use Rattle.cfg_model.proofs.Program.Landing.{landing_follows, may_land}
 use Rattle.cfg_model.proofs.Program.Along.{next_is_successor, returns_along}
@@ -21,7 +19,7 @@ use Rattle.cfg_model.proofs.Program.ChainFacts.{chain_up, chain_on, one_next, go
 use Rattle.cfg_model.proofs.Program.ChainEnds.{goes_towards, one_end}
 use Rattle.cfg_model.proofs.Graphs.LeaderFacts.{reached_along, chain_linear, target_leads}
 use Rattle.cfg_model.proofs.Graphs.Runs.{run_step}
-use Rattle.cfg_model.proofs.Builder.StateGrowth.{none_is_some}
+use Rattle.cfg_model.proofs.Program.MapFacts.{none_is_some}
 use Rattle.cert_text.specs.declared.lines.ReturnLine.{ReturnLine}
 use Rattle.cert_text.specs.declared.lines.ReturnWhy.{ReturnWhy}
 use Rattle.cert_text.specs.declared.lines.ReturnWhy.TheVariants.{Itself, To, CallBoth}

@@ -4,7 +4,7 @@ use Rattle.std.proofs.Common.{◌≡◌, ℕ, List, [], ◌∷◌, refl, ◌∙�
 use mathlib.Core.Logic.{inl, inr}
 use Rattle.cfg_model.specs.Program.Chain.{OnChain, IsTerminatorOf}
 use Rattle.cfg_model.specs.Graph.Block.{RunsTo}
-use Rattle.cfg_model.specs.Builder.Waits.{IsTarget}
+use Rattle.cfg_model.specs.Program.Successors.{IsTarget}
 use Rattle.cfg_model.proofs.Program.Listed.{none_in, in_cases, head_in, tail_in}
 use Rattle.cfg_model.proofs.Worked.Rows.{row_8}
 use Rattle.cert_text.specs.declared.lines.ReturnLine.{ReturnLine}

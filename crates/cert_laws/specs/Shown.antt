@@ -3,7 +3,7 @@ use Rattle.std.specs.Prelude.{◌↔◌, ℕ, List}
 use Rattle.cfg_model.specs.Program.Instructions.{InstructionMap, IsLawful}
 use Rattle.cfg_model.specs.Program.Status.{Returns}
 use Rattle.cfg_model.specs.Graph.Leader.{IsLeader}
-use Rattle.cfg_model.specs.Builder.Fact.{IsReachedTerminator}
+use Rattle.cfg_model.specs.Program.Reach.{IsReachedTerminator}
 use Rattle.cert_text.specs.declared.certificate.Part.{Part}
 use Rattle.cert_laws.specs.Lines.{IsLead, IsReturn}
 use Rattle.cert_laws.specs.Valid.{IsValid}

@@ -2,8 +2,7 @@
 use Rattle.std.specs.Prelude.{ℕ, Some}
 use Rattle.cfg_model.specs.Program.Instructions.{InstructionMap}
 use Rattle.cfg_model.specs.Program.Chain.{IsTerminatorOf}
-use Rattle.cfg_model.specs.Program.Successors.{IsSuccessor, IsCall, ReturnsByItself}
-use Rattle.cfg_model.specs.Builder.Waits.{IsTarget}
+use Rattle.cfg_model.specs.Program.Successors.{IsSuccessor, IsCall, ReturnsByItself, IsTarget}
 use Rattle.cert_text.specs.declared.lines.ReturnWhy.{ReturnWhy}
 use Rattle.cert_text.specs.declared.lines.ReturnWhy.TheVariants.{Itself, To, CallBoth}
 

@@ -6,8 +6,7 @@ use Rattle.cfg_model.specs.declared.flow.Flow.{Flow}
 use Rattle.cfg_model.specs.declared.flow.Flow.TheVariants.{Straight, Branch, Jump, Call, IndirectCall, Table, Return, Unknown, Stop}
 use Rattle.cfg_model.specs.Program.Instructions.{InstructionMap, flow_at, targets_at}
 use Rattle.cfg_model.specs.Program.Chain.{GoesOnTo, EndsChain, IsTerminator, OnChain, IsTerminatorOf}
-use Rattle.cfg_model.specs.Program.Successors.{successors_of_flow, IsSuccessor, IsCall, LeavesFunction}
-use Rattle.cfg_model.specs.Builder.Waits.{IsTarget}
+use Rattle.cfg_model.specs.Program.Successors.{successors_of_flow, IsSuccessor, IsCall, LeavesFunction, IsTarget}
 use Rattle.cfg_model.specs.Graph.Leader.{targets_by, fall_by}
 use Rattle.std.proofs.lemmas.List.Elements.{Contains-append_left, Contains-append_right}
 use Rattle.cfg_model.proofs.Program.Listed.{none_in, in_cases, head_in}

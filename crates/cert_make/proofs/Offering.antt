@@ -5,9 +5,8 @@ use Rattle.cfg_model.specs.declared.flow.Flow.{Flow}
 use Rattle.cfg_model.specs.declared.flow.Flow.TheVariants.{Call}
 use Rattle.cfg_model.specs.Graph.Listing.{Gains}
 use Rattle.cfg_model.specs.Program.Instructions.{InstructionMap, flow_at}
-use Rattle.cfg_model.specs.Program.Successors.{IsCall, successors_of}
+use Rattle.cfg_model.specs.Program.Successors.{IsCall, successors_of, IsTarget}
 use Rattle.cfg_model.specs.Program.Status.{Returns}
-use Rattle.cfg_model.specs.Builder.Waits.{IsTarget}
 use Rattle.cfg_model.proofs.Graphs.Gaining.{Gains-then, Gains-same, Gains-pushed}
 use Rattle.cert_make.specs.Reason.{GoesTo}
 

@@ -6,7 +6,7 @@ use Rattle.cert_text.specs.declared.lines.LeadWhy.TheVariants.{Seed, From, Join}
 use Rattle.cfg_model.specs.Program.Instructions.{InstructionMap, targets_at}
 use Rattle.cfg_model.specs.Program.Chain.{OnChain, IsTerminator}
 use Rattle.cfg_model.specs.Program.Reach.{Reached}
-use Rattle.cfg_model.specs.Builder.Waits.{IsTarget}
+use Rattle.cfg_model.specs.Program.Successors.{IsTarget}
 use Rattle.cfg_model.specs.Graph.Leader.{StartsBlock, IsLeader}
 use Rattle.cfg_model.proofs.Program.Along.{next_is_successor}
 use Rattle.cfg_model.proofs.Program.ChainFacts.{chain_on}

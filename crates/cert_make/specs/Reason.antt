@@ -6,9 +6,8 @@ use Rattle.cert_text.specs.declared.lines.LeadWhy.{LeadWhy}
 use Rattle.cert_text.specs.declared.lines.LeadWhy.TheVariants.{Seed, From, Join}
 use Rattle.cfg_model.specs.Program.Instructions.{InstructionMap, length_at}
 use Rattle.cfg_model.specs.Program.Chain.{GoesOnTo, OnChain, IsTerminatorOf}
-use Rattle.cfg_model.specs.Program.Successors.{IsSuccessor, IsCall, ReturnsByItself}
+use Rattle.cfg_model.specs.Program.Successors.{IsSuccessor, IsCall, ReturnsByItself, IsTarget}
 use Rattle.cfg_model.specs.Program.Status.{Returns}
-use Rattle.cfg_model.specs.Builder.Waits.{IsTarget}
 
 -- The terminator of the chain of a counts.
 abbrev pub EndCounts : InstructionMap → (ℕ → Type 0) → ℕ → Type 0

@@ -1,4 +1,5 @@
 -- Lemmas on programs and their chains. Proofs of the crates above cite them.
+pub mod MapFacts
 pub mod Listed
 pub mod Code
 pub mod Known

@@ -1,4 +1,3 @@
 pub mod Program
 pub mod Graph
-pub mod Builder
 pub mod Inner

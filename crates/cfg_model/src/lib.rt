@@ -7,11 +7,9 @@
 //! - [`live`]: live registers of blocks as plain data, and their lists.
 //! - [`laws`]: laws of these definitions, above all that a program has one graph.
 //! - [`outline`]: blocks and edges, read off the last instruction of a block.
-//! - [`state`]: what a builder notes of a start and of a terminator that waits.
 //! - `specs/Program`: chains, successors, return status, reachable addresses and table cuts, as
 //!   definitions on the map alone.
 //! - `specs/Graph`: leaders, blocks, edges, functions and the graph of a program.
-//! - `specs/Builder`: what a builder of the graph keeps, what it may do, and what stays true.
 #![tactic(auto)]
 
 pub mod chain;
@@ -20,7 +18,6 @@ pub mod graph;
 pub mod laws;
 pub mod live;
 pub mod outline;
-pub mod state;
 
 pub use chain::{before, meet, on_chain, term};
 pub use flow::{Chains, Flow};
@@ -30,5 +27,4 @@ pub use graph::{
 pub use laws::{one_block_for_each_address, one_graph, one_map_of_cuts, parts_are_blocks};
 pub use live::{AllLives, Live, Lives};
 pub use outline::{add_edges, add_edges_by, block_by, block_of, edges_in_order};
-pub use state::{Mark, WaitKind, Waiter};
 pub use std::alloc::AllocError as Memory;

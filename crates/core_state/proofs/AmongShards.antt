@@ -3,8 +3,8 @@ use Rattle.std.proofs.Common.{◌≡◌, ℕ, refl, List, get_or, subst, sym, ap
 use Rattle.std.specs.Prelude.{Option, Some, None, IfSome, IfNone}
 use Rattle.std.specs.Ordering.{nat_cmp}
 use Rattle.std.specs.FinMap as maps
-use Rattle.cfg_model.specs.Builder.Shard.{shard_of}
-use Rattle.cfg_model.specs.Builder.Left.{Work}
+use Rattle.builder_model.specs.Shard.{shard_of}
+use Rattle.builder_model.specs.Left.{Work}
 use Rattle.address_map.specs.Found.{IsFoundAmong, IsFoundInPart}
 use Rattle.address_map.proofs.AmongParts.{from_part}
 use Rattle.core_state.specs.declared.answer.Name.{Name}

@@ -3,10 +3,10 @@ use Rattle.std.proofs.Common.{◌≡◌, ℕ, true, false, subst, sym, ap, ◌�
 use Rattle.std.specs.Prelude.{Option, Some, None, IsTrue, is_some}
 use Rattle.std.specs.FinMap as maps
 use Rattle.std.specs.FinSet as sets
-use Rattle.cfg_model.specs.declared.state.Mark.{Mark}
-use Rattle.cfg_model.specs.declared.state.Waiter.{Waiter}
-use Rattle.cfg_model.specs.Builder.State.{StartMap, EndEntry, TerminatorEntry}
-use Rattle.cfg_model.specs.Builder.Left.{Work}
+use Rattle.builder_model.specs.declared.state.Mark.{Mark}
+use Rattle.builder_model.specs.declared.state.Waiter.{Waiter}
+use Rattle.builder_model.specs.State.{StartMap, EndEntry, TerminatorEntry}
+use Rattle.builder_model.specs.Left.{Work}
 use Rattle.core_state.specs.Least.{IsLeast}
 use Rattle.core_state.specs.inner.Remaining.{LeftAtEnd, LeftAtTerminator}
 

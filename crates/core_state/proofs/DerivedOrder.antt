@@ -1,11 +1,11 @@
 -- The order that is derived for waiters is the one of the definitions.
 use Rattle.std.proofs.Common.{◌≡◌, refl}
 use Rattle.std.specs.Ordering.{nat_cmp, ordering_then}
-use Rattle.cfg_model.specs.declared.state.WaitKind.{WaitKind}
-use Rattle.cfg_model.specs.declared.state.WaitKind.TheVariants.{Follow, Release}
-use Rattle.cfg_model.specs.Builder.Waiter.{wait_kind_cmp, waiter_cmp}
-use Rattle.cfg_model.specs.contracts.state.WaiterOrd.TheImpl as derived
-use Rattle.cfg_model.specs.contracts.state.WaitKindOrd.TheImpl as kinds
+use Rattle.builder_model.specs.declared.state.WaitKind.{WaitKind}
+use Rattle.builder_model.specs.declared.state.WaitKind.TheVariants.{Follow, Release}
+use Rattle.builder_model.specs.Waiter.{wait_kind_cmp, waiter_cmp}
+use Rattle.builder_model.specs.contracts.state.WaiterOrd.TheImpl as derived
+use Rattle.builder_model.specs.contracts.state.WaitKindOrd.TheImpl as kinds
 
 kind_order : (x y : WaitKind) → kinds.cmp-value.it x y ≡ wait_kind_cmp x y
 kind_order Follow Follow = refl

@@ -9,7 +9,7 @@ use Rattle.std.specs.Cmp.{nat_cmp_total}
 use Rattle.std.specs.FinSet as sets
 use Rattle.std.specs.BTreeMap.{is_at}
 use Rattle.std.proofs.lemmas.Bool.{ne_eqb}
-use Rattle.cfg_model.specs.Builder.Event.{with_displaced}
+use Rattle.builder_model.specs.Event.{with_displaced}
 use Rattle.core_state.proofs.SeenSet.{HasAt, member, seen_insert, seen_remove, remove_new}
 
 pub displaced_other : (moved : sets.FinSet nat_cmp) (m x : ℕ) → x ≢ m → sets.insert moved x ≡ with_displaced moved m x

@@ -7,10 +7,10 @@ use Rattle.std.specs.Cmp.{nat_cmp_total}
 use Rattle.std.specs.FinMap as maps
 use Rattle.std.specs.FinSet as sets
 use Rattle.cfg_model.specs.Program.Instructions.{InstructionMap}
-use Rattle.cfg_model.specs.Builder.State.{EndMap, EndEntry, IsNear, IsMoved, near_at}
-use Rattle.cfg_model.specs.Builder.Event.{Arrives, ArrivesAt, with_settled}
-use Rattle.cfg_model.proofs.Builder.MapFacts.{get_here}
-use Rattle.cfg_model.proofs.Builder.StateReads.{near_is}
+use Rattle.builder_model.specs.State.{EndMap, EndEntry, IsNear, IsMoved, near_at}
+use Rattle.builder_model.specs.Event.{Arrives, ArrivesAt, with_settled}
+use Rattle.cfg_model.proofs.Program.MapFacts.{get_here}
+use Rattle.builder_model.proofs.StateReads.{near_is}
 use Rattle.core_state.specs.declared.answer.Arrival.{Arrival}
 use Rattle.core_state.specs.declared.end.Kept.{Kept}
 use Rattle.core_state.specs.declared.end.Kept.TheVariants.{Near}

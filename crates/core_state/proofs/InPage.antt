@@ -2,8 +2,8 @@
 use Rattle.std.proofs.Common.{◌≡◌, ◌≢◌, ℕ, ◌+◌, ◌-◌, ◌<◌, ◌≤◌, ◌/◌, ◌%◌, Bool, List, ap, arith}
 use Rattle.std.specs.Prelude.{Some, None, IsTrue, slice_get, ◌⊎◌}
 use mathlib.Core.Logic.{inl, inr}
-use Rattle.cfg_model.specs.Builder.Shard.{shard_of}
-use Rattle.cfg_model.proofs.Builder.MapFacts.{same_or_other}
+use Rattle.builder_model.specs.Shard.{shard_of}
+use Rattle.cfg_model.proofs.Program.MapFacts.{same_or_other}
 use Rattle.core_state.specs.Least.{IsLeast, IsAbove}
 use Rattle.core_state.specs.inner.Walk.{IsKey, HaveOwn}
 use Rattle.core_state.proofs.Walks.{is_key, in_here}

@@ -6,9 +6,9 @@ use Rattle.std.specs.Option.{option_or}
 use Rattle.std.specs.Ordering.{eq_by_cmp}
 use Rattle.std.specs.FinMap as maps
 use Rattle.std.specs.FinMap.{find}
-use Rattle.cfg_model.specs.declared.state.Waiter.{Waiter}
-use Rattle.cfg_model.specs.Builder.Waiter.{waiter_cmp}
-use Rattle.cfg_model.proofs.Builder.WaiterOrder.{exact_waiters}
+use Rattle.builder_model.specs.declared.state.Waiter.{Waiter}
+use Rattle.builder_model.specs.Waiter.{waiter_cmp}
+use Rattle.builder_model.proofs.WaiterOrder.{exact_waiters}
 use Rattle.core_state.specs.declared.waiters.Kept.{Kept}
 use Rattle.core_state.specs.declared.waiters.Kept.TheVariants.{Nobody}
 use Rattle.core_state.specs.Least.{IsLeastBy}

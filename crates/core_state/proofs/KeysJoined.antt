@@ -4,7 +4,7 @@ use Rattle.std.specs.Prelude.{Option, IsSome, is_some}
 use Rattle.std.specs.Ordering.{nat_cmp}
 use Rattle.std.specs.FinMap as maps
 use Rattle.std.proofs.lemmas.Option.{get_or_from_slice_get, slice_get-get_or}
-use Rattle.cfg_model.specs.Builder.Shard.{shard_of}
+use Rattle.builder_model.specs.Shard.{shard_of}
 use Rattle.core_state.specs.Joined.{joined, AreShards}
 use Rattle.core_state.specs.Least.{IsLeast, IsAbove}
 use Rattle.core_state.specs.inner.Walk.{IsKey, HaveOwn}

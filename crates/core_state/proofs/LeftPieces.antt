@@ -6,10 +6,10 @@ use mathlib.Core.Logic.{inl, inr}
 use Rattle.std.specs.FinMap as maps
 use Rattle.std.specs.FinSet as sets
 use Rattle.std.specs.Ordering.{nat_cmp}
-use Rattle.cfg_model.specs.declared.state.Mark.TheVariants as marks
-use Rattle.cfg_model.specs.declared.state.Waiter.{Waiter}
-use Rattle.cfg_model.specs.Builder.State.{BuilderState, EndEntry, TerminatorEntry, IsStart, StandsAt}
-use Rattle.cfg_model.specs.Builder.Left.{Work, IsLeft, HasNothingLeft}
+use Rattle.builder_model.specs.declared.state.Mark.TheVariants as marks
+use Rattle.builder_model.specs.declared.state.Waiter.{Waiter}
+use Rattle.builder_model.specs.State.{BuilderState, EndEntry, TerminatorEntry, IsStart, StandsAt}
+use Rattle.builder_model.specs.Left.{Work, IsLeft, HasNothingLeft}
 use Rattle.address_map.specs.Found.{IsFoundAmong}
 use Rattle.core_state.specs.inner.Remaining.{LeftAtStart, LeftAtEnd, LeftAtTerminator}
 

@@ -3,8 +3,8 @@ use Rattle.std.proofs.Common.{◌≡◌, ℕ, ◌/◌, List, get_or, sym, ap, �
 use Rattle.std.specs.Prelude.{Option, is_some}
 use Rattle.std.specs.Ordering.{nat_cmp}
 use Rattle.std.specs.FinMap as maps
-use Rattle.cfg_model.specs.declared.state.Mark.{Mark}
-use Rattle.cfg_model.specs.Builder.Shard.{shard_of}
+use Rattle.builder_model.specs.declared.state.Mark.{Mark}
+use Rattle.builder_model.specs.Shard.{shard_of}
 use Rattle.core_state.specs.Joined.{joined, AreShards}
 use Rattle.core_state.specs.Line.{IsNextInLine}
 use Rattle.core_state.proofs.Shards.{same_there}

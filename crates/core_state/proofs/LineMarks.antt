@@ -5,8 +5,8 @@ use Rattle.std.specs.Int.{bit_at}
 use Rattle.std.proofs.lemmas.Bool.{eqb-true, eqb-false}
 use Rattle.std.proofs.lemmas.Nat.Bits.{bit_at-lt}
 use mathlib.Core.Logic.{inl, inr}
-use Rattle.cfg_model.specs.declared.state.Mark.{Mark}
-use Rattle.cfg_model.specs.declared.state.Mark.TheVariants as marks
+use Rattle.builder_model.specs.declared.state.Mark.{Mark}
+use Rattle.builder_model.specs.declared.state.Mark.TheVariants as marks
 use Rattle.core_state.specs.Least.{IsLeast}
 use Rattle.core_state.specs.declared.line.Line.{Line}
 use Rattle.core_state.specs.inner.Lines.{mark_in}

@@ -5,10 +5,10 @@ use Rattle.std.specs.Option.{option_and_then}
 use Rattle.std.specs.Ordering.{nat_cmp}
 use Rattle.std.specs.FinMap as maps
 use mathlib.Core.Logic.{inl, inr}
-use Rattle.cfg_model.specs.declared.state.Mark.{Mark}
-use Rattle.cfg_model.specs.declared.state.Mark.TheVariants as marks
-use Rattle.cfg_model.specs.Builder.State.{StartMap, IsStart}
-use Rattle.cfg_model.specs.Builder.Left.{Work}
+use Rattle.builder_model.specs.declared.state.Mark.{Mark}
+use Rattle.builder_model.specs.declared.state.Mark.TheVariants as marks
+use Rattle.builder_model.specs.State.{StartMap, IsStart}
+use Rattle.builder_model.specs.Left.{Work}
 use Rattle.address_map.specs.Found.{IsFoundAmong}
 use Rattle.address_map.specs.Keys.{with_new}
 use Rattle.address_map.proofs.Leasts.{least_as}

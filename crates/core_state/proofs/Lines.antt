@@ -7,8 +7,8 @@ use Rattle.std.specs.Cmp.{nat_cmp_total}
 use Rattle.std.specs.FinMap as maps
 use Rattle.std.specs.FinMap.{find}
 use mathlib.Core.Logic.{inl, inr}
-use Rattle.cfg_model.specs.declared.state.Mark.{Mark}
-use Rattle.cfg_model.specs.Builder.State.{StartMap}
+use Rattle.builder_model.specs.declared.state.Mark.{Mark}
+use Rattle.builder_model.specs.State.{StartMap}
 use Rattle.address_map.proofs.OneEntry.{same_or_other, get_here, get_apart, is_equal}
 use Rattle.address_map.proofs.EntriesLinked.{less_or_not}
 use Rattle.core_state.specs.declared.line.Line.{Line}

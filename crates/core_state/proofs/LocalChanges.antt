@@ -5,9 +5,9 @@ use Rattle.std.specs.Option.{option_map, option_map_or}
 use Rattle.std.specs.Ordering.{nat_cmp}
 use Rattle.std.specs.FinMap as maps
 use Rattle.std.specs.FinSet as sets
-use Rattle.cfg_model.specs.declared.state.Mark.TheVariants as marks
-use Rattle.cfg_model.specs.Builder.State.{StartMap, EndMap, EndEntry, TerminatorMap, TerminatorEntry}
-use Rattle.cfg_model.specs.Builder.Event.{with_start, with_parsed, with_settled, with_terminator, with_changed, new_entry}
+use Rattle.builder_model.specs.declared.state.Mark.TheVariants as marks
+use Rattle.builder_model.specs.State.{StartMap, EndMap, EndEntry, TerminatorMap, TerminatorEntry}
+use Rattle.builder_model.specs.Event.{with_start, with_parsed, with_settled, with_terminator, with_changed, new_entry}
 use Rattle.address_map.proofs.OneEntry.{alter, IsLocal}
 
 -- a value where there is none yet

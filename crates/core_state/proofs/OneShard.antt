@@ -2,8 +2,8 @@
 -- that change of the state.
 use Rattle.std.proofs.Common.{◌≡◌, ℕ, List, get_or, set, ap}
 use Rattle.std.specs.FinMap as maps
-use Rattle.cfg_model.specs.Builder.Shard.{shard_of}
-use Rattle.cfg_model.specs.Builder.State.{BuilderState, StartMap, EndMap, TerminatorMap}
+use Rattle.builder_model.specs.Shard.{shard_of}
+use Rattle.builder_model.specs.State.{BuilderState, StartMap, EndMap, TerminatorMap}
 use Rattle.address_map.proofs.OneEntry.{IsLocal}
 use Rattle.core_state.specs.Counted.{CountedState}
 use Rattle.core_state.specs.Joined.{joined, AreShards}

@@ -4,9 +4,9 @@ use Rattle.std.specs.Prelude.{Contains, Option, Some, None, IfNone}
 use Rattle.std.specs.Ordering.{nat_cmp}
 use Rattle.std.specs.FinMap as maps
 use Rattle.std.proofs.lemmas.List.{get_or_read}
-use Rattle.cfg_model.specs.Builder.Shard.{shard_of}
-use Rattle.cfg_model.specs.Builder.State.{BuilderState, IsStart}
-use Rattle.cfg_model.specs.Builder.Left.{Work, HasNothingLeft}
+use Rattle.builder_model.specs.Shard.{shard_of}
+use Rattle.builder_model.specs.State.{BuilderState, IsStart}
+use Rattle.builder_model.specs.Left.{Work, HasNothingLeft}
 use Rattle.core_state.specs.declared.answer.Name.{Name}
 use Rattle.core_state.specs.Joined.{AreShards, joined}
 use Rattle.address_map.specs.Found.{IsFoundAmong}

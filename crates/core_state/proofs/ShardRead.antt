@@ -5,8 +5,8 @@ use Rattle.std.specs.Option.{option_map}
 use Rattle.std.specs.Ordering.{nat_cmp}
 use Rattle.std.specs.FinMap as maps
 use Rattle.std.proofs.lemmas.List.{get_or_read}
-use Rattle.cfg_model.specs.Builder.Shard.{shard_of}
-use Rattle.cfg_model.specs.Builder.State.{StartMap, TerminatorMap, TerminatorEntry, IsStart}
+use Rattle.builder_model.specs.Shard.{shard_of}
+use Rattle.builder_model.specs.State.{StartMap, TerminatorMap, TerminatorEntry, IsStart}
 use Rattle.address_map.specs.Read.{IsRead}
 use Rattle.core_state.specs.Joined.{AreShards, joined}
 use Rattle.core_state.specs.Reads.{returned_at}

@@ -6,7 +6,7 @@ use Rattle.std.specs.Ordering.{nat_cmp}
 use Rattle.std.specs.Cmp.{nat_cmp_total}
 use Rattle.std.specs.FinMap as maps
 use Rattle.std.proofs.lemmas.List.{length-set}
-use Rattle.cfg_model.specs.Builder.Shard.{shard_of}
+use Rattle.builder_model.specs.Shard.{shard_of}
 use Rattle.address_map.proofs.OneEntry.{IsLocal}
 use Rattle.address_map.proofs.PartsJoined as parts
 use Rattle.core_state.specs.Joined.{joined, AreShards}

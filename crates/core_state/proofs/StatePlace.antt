@@ -4,14 +4,14 @@ use Rattle.std.specs.Prelude.{◌⊎◌, Contains, Option, Some, None, IsSome, i
 use Rattle.std.specs.Option.{option_map}
 use mathlib.Core.Logic.{inl, inr}
 use Rattle.std.specs.FinMap as maps
-use Rattle.cfg_model.specs.declared.state.Waiter.{Waiter}
+use Rattle.builder_model.specs.declared.state.Waiter.{Waiter}
 use Rattle.cfg_model.specs.Program.Instructions.{InstructionMap, IsLawful}
-use Rattle.cfg_model.specs.Builder.State.{BuilderState, EndMap, EndEntry, IsNear, IsMoved, HasEnd, IsAnchored, near_at, waiters_at}
-use Rattle.cfg_model.specs.Builder.Event.{Event, Steps}
-use Rattle.cfg_model.specs.Builder.Fact.{Fact, Holds}
-use Rattle.cfg_model.specs.Builder.Brought.{facts_of}
-use Rattle.cfg_model.specs.Builder.Reason.{Reason, May}
-use Rattle.cfg_model.specs.Builder.Kept.{IsKept}
+use Rattle.builder_model.specs.State.{BuilderState, EndMap, EndEntry, IsNear, IsMoved, HasEnd, IsAnchored, near_at, waiters_at}
+use Rattle.builder_model.specs.Event.{Event, Steps}
+use Rattle.builder_model.specs.Fact.{Fact, Holds}
+use Rattle.builder_model.specs.Brought.{facts_of}
+use Rattle.builder_model.specs.Reason.{Reason, May}
+use Rattle.builder_model.specs.Kept.{IsKept}
 use Rattle.cfg_model.proofs.Program.Listed.{head_in}
 use Rattle.split_laws.proofs.AllowedLaws.{reasons_suffice}
 use Rattle.status_laws.proofs.KeptLaws.{events_keep_kept}

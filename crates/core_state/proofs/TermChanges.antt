@@ -3,11 +3,11 @@ use Rattle.std.proofs.Common.{◌≡◌, ℕ, true, false, refl, subst, ap, sym,
 use Rattle.std.specs.Prelude.{Option, Some, None, not, ◌↔◌, IsSome, IsTrue, is_some, Bool}
 use Rattle.std.specs.Option.{option_map, option_map_or}
 use Rattle.std.specs.FinMap as maps
-use Rattle.cfg_model.specs.declared.state.Waiter.{Waiter}
-use Rattle.cfg_model.specs.Builder.Waiter.{waiter_cmp}
-use Rattle.cfg_model.specs.Builder.State.{TerminatorMap, TerminatorEntry, IsEntered, IsReturned, WaitsAt, waiters_at}
-use Rattle.cfg_model.specs.Builder.Event.{with_changed}
-use Rattle.cfg_model.proofs.Builder.MapFacts.{get_here}
+use Rattle.builder_model.specs.declared.state.Waiter.{Waiter}
+use Rattle.builder_model.specs.Waiter.{waiter_cmp}
+use Rattle.builder_model.specs.State.{TerminatorMap, TerminatorEntry, IsEntered, IsReturned, WaitsAt, waiters_at}
+use Rattle.builder_model.specs.Event.{with_changed}
+use Rattle.cfg_model.proofs.Program.MapFacts.{get_here}
 use Rattle.core_state.specs.Least.{IsLeastBy}
 use Rattle.core_state.specs.Reads.{IsNextToTell, HasNextToTell}
 use Rattle.core_state.specs.inner.Waiting.{HasNextHere}

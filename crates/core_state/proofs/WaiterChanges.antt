@@ -10,10 +10,10 @@ use Rattle.std.specs.FinMap as maps
 use Rattle.std.specs.FinSet as sets
 use Rattle.std.specs.BTreeMap.{is_at}
 use Rattle.std.specs.Map.{lookup}
-use Rattle.cfg_model.specs.declared.state.Waiter.{Waiter}
-use Rattle.cfg_model.specs.Builder.Waiter.{waiter_cmp}
-use Rattle.cfg_model.specs.contracts.state.WaiterOrd.TheImpl as derived
-use Rattle.cfg_model.proofs.Builder.WaiterOrder.{waiter_cmp_total, exact_waiters}
+use Rattle.builder_model.specs.declared.state.Waiter.{Waiter}
+use Rattle.builder_model.specs.Waiter.{waiter_cmp}
+use Rattle.builder_model.specs.contracts.state.WaiterOrd.TheImpl as derived
+use Rattle.builder_model.proofs.WaiterOrder.{waiter_cmp_total, exact_waiters}
 use Rattle.core_state.specs.Least.{IsLeastBy}
 use Rattle.core_state.specs.inner.Untold.{is_untold, AreUntold}
 use Rattle.core_state.specs.inner.Waiting.{WaiterMap, AwaitsTelling, with_told}

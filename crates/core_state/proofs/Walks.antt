@@ -4,8 +4,8 @@ use Rattle.std.specs.Prelude.{Option, Some, None, IsTrue, slice_get, MatchOption
 use mathlib.Core.Logic.{inl, inr}
 use Rattle.std.proofs.lemmas.Option.{slice_get_read}
 use Rattle.std.proofs.lemmas.Bool.{eqb-true, eqb-false}
-use Rattle.cfg_model.specs.Builder.Shard.{shard_of}
-use Rattle.cfg_model.proofs.Builder.MapFacts.{same_or_other}
+use Rattle.builder_model.specs.Shard.{shard_of}
+use Rattle.cfg_model.proofs.Program.MapFacts.{same_or_other}
 use Rattle.core_state.specs.Least.{IsLeast, IsAbove}
 use Rattle.core_state.specs.inner.Walk.{IsKey, HaveOwn, is_in_line}
 use Rattle.address_map.specs.Least.{lesser_of}

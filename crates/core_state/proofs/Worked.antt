@@ -1,7 +1,7 @@
 -- The definitions, computed on a few values.
 use Rattle.std.proofs.Common.{◌≡◌, true, false, refl}
 use Rattle.std.specs.Prelude.{Some, None}
-use Rattle.cfg_model.specs.Builder.Shard.{shard_of}
+use Rattle.builder_model.specs.Shard.{shard_of}
 use Rattle.core_state.specs.declared.answer.Arrival.TheVariants.{First, Same, Split}
 use Rattle.core_state.specs.Answer.{split_into, arrival_of}
 use Rattle.core_state.specs.inner.Untold.{is_untold}

@@ -1,8 +1,8 @@
 -- A builder's state with the number of changes that were made of it.
 use Rattle.std.specs.Prelude.{ℕ, ◌+◌, ◌-◌, ◌^◌, min, refl}
 use Rattle.std.specs.Coded.{Coded, code_by, coded×, coded_ℕ}
-use Rattle.cfg_model.specs.Builder.State.{BuilderState}
-use Rattle.cfg_model.specs.Builder.Codes.{coded_state}
+use Rattle.builder_model.specs.State.{BuilderState}
+use Rattle.builder_model.specs.Codes.{coded_state}
 
 -- The maps, and how many changes were made of them. A change counts also if it adds nothing.
 pub record CountedState : Type 0 where

@@ -2,7 +2,7 @@
 use Rattle.std.specs.Prelude.{◌≡◌, ℕ, List, length, IsSome, slice_index_or}
 use Rattle.std.specs.Ordering.{nat_cmp}
 use Rattle.std.specs.FinMap as maps
-use Rattle.cfg_model.specs.Builder.Shard.{shard_of}
+use Rattle.builder_model.specs.Shard.{shard_of}
 pub use Rattle.address_map.specs.Joined.{all_entries, joined}
 
 -- These are the 64 shards of a map: each has only keys that belong to it.

@@ -1,6 +1,6 @@
 -- The next start in the line of 64 bytes that an address lies in.
 use Rattle.std.specs.Prelude.{◌≡◌, ◌<◌, ◌/◌, ℕ, Option}
-use Rattle.cfg_model.specs.Builder.State.{StartMap, IsStart}
+use Rattle.builder_model.specs.State.{StartMap, IsStart}
 use Rattle.core_state.specs.Least.{IsLeast}
 
 -- It is the least start above a of those in a's line; there is none if the line has none above a.

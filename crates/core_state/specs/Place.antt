@@ -4,13 +4,13 @@ use Rattle.std.specs.Prelude.{◌≡◌, ◌<◌, ◌≤◌, ℕ, List, [], ◌�
 use Rattle.std.specs.Prelude.{Result, OnErr, IfErr}
 use Rattle.std.specs.Option.{ForSome}
 use Rattle.cfg_model.specs.Program.Instructions.{InstructionMap}
-use Rattle.cfg_model.specs.Builder.State.{BuilderState, IsNear, near_at}
-use Rattle.cfg_model.specs.Builder.Event.{Event, Steps}
-use Rattle.cfg_model.specs.Builder.Fact.{Fact}
-use Rattle.cfg_model.specs.Builder.Brought.{facts_of}
-use Rattle.cfg_model.specs.Builder.Reason.{May}
-use Rattle.cfg_model.specs.Builder.Kept.{IsKept}
-use Rattle.cfg_model.specs.Builder.Shard.{shard_of}
+use Rattle.builder_model.specs.State.{BuilderState, IsNear, near_at}
+use Rattle.builder_model.specs.Event.{Event, Steps}
+use Rattle.builder_model.specs.Fact.{Fact}
+use Rattle.builder_model.specs.Brought.{facts_of}
+use Rattle.builder_model.specs.Reason.{May}
+use Rattle.builder_model.specs.Kept.{IsKept}
+use Rattle.builder_model.specs.Shard.{shard_of}
 use Rattle.core_state.specs.declared.answer.Arrival.{Arrival}
 use Rattle.core_state.specs.declared.answer.Arrival.TheVariants.{First, Same, Split}
 use Rattle.core_state.specs.declared.answer.ShardKind.{ShardKind}

@@ -2,9 +2,9 @@
 use Rattle.std.specs.Prelude.{ℕ, Bool, Option, Some}
 use Rattle.std.specs.Option.{option_map}
 use Rattle.std.specs.FinMap as maps
-use Rattle.cfg_model.specs.declared.state.Waiter.{Waiter}
-use Rattle.cfg_model.specs.Builder.Waiter.{waiter_cmp}
-use Rattle.cfg_model.specs.Builder.State.{TerminatorMap, IsReturned, IsUntold}
+use Rattle.builder_model.specs.declared.state.Waiter.{Waiter}
+use Rattle.builder_model.specs.Waiter.{waiter_cmp}
+use Rattle.builder_model.specs.State.{TerminatorMap, IsReturned, IsUntold}
 use Rattle.core_state.specs.Least.{IsLeastBy}
 
 -- Whether the terminator k is dealt with, and whether it is known to return; none if k is not

@@ -1,6 +1,6 @@
 -- The work that a name names.
 use Rattle.std.specs.Prelude.{ℕ}
-use Rattle.cfg_model.specs.Builder.Left.{Work}
+use Rattle.builder_model.specs.Left.{Work}
 use Rattle.core_state.specs.declared.answer.WorkKind.{WorkKind}
 use Rattle.core_state.specs.declared.answer.WorkKind.TheVariants.{Want, Parse, Move, Edges, Tell}
 use Rattle.core_state.specs.declared.answer.Name.{Name}

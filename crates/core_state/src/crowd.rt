@@ -2,12 +2,12 @@
 
 ghost use Rattle.std.specs.Prelude.{◌≡◌, false, IsTrue, OnOk, OnErr};
 ghost use Rattle.std.specs.FinMap as maps;
-ghost use Rattle.cfg_model.specs.Builder.Waiter.{waiter_cmp};
+ghost use Rattle.builder_model.specs.Waiter.{waiter_cmp};
 ghost use Rattle.core_state.specs.Least.{IsLeastBy};
 ghost use Rattle.core_state.specs.inner.Waiting.{AwaitsTelling, with_told};
 
 use crate::Memory;
-use cfg_model::Waiter;
+use builder_model::Waiter;
 use std::alloc::Global;
 use std::collections::{BTreeMap, BTreeSet};
 use std::marker::Model;
@@ -24,7 +24,7 @@ impl Model for Crowd {
     ghost use Rattle.std.specs.FinMap as maps;
     ghost use Rattle.std.specs.FinSet as sets;
     ghost use Rattle.std.specs.Coded.{coded_bool};
-    ghost use Rattle.cfg_model.specs.Builder.Waiter.{coded_waiter};
+    ghost use Rattle.builder_model.specs.Waiter.{coded_waiter};
     ghost use Rattle.core_state.specs.inner.Waiting.{WaiterMap};
     ghost use Rattle.core_state.specs.inner.Untold.{AreUntold};
 

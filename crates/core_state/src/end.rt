@@ -4,9 +4,9 @@ ghost use Rattle.std.specs.Prelude.{◌≡◌, ℕ, IsTrue, Some, OnOk, OnErr, I
 ghost use Rattle.std.specs.FinSet as sets;
 ghost use Rattle.cfg_model.specs.Program.Chain.{OnChain};
 ghost use Rattle.cfg_model.specs.Program.Meeting.{IsMeeting};
-ghost use Rattle.cfg_model.specs.Builder.Event.{Arrives, with_displaced};
+ghost use Rattle.builder_model.specs.Event.{Arrives, with_displaced};
 ghost use Rattle.core_state.specs.Answer.{arrival_of, split_into};
-ghost use Rattle.cfg_model.specs.Builder.Left.{Work};
+ghost use Rattle.builder_model.specs.Left.{Work};
 ghost use Rattle.core_state.specs.Least.{IsLeast};
 ghost use Rattle.core_state.specs.Work.{work_of};
 ghost use Rattle.core_state.specs.inner.EndKept.{entry_of};
@@ -42,8 +42,8 @@ enum Kept {
 const _: () = prove!(size_of::<End>() == 16);
 
 impl Model for End {
-    ghost use Rattle.cfg_model.specs.Builder.State.{EndEntry};
-    ghost use Rattle.cfg_model.specs.Builder.Codes.{coded_end_entry};
+    ghost use Rattle.builder_model.specs.State.{EndEntry};
+    ghost use Rattle.builder_model.specs.Codes.{coded_end_entry};
     ghost use Rattle.core_state.specs.inner.EndKept.{entry_of};
 
     ghost Value = { EndEntry };

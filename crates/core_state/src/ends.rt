@@ -4,10 +4,10 @@ ghost use Rattle.std.specs.Prelude.{◌≡◌, ℕ};
 ghost use Rattle.std.specs.Prelude.{OnOk, OnErr, IfOk, IfSome, IfNone};
 ghost use Rattle.std.specs.FinMap as maps;
 ghost use Rattle.cfg_model.specs.Program.Chain.{OnChain};
-ghost use Rattle.cfg_model.specs.Builder.State.{HasEnd, IsNear, IsMoved, near_at};
-ghost use Rattle.cfg_model.specs.Builder.Event.{ArrivesAt, with_settled};
+ghost use Rattle.builder_model.specs.State.{HasEnd, IsNear, IsMoved, near_at};
+ghost use Rattle.builder_model.specs.Event.{ArrivesAt, with_settled};
 ghost use Rattle.core_state.specs.Answer.{arrival_of};
-ghost use Rattle.cfg_model.specs.Builder.Left.{Work};
+ghost use Rattle.builder_model.specs.Left.{Work};
 ghost use Rattle.core_state.specs.Least.{IsLeast};
 ghost use Rattle.core_state.specs.Work.{work_of};
 ghost use Rattle.address_map.specs.Found.{IsFoundAmong};
@@ -33,8 +33,8 @@ pub struct Ends {
 
 impl Model for Ends {
     ghost use Rattle.std.specs.FinMap as maps;
-    ghost use Rattle.cfg_model.specs.Builder.State.{EndMap};
-    ghost use Rattle.cfg_model.specs.Builder.Codes.{coded_ends};
+    ghost use Rattle.builder_model.specs.State.{EndMap};
+    ghost use Rattle.builder_model.specs.Codes.{coded_ends};
 
     ghost Value = { EndMap };
 

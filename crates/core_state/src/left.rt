@@ -3,8 +3,8 @@
 ghost use Rattle.std.specs.Prelude.{◌≡◌, ℕ, ◌<◌, Some, None, Contains, All, vec_len};
 ghost use Rattle.std.specs.Prelude.{IfOk, IfSome, IfNone, slice_index_or};
 ghost use Rattle.std.specs.Thread.{IsSync};
-ghost use Rattle.cfg_model.specs.Builder.State.{IsStart};
-ghost use Rattle.cfg_model.specs.Builder.Left.{IsLeft, HasNothingLeft};
+ghost use Rattle.builder_model.specs.State.{IsStart};
+ghost use Rattle.builder_model.specs.Left.{IsLeft, HasNothingLeft};
 ghost use Rattle.core_state.specs.Work.{work_of};
 ghost use Rattle.core_state.specs.inner.Places.{IsFoundIn};
 

@@ -13,7 +13,7 @@
 #![tactic(auto)]
 
 ghost use Rattle.std.specs.Prelude.{◌≡◌};
-ghost use Rattle.cfg_model.specs.Builder.Shard.{shard_of};
+ghost use Rattle.builder_model.specs.Shard.{shard_of};
 
 pub mod along;
 pub mod answer;

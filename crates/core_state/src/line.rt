@@ -3,11 +3,11 @@
 ghost use Rattle.std.specs.Prelude.{◌≡◌, ◌≢◌, ◌<◌, ◌≤◌, ◌==◌, ◌-◌, ◌/◌, ◌%◌, ℕ, min, Some, None};
 ghost use Rattle.std.specs.Prelude.{IsSome, is_some, IfSome, IfNone};
 ghost use Rattle.std.specs.Int.{bit_at};
-ghost use Rattle.cfg_model.specs.declared.state.Mark.TheVariants as marks;
+ghost use Rattle.builder_model.specs.declared.state.Mark.TheVariants as marks;
 ghost use Rattle.core_state.specs.Least.{IsLeast};
 ghost use Rattle.core_state.specs.inner.Lines.{first_of, mark_in};
 
-use cfg_model::Mark;
+use builder_model::Mark;
 
 /// The starts of one line of 64 bytes, a bit for each address: bit i is that of the address i bytes
 /// after the first one.

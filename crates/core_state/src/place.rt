@@ -1,7 +1,8 @@
 //! A place that a builder works on: a whole state, or what a worker holds of one that it shares.
 
 use crate::answer::{Arrival, Name, PlaceEnd, ShardKind};
-use cfg_model::{Chains, Waiter};
+use builder_model::Waiter;
+use cfg_model::Chains;
 use std::marker::Brand;
 
 /// What a builder works for: the program, and the addresses where it may start. It has no function,
@@ -35,11 +36,11 @@ pub trait Place<J: Job> {
     ghost use Rattle.std.specs.Prelude.{OnOk, IfOk, IfSome, OnSome, IfNone};
     ghost use Rattle.std.specs.Option.{ForSome};
     ghost use Rattle.cfg_model.specs.Program.Instructions.{IsLawful};
-    ghost use Rattle.cfg_model.specs.Builder.State.{BuilderState, IsStart, IsMoved};
-    ghost use Rattle.cfg_model.specs.Builder.State.{IsEntered, IsReturned, WaitsAt, near_at};
-    ghost use Rattle.cfg_model.specs.Builder.Event.{Event};
-    ghost use Rattle.cfg_model.specs.Builder.Fact.{Fact, Holds, IsSoundFact};
-    ghost use Rattle.cfg_model.specs.Builder.Reason.{Reason};
+    ghost use Rattle.builder_model.specs.State.{BuilderState, IsStart, IsMoved};
+    ghost use Rattle.builder_model.specs.State.{IsEntered, IsReturned, WaitsAt, near_at};
+    ghost use Rattle.builder_model.specs.Event.{Event};
+    ghost use Rattle.builder_model.specs.Fact.{Fact, Holds, IsSoundFact};
+    ghost use Rattle.builder_model.specs.Reason.{Reason};
     ghost use Rattle.core_state.specs.Least.{IsLeast};
     ghost use Rattle.core_state.specs.Line.{IsNextInLine};
     ghost use Rattle.core_state.specs.Reads.{IsNextToTell, HasNextToTell};

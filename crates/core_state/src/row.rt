@@ -3,14 +3,14 @@
 ghost use Rattle.std.specs.Prelude.{◌≡◌, ◌≤◌, false, Some, OnOk, OnErr, IfOk, IfErr, length, insert};
 ghost use Rattle.std.specs.FinMap.{find};
 ghost use Rattle.std.specs.FinMap.Entries.{put};
-ghost use Rattle.cfg_model.specs.Builder.Waiter.{waiter_cmp};
+ghost use Rattle.builder_model.specs.Waiter.{waiter_cmp};
 ghost use Rattle.core_state.specs.Least.{IsLeastBy};
 ghost use Rattle.core_state.specs.inner.Pairs.{AreRising, IsGapAt};
 ghost use Rattle.address_map.specs.Pairs.{IsFirstAt};
 ghost use Rattle.core_state.specs.inner.Waiting.{lesser_by};
 
 use crate::Memory;
-use cfg_model::Waiter;
+use builder_model::Waiter;
 use std::alloc::Global;
 use std::cmp::Ordering;
 

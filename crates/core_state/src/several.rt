@@ -2,7 +2,7 @@
 
 ghost use Rattle.std.specs.Prelude.{◌≡◌, ◌↔◌, [], ◌∷◌, IsTrue, IsSome, OnOk, OnErr, IfOk};
 ghost use Rattle.std.specs.FinMap as maps;
-ghost use Rattle.cfg_model.specs.Builder.Waiter.{waiter_cmp};
+ghost use Rattle.builder_model.specs.Waiter.{waiter_cmp};
 ghost use Rattle.core_state.specs.Least.{IsLeastBy};
 ghost use Rattle.address_map.specs.Pairs.{over};
 ghost use Rattle.core_state.specs.inner.Waiting.{AwaitsTelling, with_waiter, with_told};
@@ -10,7 +10,7 @@ ghost use Rattle.core_state.specs.inner.Waiting.{AwaitsTelling, with_waiter, wit
 use crate::Memory;
 use crate::crowd::Crowd;
 use crate::row::{insert, lesser, put, spot, untold_among};
-use cfg_model::Waiter;
+use builder_model::Waiter;
 use std::alloc::Global;
 use std::marker::Model;
 
@@ -32,7 +32,7 @@ pub(crate) struct Several {
 impl Model for Several {
     ghost use Rattle.std.specs.FinMap as maps;
     ghost use Rattle.std.specs.Coded.{coded_bool};
-    ghost use Rattle.cfg_model.specs.Builder.Waiter.{coded_waiter, waiter_cmp};
+    ghost use Rattle.builder_model.specs.Waiter.{coded_waiter, waiter_cmp};
     ghost use Rattle.core_state.specs.inner.Pairs.{AreRising};
     ghost use Rattle.address_map.specs.Pairs.{over};
     ghost use Rattle.core_state.specs.inner.Waiting.{WaiterMap, AreAway};

@@ -3,7 +3,7 @@
 ghost use Rattle.std.specs.Prelude.{◌≡◌, IsTrue, if◌then◌else◌, OnOk, OnErr, IfOk};
 ghost use Rattle.std.specs.FinSet as sets;
 ghost use Rattle.std.specs.Ordering.{nat_cmp};
-ghost use Rattle.cfg_model.specs.Builder.Event.{with_displaced};
+ghost use Rattle.builder_model.specs.Event.{with_displaced};
 ghost use Rattle.core_state.specs.Least.{IsLeast};
 
 use crate::Memory;
@@ -20,8 +20,8 @@ pub(crate) struct SplitEnd {
 
 impl Model for SplitEnd {
     ghost use Rattle.std.specs.FinSet as sets;
-    ghost use Rattle.cfg_model.specs.Builder.State.{EndEntry};
-    ghost use Rattle.cfg_model.specs.Builder.Codes.{coded_end_entry};
+    ghost use Rattle.builder_model.specs.State.{EndEntry};
+    ghost use Rattle.builder_model.specs.Codes.{coded_end_entry};
 
     ghost Value = { EndEntry };
 

@@ -3,13 +3,13 @@
 ghost use Rattle.std.specs.Prelude.{◌≡◌, ◌/◌, ◌↔◌, ℕ, Contains, IsTrue, OnOk, OnErr, IfOk, IfSome};
 ghost use Rattle.std.specs.Prelude.{IfNone};
 ghost use Rattle.std.specs.FinMap as maps;
-ghost use Rattle.cfg_model.specs.Builder.State.{IsStart};
-ghost use Rattle.cfg_model.specs.Builder.Event.{with_start, with_parsed};
-ghost use Rattle.cfg_model.specs.Builder.Left.{Work};
+ghost use Rattle.builder_model.specs.State.{IsStart};
+ghost use Rattle.builder_model.specs.Event.{with_start, with_parsed};
+ghost use Rattle.builder_model.specs.Left.{Work};
 ghost use Rattle.core_state.specs.Least.{IsLeast, IsAbove};
 ghost use Rattle.core_state.specs.Line.{IsNextInLine};
 ghost use Rattle.core_state.specs.inner.Lines.{IsInLine};
-ghost use Rattle.cfg_model.specs.declared.state.Mark.TheVariants as marks;
+ghost use Rattle.builder_model.specs.declared.state.Mark.TheVariants as marks;
 ghost use Rattle.core_state.specs.Work.{work_of};
 ghost use Rattle.address_map.specs.Found.{IsFoundAmong};
 ghost use Rattle.core_state.specs.inner.Remaining.{LeftAtStart};
@@ -19,7 +19,7 @@ use crate::answer::{Name, WorkKind};
 use crate::line::{Line, first_of};
 use crate::walk::Keys;
 use address_map::{AddressMap, Look};
-use cfg_model::Mark;
+use builder_model::Mark;
 use std::alloc::Global;
 use std::marker::Model;
 
@@ -31,8 +31,8 @@ pub struct Starts {
 }
 
 impl Model for Starts {
-    ghost use Rattle.cfg_model.specs.Builder.State.{StartMap};
-    ghost use Rattle.cfg_model.specs.Builder.Codes.{coded_starts};
+    ghost use Rattle.builder_model.specs.State.{StartMap};
+    ghost use Rattle.builder_model.specs.Codes.{coded_starts};
 
     ghost Value = { StartMap };
 

@@ -4,12 +4,13 @@ use crate::along::Along;
 use crate::answer::{Arrival, Name, PlaceEnd};
 use crate::place::{Job, Place};
 use crate::state::State;
-use cfg_model::{Chains, Waiter};
+use builder_model::Waiter;
+use cfg_model::Chains;
 
 impl<J: Job> Place<J> for State {
     ghost use Rattle.std.specs.Prelude.{Some};
-    ghost use Rattle.cfg_model.specs.Builder.Fact.{Holds};
-    ghost use Rattle.cfg_model.specs.Builder.State.{BuilderState};
+    ghost use Rattle.builder_model.specs.Fact.{Holds};
+    ghost use Rattle.builder_model.specs.State.{BuilderState};
     ghost use Rattle.std.proofs.Common.{refl, sym, subst};
     ghost use Rattle.std.proofs.lemmas.Option.{same_Some};
     ghost use Rattle.status_laws.proofs.SoundLaws.{kept_is_sound, sound_facts_hold};

@@ -3,14 +3,14 @@
 ghost use Rattle.std.specs.Prelude.{◌≡◌, ◌↔◌, ℕ, Bool, Contains, not, IsTrue, Some, IsSome};
 ghost use Rattle.std.specs.Prelude.{OnOk, OnErr, IfOk, IfSome, IfNone};
 ghost use Rattle.std.specs.FinMap as maps;
-ghost use Rattle.cfg_model.specs.Builder.State.{IsEntered, IsReturned, WaitsAt};
-ghost use Rattle.cfg_model.specs.Builder.Left.{Work};
+ghost use Rattle.builder_model.specs.State.{IsEntered, IsReturned, WaitsAt};
+ghost use Rattle.builder_model.specs.Left.{Work};
 ghost use Rattle.core_state.specs.Work.{work_of};
 ghost use Rattle.address_map.specs.Found.{IsFoundAmong};
 ghost use Rattle.core_state.specs.inner.Remaining.{LeftAtTerminator};
-ghost use Rattle.cfg_model.specs.Builder.Event.{new_entry, with_terminator, with_changed};
-ghost use Rattle.cfg_model.specs.Builder.Event.{entry_with_waiter, entry_with_told};
-ghost use Rattle.cfg_model.specs.Builder.Event.{entry_with_return, entry_with_done};
+ghost use Rattle.builder_model.specs.Event.{new_entry, with_terminator, with_changed};
+ghost use Rattle.builder_model.specs.Event.{entry_with_waiter, entry_with_told};
+ghost use Rattle.builder_model.specs.Event.{entry_with_return, entry_with_done};
 ghost use Rattle.core_state.specs.inner.Waiting.{IsNextHere, HasNextHere};
 ghost use Rattle.core_state.specs.Reads.{done_at, returned_at, IsNextToTell, HasNextToTell};
 
@@ -19,7 +19,7 @@ use crate::answer::{Name, WorkKind};
 use crate::waiters::Waiters;
 use crate::walk::Keys;
 use address_map::{AddressMap, Look, Reading};
-use cfg_model::Waiter;
+use builder_model::Waiter;
 use std::alloc::Global;
 use std::marker::Model;
 use std::mem::size_of;
@@ -33,8 +33,8 @@ pub struct Terms {
 
 impl Model for Terms {
     ghost use Rattle.std.specs.FinMap as maps;
-    ghost use Rattle.cfg_model.specs.Builder.State.{TerminatorMap};
-    ghost use Rattle.cfg_model.specs.Builder.Codes.{coded_terminators};
+    ghost use Rattle.builder_model.specs.State.{TerminatorMap};
+    ghost use Rattle.builder_model.specs.Codes.{coded_terminators};
 
     ghost Value = { TerminatorMap };
 
@@ -225,8 +225,8 @@ struct Terminator {
 const _: () = prove!(size_of::<Terminator>() == 32);
 
 impl Model for Terminator {
-    ghost use Rattle.cfg_model.specs.Builder.State.{TerminatorEntry};
-    ghost use Rattle.cfg_model.specs.Builder.Codes.{coded_terminator_entry};
+    ghost use Rattle.builder_model.specs.State.{TerminatorEntry};
+    ghost use Rattle.builder_model.specs.Codes.{coded_terminator_entry};
 
     ghost Value = { TerminatorEntry };
 

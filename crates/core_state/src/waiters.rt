@@ -5,7 +5,7 @@ ghost use Rattle.std.specs.Prelude.{IsSome, OnOk, OnErr, IfOk};
 ghost use Rattle.std.specs.Ordering.{eq_by_cmp};
 ghost use Rattle.std.specs.FinMap as maps;
 ghost use Rattle.std.specs.FinMap.{find};
-ghost use Rattle.cfg_model.specs.Builder.Waiter.{waiter_cmp};
+ghost use Rattle.builder_model.specs.Waiter.{waiter_cmp};
 ghost use Rattle.core_state.specs.Least.{IsLeastBy};
 ghost use Rattle.core_state.specs.inner.Waiting.{AwaitsTelling, with_waiter, with_told};
 ghost use Rattle.core_state.specs.inner.InPlace.{in_place, elsewhere, pair_of, told_if};
@@ -14,7 +14,7 @@ ghost use Rattle.address_map.specs.Pairs.{AreApart, over};
 use crate::Memory;
 use crate::row::lesser;
 use crate::several::Several;
-use cfg_model::{WaitKind, Waiter};
+use builder_model::{WaitKind, Waiter};
 use std::alloc::Global;
 use std::marker::Model;
 
@@ -57,7 +57,7 @@ struct Note {
 impl Model for Waiters {
     ghost use Rattle.std.specs.FinMap as maps;
     ghost use Rattle.std.specs.Coded.{coded_bool};
-    ghost use Rattle.cfg_model.specs.Builder.Waiter.{coded_waiter, waiter_cmp};
+    ghost use Rattle.builder_model.specs.Waiter.{coded_waiter, waiter_cmp};
     ghost use Rattle.core_state.specs.inner.Waiting.{WaiterMap};
 
     ghost Value = { WaiterMap };

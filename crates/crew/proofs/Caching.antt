@@ -3,8 +3,8 @@ use Rattle.std.proofs.Common.{◌≡◌, ℕ, List, ⊎_elim, refl, sym, subst, 
 use Rattle.std.specs.Prelude.{◌⊎◌, replicate, IsSome, Some, None, IfSome, slice_index_or}
 use Rattle.std.proofs.lemmas.List.Elements.{All-same, All-replicate, All-contains}
 use Rattle.cfg_model.specs.Program.Instructions.{InstructionMap}
-use Rattle.cfg_model.specs.declared.state.Waiter.{Waiter}
-use Rattle.cfg_model.specs.Builder.Fact.{Fact}
+use Rattle.builder_model.specs.declared.state.Waiter.{Waiter}
+use Rattle.builder_model.specs.Fact.{Fact}
 use Rattle.core_state.specs.Place.{Remembers}
 use Rattle.board.specs.Locks.Share.{Share}
 use Rattle.board.specs.Slots.{BoardId}

@@ -1,8 +1,8 @@
 -- Reasons for what a worker does, from what it knows.
 use Rattle.std.proofs.Common.{◌≡◌, ℕ, List, sym, subst}
 use Rattle.cfg_model.specs.Program.Instructions.{InstructionMap}
-use Rattle.cfg_model.specs.Builder.Event.{Event}
-use Rattle.cfg_model.specs.Builder.Reason.{Reason}
+use Rattle.builder_model.specs.Event.{Event}
+use Rattle.builder_model.specs.Reason.{Reason}
 use Rattle.split_laws.proofs.FactLaws.{reason_more}
 use Rattle.board.specs.Seat.{SeatState, Knows}
 use Rattle.crew.specs.inner.Worker.{KnowsSoundly}

@@ -1,12 +1,12 @@
 //! What a worker keeps in mind of what its seat knows.
 
 ghost use Rattle.std.specs.Prelude.{ℕ, IfSome};
-ghost use Rattle.cfg_model.specs.declared.state.Waiter.{Waiter};
+ghost use Rattle.builder_model.specs.declared.state.Waiter.{Waiter};
 ghost use Rattle.crew.specs.inner.Known.{Caches, IsPlaced};
 
 use crate::known::Known;
 use crate::waiting::Waiting;
-use cfg_model::Waiter;
+use builder_model::Waiter;
 use std::alloc::Global;
 
 /// What a worker keeps in mind of what its seat knows, so that it need not ask the board for it:

@@ -2,7 +2,7 @@
 
 ghost use Rattle.std.specs.Prelude.{◌≡◌, ◌≤◌, IfOk};
 ghost use Rattle.cfg_model.specs.Program.Reach.{AreSeeds};
-ghost use Rattle.cfg_model.specs.Builder.Kept.{IsKept, IsClosed};
+ghost use Rattle.builder_model.specs.Kept.{IsKept, IsClosed};
 
 use crate::gate::Gate;
 use crate::hands::dealt;

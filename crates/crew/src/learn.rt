@@ -4,7 +4,7 @@ ghost use Rattle.std.specs.Prelude.{◌≡◌, ◌≤◌, IfOk, IfErr, IfSome, I
 ghost use Rattle.cfg_model.specs.Program.Chain.{IsTerminator, IsTerminatorOf};
 ghost use Rattle.cfg_model.specs.Program.Instructions.{IsLawful};
 ghost use Rattle.cfg_model.specs.Program.Reach.{AreSeeds};
-ghost use Rattle.cfg_model.specs.Builder.Fact.{Fact};
+ghost use Rattle.builder_model.specs.Fact.{Fact};
 ghost use Rattle.work_ops.specs.Going.{RoseIfBusy};
 ghost use Rattle.crew.specs.inner.Worker.{KnowsSoundly, all_lost};
 

@@ -1,10 +1,10 @@
 //! Waiters that a worker has placed.
 
 ghost use Rattle.std.specs.Prelude.{◌≡◌, ◌⊎◌, ℕ, IfSome};
-ghost use Rattle.cfg_model.specs.declared.state.Waiter.{Waiter};
+ghost use Rattle.builder_model.specs.declared.state.Waiter.{Waiter};
 ghost use Rattle.crew.specs.inner.Known.{IsPlaced};
 
-use cfg_model::Waiter;
+use builder_model::Waiter;
 use std::alloc::Global;
 use std::marker::Model;
 

@@ -1,7 +1,7 @@
 //! What a worker works on: its desk, and the names that it keeps.
 
 ghost use Rattle.std.specs.Prelude.{◌≡◌, ◌<◌, ◌≤◌, IfOk, IfErr, IfSome, IsTrue};
-ghost use Rattle.cfg_model.specs.Builder.Fact.{Fact};
+ghost use Rattle.builder_model.specs.Fact.{Fact};
 ghost use Rattle.core_state.specs.Place.{Remembers, IsBusyAt};
 ghost use Rattle.crew.specs.inner.Worker.{IsSeatAt, IsHandAt, KnowsSoundly, all_lost};
 
@@ -11,7 +11,8 @@ use crate::names::Names;
 use crate::tally::{Tally, add_one};
 use crate::worker_ids::WorkerIds;
 use board::{Board, Seat};
-use cfg_model::{Chains, Waiter};
+use builder_model::Waiter;
+use cfg_model::Chains;
 use core_state::{Along, Arrival, Job, Name, Place, PlaceEnd, ShardKind};
 use std::alloc::Global;
 use std::marker::Model;

@@ -1,7 +1,7 @@
 //! What one worker does.
 
 ghost use Rattle.std.specs.Prelude.{◌≡◌};
-ghost use Rattle.cfg_model.specs.Builder.Fact.{Fact};
+ghost use Rattle.builder_model.specs.Fact.{Fact};
 ghost use Rattle.crew.specs.inner.Worker.{IsSeatAt, IsHandAt, KnowsSoundly};
 ghost use Rattle.crew.specs.inner.Team.{IsJob};
 

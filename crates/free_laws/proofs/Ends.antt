@@ -1,7 +1,6 @@
 -- Where a step goes from an address of a block: on to the next address of the block, or out of its end.
-use Rattle.std.proofs.Common.{◌≡◌, ◌≢◌, ℕ, ◌+◌, ◌<◌, ◌≤◌, ◌⊎◌, Bool, true, false, cond, List, [], ◌∷◌, Option, Some, None, Contains, refl, sym, ap, ◌∙◌, subst, inl, inr, ⊎_elim, arith}
+use Rattle.std.proofs.Common.{◌≡◌, ℕ, ◌+◌, ◌<◌, ◌≤◌, ◌⊎◌, Bool, true, false, cond, List, Option, Some, None, refl, sym, ap, ◌∙◌, subst, inl, inr, arith}
 use Rattle.std.specs.Prelude.{ℤ, ◌==◌, ◌||◌}
-use Rattle.std.proofs.lemmas.Bool.{cases_Bool, cases_eq}
 use Rattle.std.proofs.lemmas.Option.{same_Some}
 use Rattle.elf_image.specs.Code.{is_code}
 use Rattle.elf_image.specs.Faults.{IsImage}
@@ -10,17 +9,15 @@ use Rattle.rv_decode.specs.declared.instructions.Insn.TheVariants as insns
 use Rattle.rv_flow.specs.Placed.{placed_at}
 use Rattle.rv_flow.specs.declared.raw.RawFlow.{RawFlow}
 use Rattle.rv_flow.specs.declared.raw.RawFlow.TheVariants as raw
-use Rattle.rv_flow.specs.Raw.{raw_flow_at, raw_flow_by, insn_flow, jalr_flow, pair_target, is_unimp, is_stub}
+use Rattle.rv_flow.specs.Raw.{raw_flow_at, raw_flow_by, insn_flow, jalr_flow, pair_target, is_stub}
 use Rattle.jump_table.specs.declared.table.Table.{Table}
 use Rattle.jump_table.specs.Table.{table_at}
 use Rattle.jump_table.specs.Section.{is_straight}
-use Rattle.cfg_model.specs.declared.flow.Flow.{Flow}
 use Rattle.cfg_model.specs.declared.flow.Flow.TheVariants as flows
 use Rattle.cfg_model.specs.declared.graph.Block.{Block}
 use Rattle.cfg_model.specs.declared.graph.Edge.{Edge}
 use Rattle.cfg_model.specs.declared.graph.EdgeKind.{EdgeKind}
 use Rattle.cfg_model.specs.declared.graph.EdgeKind.TheVariants as kinds
-use Rattle.cfg_model.specs.declared.graph.EndKind.{EndKind}
 use Rattle.cfg_model.specs.declared.graph.EndKind.TheVariants as ends
 use Rattle.cfg_model.specs.Program.Instructions.{InstructionMap, IsLawful, flow_at, length_at}
 use Rattle.cfg_model.specs.Program.Chain.{GoesOnTo}
@@ -39,13 +36,20 @@ use Rattle.code_view.specs.Cuts.{CutsFit}
 use Rattle.code_view.specs.Flow.{in_code, flow_by, straight_flow, jump_flow, call_flow, call_fall, table_flow, kept_entries}
 use Rattle.code_view.specs.Program.{program_under}
 use Rattle.code_view.proofs.Lawful.{program-lawful, length-program, flow-program}
+use Rattle.rv_machine.specs.declared.trap.Trap.{Trap}
+use Rattle.rv_machine.specs.declared.trap.Trap.TheVariants as traps
 use Rattle.rv_machine.specs.State.{State}
 use Rattle.rv_machine.specs.Memory.{Bytes}
 use Rattle.rv_machine.specs.Step.{Outcome, Traps, Goes, insn_step}
-use Rattle.edge_cover.specs.Runs.{StepsTo}
+use Rattle.open_machine.specs.World.{World}
+use Rattle.open_machine.specs.Asked.{Surroundings}
+use Rattle.open_machine.specs.Step.{is_left}
+use Rattle.open_machine.specs.Runs.{OpenStepsTo}
+use Rattle.open_machine.proofs.Open.{open_step_is}
 use Rattle.edge_cover.proofs.Cover.{made}
 use Rattle.edge_cover.proofs.Lies.{chain_of, run_on, last_below}
-use Rattle.edge_cover.proofs.Straight.{code_of_step, next_straight}
+use Rattle.edge_cover.proofs.OpenSteps.{answered_alone, answered_next}
+use Rattle.edge_cover.proofs.Straight.{code_of_step, advanced_is, next_straight}
 
 -- ---- flows of one instruction
 
@@ -160,9 +164,46 @@ module _ (bytes : List ℕ) (length : ℕ) (state : State) (memory : Bytes) (aft
   stop_traps (insns.Away kind reads writes) stops goes = cc
   stop_traps (insns.Vendor kind shift rd rs1 rs2) stops goes = cc
 
+-- ---- a step of the open machine
+
+-- no instruction outside the code is left to the surroundings
+fetch_not_left : (trap : Trap) → Traps traps.Fetch ≡ Traps trap → is_left trap ≡ true → ⊥
+fetch_not_left trap e left =
+    let same : traps.Fetch ≡ trap = cc in
+    let clash : is_left traps.Fetch ≡ true = ap is_left same ∙ left in
+    cc
+
+module _ (bytes : List ℕ) (surroundings : Surroundings) (state : State) (world : World) (after : State) (left : World) (steps : OpenStepsTo bytes surroundings state world after left) where
+  -- it is made at an address of code
+  pub open_code_of_step : is_code bytes state.pc ≡ true
+  open_code_of_step = elim (open_step_is bytes surroundings state world after left steps) [
+    | inl written ↦ code_of_step bytes state after world.memory left.memory written.steps
+    | inr answered ↦ by answered.trap answered.is_left (is_code bytes state.pc) _ answered.traps
+  ]
+    where
+      by : (trap : Trap) → is_left trap ≡ true → (b : Bool) (o : Outcome) → cond b o (Traps traps.Fetch) ≡ Traps trap → b ≡ true
+      by trap left true o e = refl
+      by trap left false o e = absurd (fetch_not_left trap e left)
+
+  -- it goes straight on where its instruction alone does
+  open_next_straight : IsImage bytes → is_straight (raw_flow_at bytes state.pc) ≡ true → after.pc ≡ state.pc + (placed_at bytes state.pc).length
+  open_next_straight accepted straight = elim (open_step_is bytes surroundings state world after left steps) [
+    | inl written ↦ next_straight bytes accepted state after world.memory left.memory written.steps straight
+    | inr answered ↦ answered_next bytes surroundings state after world left answered ∙ advanced_is bytes accepted state open_code_of_step
+  ]
+
+  -- it is none at an instruction that stops alone
+  open_stop_traps : raw_flow_at bytes state.pc ≡ raw.Stop → ⊥
+  open_stop_traps stops = elim (open_step_is bytes surroundings state world after left steps) [
+    | inl written ↦
+        let step = made bytes state after world.memory left.memory written.steps in
+        stop_traps bytes (placed_at bytes state.pc).length state world.memory after left.memory step.insn (ap (raw_flow_by bytes state.pc) (sym step.stands) ∙ stops) step.makes
+    | inr answered ↦ let clash : raw.Straight ≡ raw.Stop = sym (answered_alone bytes surroundings state after world left answered) ∙ stops in cc
+  ]
+
 -- ---- an address of a block
 
-module _ (bytes : List ℕ) (cuts : ℕ → Option ℕ) (accepted : IsImage bytes) (fit : CutsFit bytes cuts) (seeds : List ℕ) (block : Block) (is : IsBlock (program_under bytes cuts) seeds block) (state after : State) (memory left : Bytes) (lies : LiesIn (program_under bytes cuts) seeds block state.pc) (steps : StepsTo bytes state memory after left) where
+module _ (bytes : List ℕ) (cuts : ℕ → Option ℕ) (accepted : IsImage bytes) (fit : CutsFit bytes cuts) (seeds : List ℕ) (block : Block) (is : IsBlock (program_under bytes cuts) seeds block) (surroundings : Surroundings) (state after : State) (world left : World) (lies : LiesIn (program_under bytes cuts) seeds block state.pc) (steps : OpenStepsTo bytes surroundings state world after left) where
   map : InstructionMap
   map = program_under bytes cuts
 
@@ -173,7 +214,7 @@ module _ (bytes : List ℕ) (cuts : ℕ → Option ℕ) (accepted : IsImage byte
   next = state.pc + (placed_at bytes state.pc).length
 
   code : is_code bytes state.pc ≡ true
-  code = code_of_step bytes state after memory left steps
+  code = open_code_of_step bytes surroundings state world after left steps
 
   long : length_at (program_under bytes cuts) state.pc ≡ Some (placed_at bytes state.pc).length
   long = length-program bytes cuts state.pc code (placed_at bytes state.pc) refl
@@ -215,7 +256,7 @@ module _ (bytes : List ℕ) (cuts : ℕ → Option ℕ) (accepted : IsImage byte
     | inr on ↦
         let alone = straight_alone bytes (state.pc + (placed_at bytes state.pc).length) (cuts state.pc) (table_at bytes state.pc) (raw_flow_at bytes state.pc) on.to
         (same_Some _ _ (sym flow ∙ on.goes)) in
-        let there = next_straight bytes accepted state after memory left steps alone in
+        let there = open_next_straight bytes surroundings state world after left steps accepted alone in
         (there, subst (LiesIn (program_under bytes cuts) seeds block) (next_is on ∙ sym there) (run_step (program_under bytes cuts) (IsLeader (program_under bytes cuts) seeds) block.start state.pc on.to lies on.goes on.none))
   ]
 
@@ -226,10 +267,8 @@ module _ (bytes : List ℕ) (cuts : ℕ → Option ℕ) (accepted : IsImage byte
   pub goes_out_of_code : block.kind ≡ ends.Stop → block.end ≤ state.pc + (placed_at bytes state.pc).length → is_code bytes after.pc ≡ false
   goes_out_of_code stop past = elim (last_or_on run refl) [
     | inl same ↦ elim (stop_alone bytes (state.pc + (placed_at bytes state.pc).length) (cuts state.pc) (table_at bytes state.pc) (raw_flow_at bytes state.pc) (sym (kind_is same) ∙ stop)) [
-      | inl alone ↦
-          let step = made bytes state after memory left steps in
-          absurd (stop_traps bytes (placed_at bytes state.pc).length state memory after left step.insn (ap (raw_flow_by bytes state.pc) (sym step.stands) ∙ alone) step.makes)
-      | inr straight ↦ ap (is_code bytes) (next_straight bytes accepted state after memory left steps straight.0) ∙ straight.1
+      | inl alone ↦ absurd (open_stop_traps bytes surroundings state world after left steps alone)
+      | inr straight ↦ ap (is_code bytes) (open_next_straight bytes surroundings state world after left steps accepted straight.0) ∙ straight.1
     ]
     | inr on ↦ let same = next_is on in let below = last_below (program_under bytes cuts) seeds block is lawful in let up = on.up in absurd (omega arith)
   ]

@@ -1,5 +1,5 @@
 -- A run that is prepared keeps to the graph.
-use Rattle.std.proofs.Common.{◌≡◌, ◌≢◌, ℕ, ◌+◌, ◌<◌, ◌⊎◌, ◌&&◌, Bool, true, false, cond, List, Option, Some, None, Contains, refl, sym, ap, ◌∙◌, subst, inl, inr, eqb, ltb}
+use Rattle.std.proofs.Common.{◌≡◌, ◌≢◌, ℕ, ◌<◌, ◌⊎◌, Bool, true, false, cond, List, Option, Some, None, Contains, refl, sym, ap, ◌∙◌, subst, inl, inr, eqb, ltb}
 use Rattle.std.specs.Prelude.{ℤ, All}
 use Rattle.std.specs.List.{find, list_any}
 use Rattle.std.proofs.lemmas.Bool.{and_from, both_ways, eq-eqb, and_parts, eqb-true}
@@ -16,7 +16,7 @@ use Rattle.cfg_model.specs.declared.graph.EdgeKind.{EdgeKind}
 use Rattle.cfg_model.specs.declared.graph.EdgeKind.TheVariants as kinds
 use Rattle.cfg_model.specs.declared.graph.Graph.{Graph}
 use Rattle.cfg_model.specs.declared.graph.Outline.{Outline}
-use Rattle.cfg_model.specs.Program.Instructions.{InstructionMap, IsLawful, flow_at, length_at}
+use Rattle.cfg_model.specs.Program.Instructions.{InstructionMap, IsLawful, flow_at}
 use Rattle.cfg_model.specs.Program.Reach.{Reached}
 use Rattle.cfg_model.specs.Graph.Edge.{IsEdge}
 use Rattle.cfg_model.specs.Graph.Function.{IsTailCall, IsMarkedEdge}
@@ -24,23 +24,21 @@ use Rattle.cfg_model.proofs.Graphs.LeaderFacts.{reached_along}
 use Rattle.code_view.specs.Program.{program_under}
 use Rattle.code_view.proofs.Lawful.{program-lawful, length-program}
 use Rattle.rv_machine.specs.State.{State}
-use Rattle.rv_machine.specs.Memory.{Bytes}
-use Rattle.edge_cover.specs.declared.moves.Move.{Move}
-use Rattle.edge_cover.specs.declared.moves.Move.TheVariants.{Inside, Along, Out}
+use Rattle.open_machine.specs.World.{World, with_memory}
+use Rattle.open_machine.specs.Asked.{Surroundings}
+use Rattle.open_machine.specs.Runs.{OpenStepsTo}
+use Rattle.open_machine.proofs.Open.{written_steps_are_open}
+use Rattle.edge_cover.specs.declared.moves.Move.TheVariants.{Inside, Out}
 use Rattle.edge_cover.specs.Move.{joins, along, move_in, IsMoveOf}
 use Rattle.edge_cover.specs.Covered.{IsCovered}
 use Rattle.edge_cover.specs.Cover.{IsOutlineOfFile, IsPaired, IsFullTable}
-use Rattle.edge_cover.specs.Runs.{StepsTo}
-use Rattle.edge_cover.proofs.Cover.{steps_are_covered}
-use Rattle.edge_cover.proofs.Pairs.{pairs_are_covered}
-use Rattle.edge_cover.proofs.Tables.{table_runs_are_covered}
+use Rattle.edge_cover.proofs.OpenSteps.{open_steps_are_covered, open_pairs_are_covered, open_table_runs_are_covered}
 use Rattle.edge_cover.proofs.Lies.{chain_of, lies_below}
 use Rattle.edge_cover.proofs.Placed.{block_there, same_move}
-use Rattle.edge_cover.proofs.Straight.{code_of_step}
-use Rattle.live_regs.specs.Live.{IsBlockIn}
-use Rattle.free_laws.specs.Within.{Place, next_of, move_from, RunsWithin}
-use Rattle.free_laws.specs.Free.{IsGraphOfFile, BeginAlike, KeepsToGraph}
+use Rattle.free_laws.specs.Within.{Place, next_of, move_from}
+use Rattle.free_laws.specs.Free.{IsGraphOfFile, BeginAlike}
 use Rattle.free_laws.specs.Keeping.{IsPrepared, PreparedRunsKeepToGraph}
+use Rattle.free_laws.proofs.Ends.{open_code_of_step}
 use Rattle.free_laws.proofs.Twins.{Going, at_first, runs_alike}
 
 -- ---- what is paired, and what is a full table
@@ -128,8 +126,8 @@ module _ (bytes : List ℕ) (cuts : ℕ → Option ℕ) (seeds : List ℕ) (outl
   lawful = program-lawful bytes of.accepted cuts of.fit
 
   -- a step from a place of a block that is prepared
-  module _ (small : All (λ byte. byte < 256) bytes) (body : List ℕ) (place : Place) (twin after : State) (left : Bytes) (going : Going bytes cuts seeds graph body drawn place twin)
-      (prepared : IsPrepared bytes cuts place.state place.memory) (steps : StepsTo bytes place.state place.memory after left) where
+  module _ (small : All (λ byte. byte < 256) bytes) (body : List ℕ) (surroundings : Surroundings) (place : Place) (twin after : State) (left : World) (going : Going bytes cuts seeds graph body drawn surroundings place twin)
+      (prepared : IsPrepared bytes cuts place.state place.world.memory) (steps : OpenStepsTo bytes surroundings place.state place.world after left) where
     reached : Reached (program_under bytes cuts) seeds place.state.pc
     reached = reached_along (drawn.is.blocks.sound place.block going.listed).1.leader.reached (chain_of going.lies)
 
@@ -138,17 +136,18 @@ module _ (bytes : List ℕ) (cuts : ℕ → Option ℕ) (seeds : List ℕ) (outl
         let is = drawn.is.blocks.sound place.block going.listed in
         same_move (program_under bytes cuts) lawful outline place.state.pc (placed_at bytes place.state.pc).length after.pc place.block
         (block_there (program_under bytes cuts) lawful outline place.state.pc place.block (of.is.all_blocks.complete place.block is) (chain_of going.lies) (lies_below (program_under bytes cuts) seeds place.block is lawful place.state.pc going.lies))
-        (length-program bytes cuts place.state.pc (code_of_step bytes place.state after place.memory left steps) (placed_at bytes place.state.pc) refl)
+        (length-program bytes cuts place.state.pc (open_code_of_step bytes surroundings place.state place.world after left steps) (placed_at bytes place.state.pc) refl)
 
     covered : IsCovered (move_in place.block outline.edges (next_of bytes place.state) after.pc)
     covered = elim (paired_or_not bytes place.state.pc) [
       | inl pair ↦
           let upper = prepared.pair pair in
-          pairs_are_covered bytes cuts seeds outline of upper.before place.state after upper.start place.memory left reached pair upper.right_before upper.step steps _ move
+          open_pairs_are_covered bytes cuts seeds outline of surroundings upper.before place.state after (with_memory place.world upper.start) place.world left reached pair upper.right_before
+          (written_steps_are_open bytes surroundings upper.before place.state (with_memory place.world upper.start) place.world.memory upper.step) steps _ move
       | inr alone ↦ elim (full_or_not (program_under bytes cuts) place.state.pc) [
         | inl full ↦
-            subst IsCovered (sym (table_runs_are_covered bytes cuts seeds outline of small place.state after place.memory left reached full (prepared.table full) steps _ move)) tt
-        | inr plain ↦ steps_are_covered bytes cuts seeds outline of place.state after place.memory left reached alone plain steps _ move
+            subst IsCovered (sym (open_table_runs_are_covered bytes cuts seeds outline of small surroundings place.state after place.world left reached full (prepared.table full) steps _ move)) tt
+        | inr plain ↦ open_steps_are_covered bytes cuts seeds outline of surroundings place.state after place.world left reached alone plain steps _ move
       ]
     ]
 
@@ -156,7 +155,7 @@ module _ (bytes : List ℕ) (cuts : ℕ → Option ℕ) (seeds : List ℕ) (outl
     keeps_here = covered_in place.block (next_of bytes place.state) after.pc covered
 
 pub prepared_runs_keep_to_graph : PreparedRunsKeepToGraph
-prepared_runs_keep_to_graph bytes cuts seeds outline graph body of drawn small first begins prepared last after left n runs steps =
+prepared_runs_keep_to_graph bytes cuts seeds outline graph body of drawn small surroundings first begins prepared last after left n runs steps =
     let begin : BeginAlike bytes graph body first first.state = record { begins = begins; agree = record { pc = refl; reservation = refl; registers = λ r low live. refl } } in
-    let come = runs_alike bytes cuts seeds graph body drawn first.state (at_first bytes cuts seeds graph body drawn first first.state begin) runs in
-    keeps_here bytes cuts seeds outline graph of drawn small body last come.0 after left come.1 (prepared last n runs) steps
+    let come = runs_alike bytes cuts seeds graph body drawn surroundings first.state (at_first bytes cuts seeds graph body drawn surroundings first first.state begin) runs in
+    keeps_here bytes cuts seeds outline graph of drawn small body surroundings last come.0 after left come.1 (prepared last n runs) steps

@@ -2,6 +2,7 @@ mod Sources
 mod Reading
 mod Writing
 mod OneStep
+mod OpenStep
 mod LiveFrom
 mod Ends
 pub mod Twins

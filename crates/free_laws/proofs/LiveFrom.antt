@@ -1,5 +1,5 @@
 -- What is live at an address within a block: what the rest of the block reads first, or what it does not write and is live at its end.
-use Rattle.std.proofs.Common.{◌≡◌, ℕ, ◌+◌, ◌-◌, ◌<◌, ◌≤◌, ◌⊎◌, ◌&&◌, ◌||◌, not, Bool, true, false, List, [], ◌∷◌, Option, Contains, refl, sym, ap, ◌∙◌, subst, inl, inr}
+use Rattle.std.proofs.Common.{◌≡◌, ℕ, ◌+◌, ◌-◌, ◌<◌, ◌≤◌, ◌⊎◌, true, false, List, ◌∷◌, Option, Contains, refl, ap, ◌∙◌, subst, inl, inr}
 use Rattle.std.specs.Prelude.{IsTrue, IsFalse}
 use Rattle.std.proofs.lemmas.Bool.{or_left, or_right, or_from, and_from, not_from_false}
 use Rattle.cfg_model.specs.declared.graph.Block.{Block}
@@ -34,9 +34,12 @@ module _ (bytes : List ℕ) (graph : Graph) (body : List ℕ) where
   split : (block : Block) (a : ℕ) → a < block.end → rest_of block a ≡ as_read (extensions_of bytes) (placed_at bytes a) ∷ rest_of block (a + (placed_at bytes a).length)
   split block a within = more_from bytes block.end a (a + (placed_at bytes a).length) within (inl refl)
 
-  -- what the instruction reads is live before it
+  -- what the instruction is said to read is live before it
+  pub live_said : (block : Block) (a r : ℕ) → a < block.end → reads (as_read (extensions_of bytes) (placed_at bytes a)) r ≡ true → LiveFrom block a r
+  live_said block a r within read = inl (ap (λ run. reads_first run r) (split block a within) ∙ or_left _ _ read)
+
   pub live_read : (block : Block) (a r : ℕ) → a < block.end → reads (placed_at bytes a).insn r ≡ true → LiveFrom block a r
-  live_read block a r within read = inl (ap (λ run. reads_first run r) (split block a within) ∙ or_left _ _ (still_reads (extensions_of bytes) (placed_at bytes a) r read))
+  live_read block a r within read = live_said block a r within (still_reads (extensions_of bytes) (placed_at bytes a) r read)
 
   -- so is what is live after it, if it does not write that
   pub live_kept : (block : Block) (a r : ℕ) → a < block.end → writes (placed_at bytes a).insn r ≡ false → LiveFrom block (a + (placed_at bytes a).length) r → LiveFrom block a r

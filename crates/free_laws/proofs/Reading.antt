@@ -21,7 +21,7 @@ use Rattle.free_laws.specs.Agree.{Agree, EndAlike}
 use Rattle.free_laws.proofs.Sources.{HasSources}
 
 -- x0 is held alike, and so is each register that agrees unless it is x0
-held_alike : (one other : RegisterFile) (s : ℕ) → ((s == 0) ≡ false → held one s ≡ held other s) → held one s ≡ held other s
+pub held_alike : (one other : RegisterFile) (s : ℕ) → ((s == 0) ≡ false → held one s ≡ held other s) → held one s ≡ held other s
 held_alike one other s agree = elim (cases_Bool (s == 0)) [
   | inl zero ↦ cond-true (s == 0) 0 (one s) zero ∙ sym (cond-true (s == 0) 0 (other s) zero)
   | inr some ↦ agree some

@@ -5,6 +5,7 @@ use Rattle.cfg_model.specs.declared.graph.Outline.{Outline}
 use Rattle.code_view.specs.Program.{program_under}
 use Rattle.rv_machine.specs.State.{State}
 use Rattle.rv_machine.specs.Memory.{Bytes}
+use Rattle.open_machine.specs.Asked.{Surroundings}
 use Rattle.edge_cover.specs.Cover.{IsOutlineOfFile, IsPaired, IsFullTable}
 use Rattle.edge_cover.specs.Runs.{StepsTo}
 use Rattle.edge_cover.specs.TableRun.{IsTableRun}
@@ -12,7 +13,8 @@ use Rattle.live_regs.specs.Live.{IsBlockIn}
 use Rattle.free_laws.specs.Within.{Place, RunsWithin}
 use Rattle.free_laws.specs.Free.{IsGraphOfFile, KeepsToGraph}
 
--- The step before this state was the one at the LUI or AUIPC right before its instruction.
+-- The step before this state was the one at the LUI or AUIPC right before its instruction. The
+-- written machine makes it.
 pub record ComesFromUpper (bytes : List ℕ) (state : State) (memory : Bytes) : Type 0 where
   pub before : State
   pub start : Bytes
@@ -34,7 +36,8 @@ PreparedRunsKeepToGraph =
     (bytes : List ℕ) (cuts : ℕ → Option ℕ) (seeds : List ℕ) (outline : Outline) (graph : Graph)
     (body : List ℕ) → IsOutlineOfFile bytes cuts seeds outline
     → IsGraphOfFile bytes cuts seeds graph → All (λ byte. byte < 256) bytes
-    → (first : Place) → IsBlockIn graph.blocks body first.state.pc first.block
-    → ((last : Place) (steps : ℕ) → RunsWithin bytes graph body steps first last
-    → IsPrepared bytes cuts last.state last.memory)
-    → KeepsToGraph bytes graph body first
+    → (surroundings : Surroundings) (first : Place)
+    → IsBlockIn graph.blocks body first.state.pc first.block
+    → ((last : Place) (steps : ℕ) → RunsWithin bytes surroundings graph body steps first last
+    → IsPrepared bytes cuts last.state last.world.memory)
+    → KeepsToGraph bytes surroundings graph body first

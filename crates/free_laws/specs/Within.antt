@@ -1,4 +1,4 @@
--- Runs of the written machine within the body of a function, by the graph.
+-- Runs of the open machine within the body of a function, by the graph.
 use Rattle.std.specs.Prelude.{◌≡◌, ◌≢◌, ℕ, ◌+◌, zero, suc, List}
 use Rattle.cfg_model.specs.declared.graph.Block.{Block}
 use Rattle.cfg_model.specs.declared.graph.EdgeKind.{EdgeKind}
@@ -6,18 +6,19 @@ use Rattle.cfg_model.specs.declared.graph.EdgeKind.TheVariants as kinds
 use Rattle.cfg_model.specs.declared.graph.Graph.{Graph}
 use Rattle.rv_flow.specs.Placed.{placed_at}
 use Rattle.rv_machine.specs.State.{State}
-use Rattle.rv_machine.specs.Memory.{Bytes}
+use Rattle.open_machine.specs.World.{World}
+use Rattle.open_machine.specs.Asked.{Surroundings}
+use Rattle.open_machine.specs.Runs.{OpenStepsTo}
 use Rattle.edge_cover.specs.declared.moves.Move.{Move}
 use Rattle.edge_cover.specs.declared.moves.Move.TheVariants.{Inside, Along}
 use Rattle.edge_cover.specs.Move.{move_in}
-use Rattle.edge_cover.specs.Runs.{StepsTo}
 use Rattle.live_regs.specs.Live.{IsBlockIn}
 
--- A run has come to a block, with this state of the machine and this memory.
+-- A run has come to a block, with this state of the machine and in this world.
 pub record Place : Type 0 where
   pub block : Block
   pub state : State
-  pub memory : Bytes
+  pub world : World
 
 -- The same place in another state.
 abbrev pub with_state : Place → State → Place
@@ -39,15 +40,17 @@ pub data StaysBy (graph : Graph) (body : List ℕ) (from to : Block) (pc : ℕ) 
       → StaysBy graph body from to pc (Along kind)
 
 -- A step within the body.
-pub record StepsWithin (bytes : List ℕ) (graph : Graph) (body : List ℕ)
-    (from to : Place) : Type 0 where
-  pub steps : StepsTo bytes from.state from.memory to.state to.memory
+pub record StepsWithin (bytes : List ℕ) (surroundings : Surroundings) (graph : Graph)
+    (body : List ℕ) (from to : Place) : Type 0 where
+  pub steps : OpenStepsTo bytes surroundings from.state from.world to.state to.world
   pub stays : StaysBy graph body from.block to.block to.state.pc
       (move_from bytes graph from to.state.pc)
 
 -- So many steps within the body, one after another.
-pub data RunsWithin (bytes : List ℕ) (graph : Graph) (body : List ℕ) : ℕ → Place → Place
-    → Type 0 where
-  here : {place : Place} → RunsWithin bytes graph body zero place place
-  onward : {n : ℕ} {from next to : Place} → StepsWithin bytes graph body from next
-      → RunsWithin bytes graph body n next to → RunsWithin bytes graph body (suc n) from to
+pub data RunsWithin (bytes : List ℕ) (surroundings : Surroundings) (graph : Graph)
+    (body : List ℕ) : ℕ → Place → Place → Type 0 where
+  here : {place : Place} → RunsWithin bytes surroundings graph body zero place place
+  onward : {n : ℕ} {from next to : Place}
+      → StepsWithin bytes surroundings graph body from next
+      → RunsWithin bytes surroundings graph body n next to
+      → RunsWithin bytes surroundings graph body (suc n) from to

@@ -12,12 +12,11 @@ use Rattle.cfg_model.specs.Program.Chain.{EndsChain, IsTerminator}
 use Rattle.cfg_model.specs.Program.Meeting.{GoesOnInto, IsStop}
 use Rattle.cfg_model.specs.Program.Reach.{Reached}
 use Rattle.cfg_model.specs.Program.Status.{Returns}
-use Rattle.cfg_model.specs.Program.Successors.{IsSuccessor, successors_by, successors_of_flow}
+use Rattle.cfg_model.specs.Program.Successors.{IsSuccessor, successors_by, successors_of_flow, IsTarget}
 use Rattle.cfg_model.specs.Graph.Leader.{IsLeader, StartsBlock}
 use Rattle.cfg_model.specs.Graph.Edge.{LeadsTo, IsEdge}
 use Rattle.cfg_model.specs.Graph.Function.{IsEntry}
 use Rattle.cfg_model.specs.Graph.Graph.{IsOutline}
-use Rattle.cfg_model.specs.Builder.Waits.{IsTarget}
 use Rattle.cfg_model.proofs.Graphs.LeaderFacts.{target_leads}
 use Rattle.cfg_model.proofs.Program.Landing.{call_ends, landing_follows}
 use Rattle.cfg_model.proofs.Graphs.Joined.{leader_starts}

@@ -12,9 +12,9 @@ use cfg_model::{Edge, EdgeKind, Edges, Function, Functions};
 /// Sets the kind of each jump among the edges that is a tail call. It is one if it leads to the
 /// entry of a function and the block that it leaves is not in the body of that function.
 ///
-/// The functions have to be in order, as [`functions`](crate::functions) gives them. If they are
-/// those of a program, and the edges are its edges, this makes its graph. Each jump takes a search
-/// among the functions and one in a body.
+/// The functions have to be in order, as [`functions_among`](crate::functions_among) gives them. If
+/// they are those of a program, and the edges are its edges, this makes its graph. Each jump takes a
+/// search among the functions and one in a body.
 pub fn mark_tails(functions: &Functions, edges: &mut Edges)
     requires ordered { AreOrdered functions.now }
     ensures marks { AreMarksOf functions.now edges.old edges.new }

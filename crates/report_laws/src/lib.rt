@@ -6,6 +6,8 @@
 ghost use Rattle.report_laws.specs.Reported.{OfEachReport, ReportsAreOfFiles};
 ghost use Rattle.report_laws.specs.Reported.{ReportsHaveOutlines, EntriesAreSeeds};
 ghost use Rattle.report_laws.specs.Laws.{StepsCovered, PairsCovered, TableRunsCovered};
+ghost use Rattle.report_laws.specs.Laws.{OpenStepsCovered, OpenPairsCovered};
+ghost use Rattle.report_laws.specs.Laws.{OpenTableRunsCovered};
 ghost use Rattle.report_laws.specs.Laws.{RunsAlike, FreeForEver, PreparedKeep};
 ghost use Rattle.run_laws.specs.Whole.{RunsStay, ReturnsAreSaid, NoReturnIsNotTaken};
 ghost use Rattle.run_laws.specs.Whole.{NoReturnNeverEnds, ReturnsHaveEdges};
@@ -20,24 +22,27 @@ pub fn reports_are_of_files()
 {}
 
 /// Every step of the machine is covered by the graph in the report: as `every_step_is_covered` of
-/// `edge_cover` says.
+/// `edge_cover` says of the written machine, and `every_open_step_is_covered` of the open one.
 pub fn reported_steps_are_covered()
     ensures steps { OfEachReport StepsCovered }
     ensures pairs { OfEachReport PairsCovered }
     ensures tables { OfEachReport TableRunsCovered }
+    ensures open_steps { OfEachReport OpenStepsCovered }
+    ensures open_pairs { OfEachReport OpenPairsCovered }
+    ensures open_tables { OfEachReport OpenTableRunsCovered }
 {}
 
-/// It does not matter what the registers hold that the report calls free: as
-/// `free_registers_are_free` of `free_laws` says.
+/// It does not matter to a run of the open machine what the registers hold that the report calls
+/// free: as `free_registers_are_free` of `free_laws` says.
 pub fn reported_registers_are_free()
     ensures within { OfEachReport RunsAlike }
     ensures always { OfEachReport FreeForEver }
     ensures keeps { OfEachReport PreparedKeep }
 {}
 
-/// An orderly run from the entry of the file, or of any function in the report, stays in the graph of
-/// the report, and what the report calls no-return does not return: as `whole_runs_stay_in_the_graph`
-/// of `run_laws` says.
+/// An orderly run of the open machine from the entry of the file, or of any function in the report,
+/// stays in the graph of the report, and what the report calls no-return does not return: as
+/// `whole_runs_stay_in_the_graph` of `run_laws` says.
 pub fn whole_runs_stay_in_the_report()
     ensures stays { OfEachReport RunsStay }
     ensures returns { OfEachReport ReturnsAreSaid }

@@ -7,13 +7,13 @@ use mathlib.Core.Logic.{inl, inr}
 use Rattle.std.specs.FinMap as maps
 use Rattle.cfg_model.specs.Program.Instructions.{InstructionMap, IsLawful}
 use Rattle.cfg_model.specs.Program.Chain.{OnChain}
-use Rattle.cfg_model.specs.Builder.State.{BuilderState, EndMap, EndEntry, IsNear}
-use Rattle.cfg_model.specs.Builder.Event.{Event, Steps, Arrives}
-use Rattle.cfg_model.specs.Builder.Reason.{May, FitsEnd}
-use Rattle.cfg_model.specs.Builder.Kept.{KeepsBlocks}
-use Rattle.cfg_model.specs.Builder.Laws.{AllowedStaysAllowed, ReasonsSuffice}
-use Rattle.cfg_model.proofs.Builder.MapFacts.{same_or_other, get_here, get_apart}
-use Rattle.cfg_model.proofs.Builder.StateReads.{near_here, near_is}
+use Rattle.builder_model.specs.State.{BuilderState, EndMap, EndEntry, IsNear}
+use Rattle.builder_model.specs.Event.{Event, Steps, Arrives}
+use Rattle.builder_model.specs.Reason.{May, FitsEnd}
+use Rattle.builder_model.specs.Kept.{KeepsBlocks}
+use Rattle.builder_model.specs.Laws.{AllowedStaysAllowed, ReasonsSuffice}
+use Rattle.cfg_model.proofs.Program.MapFacts.{same_or_other, get_here, get_apart}
+use Rattle.builder_model.proofs.StateReads.{near_here, near_is}
 use Rattle.split_laws.proofs.ArrivalFacts.{settled_near}
 use Rattle.cfg_model.proofs.Graphs.LeaderFacts.{chain_order}
 use Rattle.split_laws.proofs.FactLaws.{reasons_last}

@@ -12,14 +12,14 @@ use Rattle.cfg_model.specs.Program.Instructions.{InstructionMap, IsLawful}
 use Rattle.cfg_model.specs.Program.Chain.{OnChain}
 use Rattle.cfg_model.specs.Graph.Leader.{IsLeader}
 use Rattle.cfg_model.specs.Program.Meeting.{IsStop}
-use Rattle.cfg_model.specs.Builder.State.{EndMap, EndEntry, IsNear, IsMoved, StandsAt}
-use Rattle.cfg_model.specs.Builder.Event.{Arrives, ArrivesAt, SplitsTo, with_displaced, with_settled}
-use Rattle.cfg_model.specs.Builder.Kept.{StandingLead, DisplacedReachNear}
-use Rattle.cfg_model.proofs.Builder.MapFacts.{same_or_other, get_here, get_apart}
-use Rattle.cfg_model.proofs.Builder.StateReads.{near_here, near_is, moved_here, moved_is}
+use Rattle.builder_model.specs.State.{EndMap, EndEntry, IsNear, IsMoved, StandsAt}
+use Rattle.builder_model.specs.Event.{Arrives, ArrivesAt, SplitsTo, with_displaced, with_settled}
+use Rattle.builder_model.specs.Kept.{StandingLead, DisplacedReachNear}
+use Rattle.cfg_model.proofs.Program.MapFacts.{same_or_other, get_here, get_apart}
+use Rattle.builder_model.proofs.StateReads.{near_here, near_is, moved_here, moved_is}
 use Rattle.cfg_model.proofs.Program.ChainFacts.{chain_up, chain_on}
-use Rattle.cfg_model.proofs.Builder.StateGrowth.{false_true}
-use Rattle.cfg_model.proofs.Builder.EndGrowth.{StandsIn, settled_here, settled_apart}
+use Rattle.builder_model.proofs.StateGrowth.{false_true}
+use Rattle.builder_model.proofs.EndGrowth.{StandsIn, settled_here, settled_apart}
 use Rattle.cfg_model.proofs.Graphs.LeaderFacts.{chain_order, meeting_leads}
 
 -- Going back over an arrival.

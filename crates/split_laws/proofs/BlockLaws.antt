@@ -3,22 +3,22 @@ use Rattle.std.proofs.Common.{◌≡◌, ◌≢◌, ℕ, List, Bool, true, false
 use Rattle.std.specs.Prelude.{◌⊎◌, Option, Some, IsSome, if◌then◌else◌}
 use mathlib.Core.Logic.{inl, inr}
 use Rattle.std.specs.FinMap as maps
-use Rattle.cfg_model.specs.declared.state.Mark.TheVariants as marks
+use Rattle.builder_model.specs.declared.state.Mark.TheVariants as marks
 use Rattle.cfg_model.specs.Program.Instructions.{InstructionMap, IsLawful}
 use Rattle.cfg_model.specs.Program.Chain.{OnChain, IsTerminator}
 use Rattle.cfg_model.specs.Program.Reach.{Reached}
 use Rattle.cfg_model.specs.Graph.Leader.{IsLeader, StartsBlock}
 use Rattle.cfg_model.specs.Program.Meeting.{IsStop}
-use Rattle.cfg_model.specs.Builder.State.{BuilderState, StartMap, EndMap, TerminatorMap, TerminatorEntry, IsStart, IsParsed, IsNear, IsMoved, StandsAt, IsEntered}
-use Rattle.cfg_model.specs.Builder.Event.{Event, Steps, with_start, with_parsed, with_terminator, with_changed, entry_with_waiter, entry_with_told, entry_with_return, entry_with_done}
-use Rattle.cfg_model.specs.Builder.Fact.{Fact, Holds}
-use Rattle.cfg_model.specs.Builder.Reason.{May, EndsAStart, WantReason, ParsedReason, TerminatorReason}
-use Rattle.cfg_model.specs.Builder.Kept.{KeepsBlocks, ReturnedReturn}
-use Rattle.cfg_model.specs.Builder.Laws.{EventsKeepBlocks}
-use Rattle.cfg_model.proofs.Builder.MapFacts.{same_or_other, get_here, get_apart}
+use Rattle.builder_model.specs.State.{BuilderState, StartMap, EndMap, TerminatorMap, TerminatorEntry, IsStart, IsParsed, IsNear, IsMoved, StandsAt, IsEntered}
+use Rattle.builder_model.specs.Event.{Event, Steps, with_start, with_parsed, with_terminator, with_changed, entry_with_waiter, entry_with_told, entry_with_return, entry_with_done}
+use Rattle.builder_model.specs.Fact.{Fact, Holds}
+use Rattle.builder_model.specs.Reason.{May, EndsAStart, WantReason, ParsedReason, TerminatorReason}
+use Rattle.builder_model.specs.Kept.{KeepsBlocks, ReturnedReturn}
+use Rattle.builder_model.specs.Laws.{EventsKeepBlocks}
+use Rattle.cfg_model.proofs.Program.MapFacts.{same_or_other, get_here, get_apart}
 use Rattle.split_laws.proofs.FactLaws.{facts_last, parsed_more, terminator_more, stop_more}
 use Rattle.cfg_model.proofs.Program.Along.{returns_along}
-use Rattle.cfg_model.proofs.Builder.EntryChanges.{changed_from, entered_from}
+use Rattle.builder_model.proofs.EntryChanges.{changed_from, entered_from}
 use Rattle.split_laws.proofs.ArrivalFacts.{EndsKept, EndsBack, arrival_back, settled_near, settled_moved, settled_stands}
 use Rattle.cfg_model.proofs.Graphs.LeaderFacts.{reached_along, target_leads}
 

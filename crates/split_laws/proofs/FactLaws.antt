@@ -1,21 +1,21 @@
 -- Facts last, and so do reasons.
 use Rattle.std.proofs.Common.{◌≡◌, ℕ, ◌<◌, List, sym, subst, arith}
 use mathlib.Core.Logic.{inl, inr}
-use Rattle.cfg_model.specs.declared.state.WaitKind.{WaitKind}
-use Rattle.cfg_model.specs.declared.state.WaitKind.TheVariants.{Follow, Release}
-use Rattle.cfg_model.specs.declared.state.Waiter.{Waiter}
+use Rattle.builder_model.specs.declared.state.WaitKind.{WaitKind}
+use Rattle.builder_model.specs.declared.state.WaitKind.TheVariants.{Follow, Release}
+use Rattle.builder_model.specs.declared.state.Waiter.{Waiter}
 use Rattle.cfg_model.specs.Program.Instructions.{InstructionMap, IsLawful}
 use Rattle.cfg_model.specs.Program.Chain.{OnChain}
 use Rattle.cfg_model.specs.Program.Meeting.{IsStop}
-use Rattle.cfg_model.specs.Builder.State.{BuilderState, IsStart, IsParsed, HasEnd, IsAnchored}
-use Rattle.cfg_model.specs.Builder.Event.{Event, Steps, with_settled, entry_with_waiter, entry_with_told, entry_with_return, entry_with_done}
-use Rattle.cfg_model.specs.Builder.Fact.{Fact, Holds}
-use Rattle.cfg_model.specs.Builder.Waits.{DependsAs, FollowsFrom}
-use Rattle.cfg_model.specs.Builder.Reason.{Reason, May, EndReturns, EndsAStart, WantReason, SettleReason, ParsedReason, TerminatorReason, WaitReason, ReturnedReason, EffectStands, ToldReason, DoneReason}
-use Rattle.cfg_model.specs.Builder.Laws.{FactsLast, ReasonsLast}
+use Rattle.builder_model.specs.State.{BuilderState, IsStart, IsParsed, HasEnd, IsAnchored}
+use Rattle.builder_model.specs.Event.{Event, Steps, with_settled, entry_with_waiter, entry_with_told, entry_with_return, entry_with_done}
+use Rattle.builder_model.specs.Fact.{Fact, Holds}
+use Rattle.builder_model.specs.Waits.{DependsAs, FollowsFrom}
+use Rattle.builder_model.specs.Reason.{Reason, May, EndReturns, EndsAStart, WantReason, SettleReason, ParsedReason, TerminatorReason, WaitReason, ReturnedReason, EffectStands, ToldReason, DoneReason}
+use Rattle.builder_model.specs.Laws.{FactsLast, ReasonsLast}
 use Rattle.cfg_model.proofs.Program.ChainFacts.{chain_up, chain_on}
-use Rattle.cfg_model.proofs.Builder.StateGrowth.{TerminatorsGrow, with_start_keeps, with_start_keeps_parsed, with_parsed_keeps, with_parsed_keeps_parsed, changed_grows, entered_grows, waiter_grows, told_grows, return_grows, done_grows}
-use Rattle.cfg_model.proofs.Builder.EndGrowth.{arrive_keeps, arrive_keeps_end, settle_keeps, settle_keeps_end}
+use Rattle.builder_model.proofs.StateGrowth.{TerminatorsGrow, with_start_keeps, with_start_keeps_parsed, with_parsed_keeps, with_parsed_keeps_parsed, changed_grows, entered_grows, waiter_grows, told_grows, return_grows, done_grows}
+use Rattle.builder_model.proofs.EndGrowth.{arrive_keeps, arrive_keeps_end, settle_keeps, settle_keeps_end}
 
 -- what a state says, it says after it has grown
 pub record StateGrows (map : InstructionMap) (old new : BuilderState) : Type 0 where

@@ -7,11 +7,11 @@ use Rattle.std.specs.FinSet as sets
 use Rattle.cfg_model.specs.Program.Instructions.{InstructionMap, IsLawful}
 use Rattle.cfg_model.specs.Program.Chain.{OnChain, GoesOnTo}
 use Rattle.cfg_model.specs.Program.Meeting.{IsMeeting}
-use Rattle.cfg_model.specs.Builder.State.{EndEntry}
-use Rattle.cfg_model.specs.Builder.Event.{Event, Arrives, with_displaced}
-use Rattle.cfg_model.specs.Builder.Laws.{AllowedEventSteps}
-use Rattle.cfg_model.proofs.Builder.MapFacts.{same_or_other}
-use Rattle.cfg_model.proofs.Builder.StateReads.{near_here}
+use Rattle.builder_model.specs.State.{EndEntry}
+use Rattle.builder_model.specs.Event.{Event, Arrives, with_displaced}
+use Rattle.builder_model.specs.Laws.{AllowedEventSteps}
+use Rattle.cfg_model.proofs.Program.MapFacts.{same_or_other}
+use Rattle.builder_model.proofs.StateReads.{near_here}
 use Rattle.cfg_model.proofs.Program.ChainFacts.{chain_up, chain_cases, one_next, goes_up}
 use Rattle.cfg_model.proofs.Program.ChainEnds.{goes_towards}
 

@@ -5,11 +5,11 @@ use mathlib.Core.Logic.{inl, inr}
 use Rattle.cfg_model.specs.Program.Instructions.{InstructionMap, IsLawful}
 use Rattle.cfg_model.specs.Program.Chain.{OnChain, GoesOnTo, IsTerminatorOf}
 use Rattle.cfg_model.specs.Program.Meeting.{IsStop, IsFirstStop}
-use Rattle.cfg_model.specs.Builder.State.{BuilderState, IsStart, IsNear, StandsAt}
-use Rattle.cfg_model.specs.Builder.Kept.{KeepsBlocks}
-use Rattle.cfg_model.specs.Builder.Laws.{StartsAreNearOnce}
-use Rattle.cfg_model.specs.Builder.Left.{IsSettled}
-use Rattle.cfg_model.proofs.Builder.MapFacts.{same_or_other}
+use Rattle.builder_model.specs.State.{BuilderState, IsStart, IsNear, StandsAt}
+use Rattle.builder_model.specs.Kept.{KeepsBlocks}
+use Rattle.builder_model.specs.Laws.{StartsAreNearOnce}
+use Rattle.builder_model.specs.Left.{IsSettled}
+use Rattle.cfg_model.proofs.Program.MapFacts.{same_or_other}
 use Rattle.cfg_model.proofs.Program.ChainFacts.{chain_up, chain_on, one_next, goes_up}
 use Rattle.cfg_model.proofs.Program.ChainEnds.{goes_not_ends, goes_towards, end_from}
 use Rattle.cfg_model.proofs.Graphs.LeaderFacts.{chain_linear, chain_order}

@@ -4,9 +4,9 @@ use Rattle.std.specs.Prelude.{Option, Some, None}
 use mathlib.Core.Logic.{inl, inr}
 use Rattle.std.specs.FinMap as maps
 use Rattle.cfg_model.specs.Program.Instructions.{InstructionMap}
-use Rattle.cfg_model.specs.Builder.State.{EndMap, EndEntry}
-use Rattle.cfg_model.specs.Builder.Event.{Event, Arrives, SplitsTo, with_displaced}
-use Rattle.cfg_model.specs.Builder.Laws.{MeetingIsUnique, StepIsUnique}
+use Rattle.builder_model.specs.State.{EndMap, EndEntry}
+use Rattle.builder_model.specs.Event.{Event, Arrives, SplitsTo, with_displaced}
+use Rattle.builder_model.specs.Laws.{MeetingIsUnique, StepIsUnique}
 use Rattle.cfg_model.proofs.Program.ChainFacts.{meeting_unique}
 
 pub meeting_is_unique : MeetingIsUnique

@@ -3,8 +3,8 @@
 //! lawful program and all seeds.
 #![tactic(auto)]
 
-ghost use Rattle.cfg_model.specs.Builder.Laws.{MeetingIsUnique, StepIsUnique, AllowedEventSteps};
-ghost use Rattle.cfg_model.specs.Builder.Laws.{ReasonsSuffice, EventsKeepBlocks, StartsAreNearOnce};
+ghost use Rattle.builder_model.specs.Laws.{MeetingIsUnique, StepIsUnique, AllowedEventSteps};
+ghost use Rattle.builder_model.specs.Laws.{ReasonsSuffice, EventsKeepBlocks, StartsAreNearOnce};
 
 /// Two chains meet at one address at most. So it is settled which start is near after a split, and
 /// which ones are displaced.

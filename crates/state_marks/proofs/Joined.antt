@@ -2,8 +2,8 @@
 use Rattle.std.proofs.Common.{ℕ, ◌<◌, ◌↔◌, List, length, get_or, refl, subst, arith, alloc_error}
 use Rattle.std.specs.Prelude.{All, Contains, Ok, Err, IfOk}
 use Rattle.std.proofs.lemmas.List.Elements.{Contains-get_or}
-use Rattle.cfg_model.specs.Builder.Shard.{shard_of}
-use Rattle.cfg_model.specs.Builder.State.{BuilderState}
+use Rattle.builder_model.specs.Shard.{shard_of}
+use Rattle.builder_model.specs.State.{BuilderState}
 use Rattle.state_marks.specs.declared.seen.Seen.{Seen}
 use Rattle.state_marks.specs.Inner.Seen.{IsNumberOf, AreNumbersIn, IsSeen}
 use Rattle.state_marks.specs.Inner.Parts.{Answered, IsMade, IsSeenByShard, InParts}

@@ -4,7 +4,7 @@ use Rattle.std.specs.Prelude.{All, Contains, Ok, is_ok}
 use Rattle.std.proofs.Math.ListN.{get_or-eq_default}
 use Rattle.std.proofs.lemmas.Bool.{cases_lt}
 use Rattle.std.proofs.lemmas.List.{length-set, length-replicate, get_or-replicate, take_more, take_all, drop_all}
-use Rattle.cfg_model.proofs.Builder.StateGrowth.{false_true}
+use Rattle.builder_model.proofs.StateGrowth.{false_true}
 use Rattle.std.proofs.lemmas.List.Elements.{All-push, Contains-append_left, Contains-push, Contains-push_cases}
 use Rattle.reached_terms.proofs.Bits.{on_set, on_kept, on_cases}
 use Rattle.state_marks.specs.declared.seen.Seen.{Seen}

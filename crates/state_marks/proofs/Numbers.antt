@@ -4,9 +4,9 @@ use Rattle.std.specs.Prelude.{Contains}
 use Rattle.std.specs.Option.{option_map, option_map_or}
 use Rattle.std.specs.FinMap as maps
 use Rattle.std.proofs.lemmas.List.{take_more}
-use Rattle.cfg_model.specs.Builder.Shard.{shard_of}
-use Rattle.cfg_model.specs.Builder.State.{TerminatorEntry, TerminatorMap, IsEntered, IsReturned}
-use Rattle.cfg_model.proofs.Builder.StateGrowth.{false_true}
+use Rattle.builder_model.specs.Shard.{shard_of}
+use Rattle.builder_model.specs.State.{TerminatorEntry, TerminatorMap, IsEntered, IsReturned}
+use Rattle.builder_model.proofs.StateGrowth.{false_true}
 use Rattle.core_state.specs.Reads.{returned_at}
 use Rattle.state_marks.specs.Inner.Seen.{AreNumbersOf}
 use Rattle.state_marks.proofs.Marking.{one_pushed}

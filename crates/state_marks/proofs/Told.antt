@@ -7,9 +7,9 @@ use Rattle.cfg_model.specs.declared.flow.Flow.TheVariants.{Straight}
 use Rattle.cfg_model.specs.Program.Instructions.{InstructionMap, IsLawful}
 use Rattle.cfg_model.specs.Program.Chain.{IsTerminator, OnChain}
 use Rattle.cfg_model.specs.Program.Reach.{Reached}
-use Rattle.cfg_model.specs.Builder.State.{BuilderState, IsStart, IsEntered, IsReturned}
-use Rattle.cfg_model.specs.Builder.Kept.{IsClosed}
-use Rattle.cfg_model.specs.Builder.Shown.{ShowsGraph}
+use Rattle.builder_model.specs.State.{BuilderState, IsStart, IsEntered, IsReturned}
+use Rattle.builder_model.specs.Kept.{IsClosed}
+use Rattle.builder_model.specs.Shown.{ShowsGraph}
 use Rattle.cfg_model.proofs.Program.Code.{flow_stands}
 use Rattle.status_laws.proofs.ClosedLaws.{settled, closed_shows_graph}
 use Rattle.numbered.specs.Numbering.{IsNumbering}

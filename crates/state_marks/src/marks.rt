@@ -1,7 +1,7 @@
 //! The marks of a closed state, made by one thread.
 
 ghost use Rattle.std.specs.Prelude.{◌≡◌, ◌<◌, ℕ, List, All, IfOk, length};
-ghost use Rattle.cfg_model.specs.Builder.Kept.{IsClosed};
+ghost use Rattle.builder_model.specs.Kept.{IsClosed};
 ghost use Rattle.reached_terms.specs.Reached.{AreReachedTerms};
 ghost use Rattle.state_marks.specs.Inner.Seen.{StandOn, AreMarksOf, AddsMarks};
 ghost use Rattle.state_marks.specs.Inner.Parts.{AreBelow, AreMarksIn, InParts, IsMade, IsSeenByShard};

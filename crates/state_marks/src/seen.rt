@@ -1,8 +1,8 @@
 //! The numbers of the addresses of which a shard shows something.
 
 ghost use Rattle.std.specs.Prelude.{◌≡◌, ◌<◌, true, Contains, IfOk};
-ghost use Rattle.cfg_model.specs.Builder.Shard.{shard_of};
-ghost use Rattle.cfg_model.specs.Builder.State.{IsStart, IsEntered, IsReturned};
+ghost use Rattle.builder_model.specs.Shard.{shard_of};
+ghost use Rattle.builder_model.specs.State.{IsStart, IsEntered, IsReturned};
 ghost use Rattle.state_marks.specs.Inner.Seen.{AreNumbersIn, IsSeen, StandOn};
 ghost use Rattle.state_marks.specs.Inner.Parts.{numbers_of};
 

@@ -2,7 +2,7 @@
 
 ghost use Rattle.std.specs.Prelude.{◌<◌, ◌≤◌, ℕ, List, All, IfOk};
 ghost use Rattle.std.specs.Thread.{IsSync};
-ghost use Rattle.cfg_model.specs.Builder.Kept.{IsClosed};
+ghost use Rattle.builder_model.specs.Kept.{IsClosed};
 ghost use Rattle.reached_terms.specs.Reached.{AreReachedTerms};
 ghost use Rattle.state_marks.specs.Inner.Seen.{IsSeen, StandOn};
 ghost use Rattle.state_marks.specs.Inner.Parts.{AreBelow, AreMarksIn, IsSeenByShard};

@@ -5,20 +5,21 @@ use Rattle.std.specs.Option.{option_map, option_map_or}
 use mathlib.Core.Logic.{inl, inr}
 use Rattle.std.specs.FinMap as maps
 use Rattle.std.specs.FinSet as sets
-use Rattle.cfg_model.specs.declared.state.Mark.TheVariants as marks
-use Rattle.cfg_model.specs.declared.state.Waiter.{Waiter}
+use Rattle.builder_model.specs.declared.state.Mark.TheVariants as marks
+use Rattle.builder_model.specs.declared.state.Waiter.{Waiter}
 use Rattle.cfg_model.specs.Program.Instructions.{InstructionMap}
 use Rattle.cfg_model.specs.Program.Chain.{OnChain}
-use Rattle.cfg_model.specs.Builder.State.{BuilderState, StartMap, EndMap, EndEntry, TerminatorMap, TerminatorEntry, IsStart, IsParsed, HasEnd, StandsAt, IsEntered, WaitsAt}
-use Rattle.cfg_model.specs.Builder.Event.{Event, Arrives, ArrivesAt, with_displaced, with_changed, new_entry, entry_with_waiter, entry_with_told, entry_with_return, entry_with_done}
-use Rattle.cfg_model.specs.Builder.Fact.{Fact, Holds}
-use Rattle.cfg_model.specs.Builder.Reason.{EndsAStart, WantReason}
-use Rattle.cfg_model.specs.Builder.Kept.{KeepsBlocks}
-use Rattle.cfg_model.specs.Builder.Laws.{EventsBringFacts, StandingIsKnown}
+use Rattle.builder_model.specs.State.{BuilderState, StartMap, EndMap, EndEntry, TerminatorMap, TerminatorEntry, IsStart, IsParsed, HasEnd, StandsAt, IsEntered, WaitsAt}
+use Rattle.builder_model.specs.Event.{Event, Arrives, ArrivesAt, with_displaced, with_changed, new_entry, entry_with_waiter, entry_with_told, entry_with_return, entry_with_done}
+use Rattle.builder_model.specs.Fact.{Fact, Holds}
+use Rattle.builder_model.specs.Reason.{EndsAStart, WantReason}
+use Rattle.builder_model.specs.Kept.{KeepsBlocks}
+use Rattle.builder_model.specs.Laws.{EventsBringFacts, StandingIsKnown}
 use Rattle.cfg_model.proofs.Program.Listed.{none_in, in_cases}
-use Rattle.cfg_model.proofs.Builder.MapFacts.{get_here}
-use Rattle.cfg_model.proofs.Builder.StateGrowth.{false_true, none_is_some, changed_here, waiter_here}
-use Rattle.cfg_model.proofs.Builder.EndGrowth.{StandsIn, none_stand, displaced_has}
+use Rattle.cfg_model.proofs.Program.MapFacts.{get_here}
+use Rattle.builder_model.proofs.StateGrowth.{false_true, changed_here, waiter_here}
+use Rattle.cfg_model.proofs.Program.MapFacts.{none_is_some}
+use Rattle.builder_model.proofs.EndGrowth.{StandsIn, none_stand, displaced_has}
 
 -- one fact, and two
 one_fact : (P : Fact → Type 0) (a : Fact) → P a → (fact : Fact) → Contains (a ∷ []) fact → P fact

@@ -7,33 +7,34 @@ use Rattle.std.specs.FinMap as maps
 use Rattle.std.proofs.lemmas.List.Elements.{Contains-append_left, Contains-append_right}
 use Rattle.cfg_model.specs.declared.flow.Flow.{Flow}
 use Rattle.cfg_model.specs.declared.flow.Flow.TheVariants.{Straight, Branch, Jump, Call, IndirectCall, Table, Return, Unknown, Stop}
-use Rattle.cfg_model.specs.declared.state.Mark.{Mark}
-use Rattle.cfg_model.specs.declared.state.Mark.TheVariants as marks
-use Rattle.cfg_model.specs.declared.state.Waiter.{Waiter}
+use Rattle.builder_model.specs.declared.state.Mark.{Mark}
+use Rattle.builder_model.specs.declared.state.Mark.TheVariants as marks
+use Rattle.builder_model.specs.declared.state.Waiter.{Waiter}
 use Rattle.cfg_model.specs.Program.Instructions.{InstructionMap, IsLawful, flow_at, length_at, targets_at}
 use Rattle.cfg_model.specs.Program.Chain.{OnChain, GoesOnTo, IsTerminator, IsTerminatorOf, EndsChain}
-use Rattle.cfg_model.specs.Program.Successors.{IsSuccessor, IsCall, successors_of_flow, LeavesFunction}
+use Rattle.cfg_model.specs.Program.Successors.{IsSuccessor, IsCall, successors_of_flow, LeavesFunction, IsTarget}
 use Rattle.cfg_model.specs.Program.Status.{Returns}
-use Rattle.cfg_model.specs.Program.Reach.{Reached}
+use Rattle.cfg_model.specs.Program.Reach.{Reached, IsReachedTerminator}
 use Rattle.cfg_model.specs.Graph.Leader.{IsLeader, StartsBlock, targets_by, fall_by}
 use Rattle.cfg_model.specs.Graph.Block.{RunsTo, IsLastOf}
-use Rattle.cfg_model.specs.Builder.Waiter.{follower, released}
-use Rattle.cfg_model.specs.Builder.Waits.{IsTarget, IsWait}
+use Rattle.builder_model.specs.Waiter.{follower, released}
+use Rattle.builder_model.specs.Waits.{IsWait}
 use Rattle.status_laws.proofs.KeptLaws.{empty_is_kept, events_keep_kept}
-use Rattle.cfg_model.specs.Builder.State.{empty_state, BuilderState, TerminatorEntry, IsStart, IsNear, IsEntered, IsDone, IsReturned, WaitsAt, IsTold, waiters_at}
-use Rattle.cfg_model.specs.Builder.Fact.{Holds, IsReachedTerminator}
-use Rattle.cfg_model.specs.Builder.Reason.{DoneReason, ToldReason, IsReleased}
-use Rattle.cfg_model.specs.Builder.Left.{Work, IsLeft, HasNothingLeft, IsSettled}
-use Rattle.cfg_model.specs.Builder.Kept.{IsKept, IsClosed}
-use Rattle.cfg_model.specs.Builder.Event.{Event}
-use Rattle.cfg_model.specs.Builder.Shown.{ShowsGraph}
-use Rattle.cfg_model.specs.Builder.Run.{IsRun}
-use Rattle.cfg_model.specs.Builder.Laws.{ClosedShowsGraph, Confluence, OrdersAgree}
+use Rattle.builder_model.specs.State.{empty_state, BuilderState, TerminatorEntry, IsStart, IsNear, IsEntered, IsDone, IsReturned, WaitsAt, IsTold, waiters_at}
+use Rattle.builder_model.specs.Fact.{Holds}
+use Rattle.builder_model.specs.Reason.{DoneReason, ToldReason, IsReleased}
+use Rattle.builder_model.specs.Left.{Work, IsLeft, HasNothingLeft, IsSettled}
+use Rattle.builder_model.specs.Kept.{IsKept, IsClosed}
+use Rattle.builder_model.specs.Event.{Event}
+use Rattle.builder_model.specs.Shown.{ShowsGraph}
+use Rattle.builder_model.specs.Run.{IsRun}
+use Rattle.builder_model.specs.Laws.{ClosedShowsGraph, Confluence, OrdersAgree}
 use Rattle.cfg_model.proofs.Program.Listed.{none_in, in_cases, head_in}
 use Rattle.cfg_model.proofs.Program.Landing.{landing_follows, may_land}
-use Rattle.cfg_model.proofs.Builder.MapFacts.{same_or_other}
+use Rattle.cfg_model.proofs.Program.MapFacts.{same_or_other}
 use Rattle.cfg_model.proofs.Program.ChainFacts.{chain_up, chain_on, one_next, goes_up}
-use Rattle.cfg_model.proofs.Builder.StateGrowth.{false_true, none_is_some}
+use Rattle.builder_model.proofs.StateGrowth.{false_true}
+use Rattle.cfg_model.proofs.Program.MapFacts.{none_is_some}
 use Rattle.cfg_model.proofs.Graphs.LeaderFacts.{reached_along, chain_linear, chain_order}
 use Rattle.cfg_model.proofs.Program.ChainEnds.{goes_not_ends, goes_towards, one_end}
 use Rattle.split_laws.proofs.SettledLaws.{Placed, placed, near_reaches, start_behind, none_inside, near_first}

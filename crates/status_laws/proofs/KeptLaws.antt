@@ -4,12 +4,13 @@ use Rattle.std.specs.Prelude.{Option, Some, None, IsSome}
 use mathlib.Core.Logic.{inr}
 use Rattle.std.specs.Ordering.{nat_cmp}
 use Rattle.std.specs.FinMap as maps
-use Rattle.cfg_model.specs.declared.state.Mark.{Mark}
-use Rattle.cfg_model.specs.declared.state.Mark.TheVariants as marks
-use Rattle.cfg_model.specs.Builder.State.{EndEntry, TerminatorEntry, StandsAt}
-use Rattle.cfg_model.specs.Builder.Laws.{EmptyIsKept, EventsKeepKept}
-use Rattle.cfg_model.proofs.Builder.StateGrowth.{false_true, none_is_some, no_waiter, no_told}
-use Rattle.cfg_model.proofs.Builder.EndGrowth.{StandsIn, none_stand}
+use Rattle.builder_model.specs.declared.state.Mark.{Mark}
+use Rattle.builder_model.specs.declared.state.Mark.TheVariants as marks
+use Rattle.builder_model.specs.State.{EndEntry, TerminatorEntry, StandsAt}
+use Rattle.builder_model.specs.Laws.{EmptyIsKept, EventsKeepKept}
+use Rattle.builder_model.proofs.StateGrowth.{false_true, no_waiter, no_told}
+use Rattle.cfg_model.proofs.Program.MapFacts.{none_is_some}
+use Rattle.builder_model.proofs.EndGrowth.{StandsIn, none_stand}
 use Rattle.status_laws.proofs.StatusLaws.{events_keep_status}
 use Rattle.split_laws.proofs.BlockLaws.{events_keep_blocks}
 

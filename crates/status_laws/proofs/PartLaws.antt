@@ -7,17 +7,18 @@ use Rattle.std.specs.Ordering.{nat_cmp}
 use Rattle.std.specs.Cmp.{nat_cmp_total}
 use Rattle.std.specs.FinMap as maps
 use Rattle.std.specs.FinSet as sets
-use Rattle.cfg_model.specs.declared.state.Mark.{Mark}
-use Rattle.cfg_model.specs.declared.state.Mark.TheVariants as marks
+use Rattle.builder_model.specs.declared.state.Mark.{Mark}
+use Rattle.builder_model.specs.declared.state.Mark.TheVariants as marks
 use Rattle.cfg_model.specs.Program.Instructions.{InstructionMap}
-use Rattle.cfg_model.specs.Builder.Event.{Event, with_changed, new_entry, entry_with_waiter, entry_with_told, entry_with_return, entry_with_done, Arrives}
-use Rattle.cfg_model.specs.Builder.Fact.{Fact, Holds}
-use Rattle.cfg_model.specs.Builder.State.{BuilderState, StartMap, EndMap, TerminatorMap, EndEntry, TerminatorEntry, IsAnchored}
-use Rattle.cfg_model.specs.Builder.Shard.{Shard, shard_of, part_of, only}
-use Rattle.cfg_model.specs.Builder.Laws.{StepsStayInShard, PartsAreShown, FactsReadBack, ReasonsGrow}
-use Rattle.cfg_model.proofs.Builder.MapFacts.{same_or_other, get_here, get_apart}
-use Rattle.cfg_model.proofs.Builder.StateGrowth.{false_true, no_waiter, no_told, none_is_some}
-use Rattle.cfg_model.proofs.Builder.EndGrowth.{StandsIn, none_stand}
+use Rattle.builder_model.specs.Event.{Event, with_changed, new_entry, entry_with_waiter, entry_with_told, entry_with_return, entry_with_done, Arrives}
+use Rattle.builder_model.specs.Fact.{Fact, Holds}
+use Rattle.builder_model.specs.State.{BuilderState, StartMap, EndMap, TerminatorMap, EndEntry, TerminatorEntry, IsAnchored}
+use Rattle.builder_model.specs.Shard.{Shard, shard_of, part_of, only}
+use Rattle.builder_model.specs.Laws.{StepsStayInShard, PartsAreShown, FactsReadBack, ReasonsGrow}
+use Rattle.cfg_model.proofs.Program.MapFacts.{same_or_other, get_here, get_apart}
+use Rattle.builder_model.proofs.StateGrowth.{false_true, no_waiter, no_told}
+use Rattle.cfg_model.proofs.Program.MapFacts.{none_is_some}
+use Rattle.builder_model.proofs.EndGrowth.{StandsIn, none_stand}
 use Rattle.split_laws.proofs.FactLaws.{reason_more}
 use Rattle.status_laws.proofs.ShardLaws.{part_get, part_own, of_whole, of_part, Returned, Done, Waits, Told, no_mark}
 

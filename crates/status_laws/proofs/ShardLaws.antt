@@ -8,19 +8,20 @@ use Rattle.std.proofs.lemmas.Bool.{eq-eqb, eqb-true}
 use Rattle.std.specs.Cmp.{nat_cmp_total}
 use Rattle.std.specs.FinMap as maps
 use Rattle.std.specs.FinSet as sets
-use Rattle.cfg_model.specs.declared.state.Mark.{Mark}
-use Rattle.cfg_model.specs.declared.state.Mark.TheVariants as marks
-use Rattle.cfg_model.specs.declared.state.Waiter.{Waiter}
+use Rattle.builder_model.specs.declared.state.Mark.{Mark}
+use Rattle.builder_model.specs.declared.state.Mark.TheVariants as marks
+use Rattle.builder_model.specs.declared.state.Waiter.{Waiter}
 use Rattle.cfg_model.specs.Program.Instructions.{InstructionMap}
-use Rattle.cfg_model.specs.Builder.Event.{Event, with_start, with_parsed, with_settled, with_terminator, with_changed, new_entry, entry_with_waiter, entry_with_told, entry_with_return, entry_with_done}
-use Rattle.cfg_model.specs.Builder.Fact.{Fact, Holds}
-use Rattle.cfg_model.specs.Builder.State.{BuilderState, StartMap, EndMap, TerminatorMap, EndEntry, TerminatorEntry}
-use Rattle.cfg_model.specs.Builder.Kept.{IsKept}
-use Rattle.cfg_model.specs.Builder.Shard.{Shard, shard_of, part_of, shard_of_event, IsSameShard, IsBacked, BackedStarts, BackedEnds, BackedTerminators}
-use Rattle.cfg_model.specs.Builder.Laws.{KeptIsBacked, OwnShardStaysBacked, OtherShardsStay, OtherShardsStayBacked}
-use Rattle.cfg_model.proofs.Builder.StateGrowth.{false_true, no_waiter, no_told, none_is_some, changed_apart}
-use Rattle.cfg_model.proofs.Builder.EndGrowth.{StandsIn, none_stand, settled_apart}
-use Rattle.cfg_model.proofs.Builder.MapFacts.{tied_equal, same_or_other, get_apart}
+use Rattle.builder_model.specs.Event.{Event, with_start, with_parsed, with_settled, with_terminator, with_changed, new_entry, entry_with_waiter, entry_with_told, entry_with_return, entry_with_done}
+use Rattle.builder_model.specs.Fact.{Fact, Holds}
+use Rattle.builder_model.specs.State.{BuilderState, StartMap, EndMap, TerminatorMap, EndEntry, TerminatorEntry}
+use Rattle.builder_model.specs.Kept.{IsKept}
+use Rattle.builder_model.specs.Shard.{Shard, shard_of, part_of, shard_of_event, IsSameShard, IsBacked, BackedStarts, BackedEnds, BackedTerminators}
+use Rattle.builder_model.specs.Laws.{KeptIsBacked, OwnShardStaysBacked, OtherShardsStay, OtherShardsStayBacked}
+use Rattle.builder_model.proofs.StateGrowth.{false_true, no_waiter, no_told, changed_apart}
+use Rattle.cfg_model.proofs.Program.MapFacts.{none_is_some}
+use Rattle.builder_model.proofs.EndGrowth.{StandsIn, none_stand, settled_apart}
+use Rattle.cfg_model.proofs.Program.MapFacts.{tied_equal, same_or_other, get_apart}
 use Rattle.split_laws.proofs.FactLaws.{facts_last, parsed_more, terminator_more, stop_more, wait_more, done_more, told_more}
 use Rattle.status_laws.proofs.KeptLaws.{events_keep_kept}
 

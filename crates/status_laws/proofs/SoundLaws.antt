@@ -1,35 +1,36 @@
 -- A kept state is sound, and what holds of a sound state is true of the program.
 use Rattle.std.proofs.Common.{◌≡◌, ℕ, List, false, refl, sym, ap, subst}
 use Rattle.std.specs.Prelude.{◌⊎◌, Option, Some, None, IsSome, IsTrue, is_some}
-use Rattle.cfg_model.specs.declared.state.Waiter.{Waiter}
+use Rattle.builder_model.specs.declared.state.Waiter.{Waiter}
 use Rattle.std.specs.Option.{option_map, option_map_or}
 use mathlib.Core.Logic.{inl, inr}
 use Rattle.std.specs.FinMap as maps
 use Rattle.cfg_model.specs.declared.flow.Flow.{Flow}
-use Rattle.cfg_model.specs.declared.state.WaitKind.{WaitKind}
-use Rattle.cfg_model.specs.declared.state.WaitKind.TheVariants.{Follow, Release}
+use Rattle.builder_model.specs.declared.state.WaitKind.{WaitKind}
+use Rattle.builder_model.specs.declared.state.WaitKind.TheVariants.{Follow, Release}
 use Rattle.cfg_model.specs.Program.Instructions.{InstructionMap, Instruction, flow_at}
 use Rattle.cfg_model.specs.Program.Chain.{EndsChain}
 use Rattle.cfg_model.specs.Program.Status.{Returns}
 use Rattle.cfg_model.specs.Graph.Leader.{IsLeader, StartsBlock}
 use Rattle.cfg_model.specs.Program.Meeting.{IsStop}
-use Rattle.cfg_model.specs.Builder.State.{BuilderState, EndMap, EndEntry, TerminatorMap, TerminatorEntry, IsNear, IsEntered, IsReturned, WaitsAt}
-use Rattle.cfg_model.specs.Builder.Fact.{Fact, Holds, IsReachedTerminator, IsSoundWait, IsSoundFact}
-use Rattle.cfg_model.specs.Builder.Reason.{EndReturns, EndsAStart, WantReason, ReturnedReason}
-use Rattle.cfg_model.specs.Builder.Kept.{IsKept}
-use Rattle.cfg_model.specs.Builder.Sound.{IsSound, SoundEnds, SoundTerminators}
-use Rattle.cfg_model.specs.Builder.Laws.{KeptIsSound, SoundFactsHold, EventsKeepSound}
+use Rattle.builder_model.specs.State.{BuilderState, EndMap, EndEntry, TerminatorMap, TerminatorEntry, IsNear, IsEntered, IsReturned, WaitsAt}
+use Rattle.builder_model.specs.Fact.{Fact, Holds, IsSoundWait, IsSoundFact}
+use Rattle.builder_model.specs.Reason.{EndReturns, EndsAStart, WantReason, ReturnedReason}
+use Rattle.builder_model.specs.Kept.{IsKept}
+use Rattle.builder_model.specs.Sound.{IsSound, SoundEnds, SoundTerminators}
+use Rattle.builder_model.specs.Laws.{KeptIsSound, SoundFactsHold, EventsKeepSound}
 use Rattle.cfg_model.proofs.Program.ChainFacts.{chain_on}
-use Rattle.cfg_model.proofs.Builder.StateReads.{near_here}
-use Rattle.cfg_model.proofs.Builder.StateGrowth.{false_true, none_is_some, no_waiter}
+use Rattle.builder_model.proofs.StateReads.{near_here}
+use Rattle.builder_model.proofs.StateGrowth.{false_true, no_waiter}
+use Rattle.cfg_model.proofs.Program.MapFacts.{none_is_some}
 use Rattle.cfg_model.proofs.Program.Along.{returns_along}
-use Rattle.cfg_model.proofs.Builder.EntryChanges.{changed_from, entered_from}
+use Rattle.builder_model.proofs.EntryChanges.{changed_from, entered_from}
 use Rattle.status_laws.proofs.StatusLaws.{waiter_waits_by, told_waits}
 use Rattle.cfg_model.proofs.Graphs.LeaderFacts.{reached_along, target_leads}
-use Rattle.cfg_model.specs.Builder.Event.{Event, with_terminator, with_changed, with_settled, entry_with_waiter, entry_with_told, entry_with_return, entry_with_done}
-use Rattle.cfg_model.specs.Program.Reach.{Reached}
-use Rattle.cfg_model.specs.Builder.Waiter.{follower}
-use Rattle.cfg_model.specs.Builder.Waits.{DependsAs, FollowsFrom}
+use Rattle.builder_model.specs.Event.{Event, with_terminator, with_changed, with_settled, entry_with_waiter, entry_with_told, entry_with_return, entry_with_done}
+use Rattle.cfg_model.specs.Program.Reach.{Reached, IsReachedTerminator}
+use Rattle.builder_model.specs.Waiter.{follower}
+use Rattle.builder_model.specs.Waits.{DependsAs, FollowsFrom}
 use Rattle.split_laws.proofs.FactLaws.{depends_more}
 use Rattle.split_laws.proofs.BlockLaws.{start_from, parsed_start_from, changed_entered}
 use Rattle.split_laws.proofs.ArrivalFacts.{EndsKept, EndsBack, arrival_back, settled_near, settled_moved, settled_stands}

@@ -4,20 +4,20 @@ use Rattle.std.specs.Prelude.{◌⊎◌, Option, Some, IsSome, IsTrue, if◌then
 use Rattle.std.specs.Option.{option_map_or}
 use Rattle.std.specs.FinMap as maps
 use mathlib.Core.Logic.{inl, inr}
-use Rattle.cfg_model.specs.declared.state.Waiter.{Waiter}
+use Rattle.builder_model.specs.declared.state.Waiter.{Waiter}
 use Rattle.cfg_model.specs.Program.Instructions.{InstructionMap}
 use Rattle.cfg_model.specs.Program.Status.{Returns}
-use Rattle.cfg_model.specs.Builder.Waiter.{follower}
-use Rattle.cfg_model.specs.Builder.Waits.{FollowsFrom}
-use Rattle.cfg_model.specs.Builder.State.{BuilderState, TerminatorMap, TerminatorEntry, IsReturned, IsDone, WaitsAt, IsTold}
-use Rattle.cfg_model.specs.Builder.Event.{Event, Steps, with_terminator, with_changed, new_entry, entry_with_waiter, entry_with_told, entry_with_return, entry_with_done}
-use Rattle.cfg_model.specs.Builder.Fact.{Fact, Holds}
-use Rattle.cfg_model.specs.Builder.Reason.{May, EndReturns, ReturnedReason, WaitReason, DoneReason, ToldReason}
-use Rattle.cfg_model.specs.Builder.Laws.{EventsKeepStatus}
-use Rattle.cfg_model.specs.Builder.Kept.{KeepsStatus, ReturnedReturn, WaitsHold}
-use Rattle.cfg_model.proofs.Builder.StateGrowth.{same_waiter, waiter_here, waiter_apart, false_true, no_waiter, no_told}
+use Rattle.builder_model.specs.Waiter.{follower}
+use Rattle.builder_model.specs.Waits.{FollowsFrom}
+use Rattle.builder_model.specs.State.{BuilderState, TerminatorMap, TerminatorEntry, IsReturned, IsDone, WaitsAt, IsTold}
+use Rattle.builder_model.specs.Event.{Event, Steps, with_terminator, with_changed, new_entry, entry_with_waiter, entry_with_told, entry_with_return, entry_with_done}
+use Rattle.builder_model.specs.Fact.{Fact, Holds}
+use Rattle.builder_model.specs.Reason.{May, EndReturns, ReturnedReason, WaitReason, DoneReason, ToldReason}
+use Rattle.builder_model.specs.Laws.{EventsKeepStatus}
+use Rattle.builder_model.specs.Kept.{KeepsStatus, ReturnedReturn, WaitsHold}
+use Rattle.builder_model.proofs.StateGrowth.{same_waiter, waiter_here, waiter_apart, false_true, no_waiter, no_told}
 use Rattle.cfg_model.proofs.Program.Along.{returns_along}
-use Rattle.cfg_model.proofs.Builder.EntryChanges.{changed_from, entered_from}
+use Rattle.builder_model.proofs.EntryChanges.{changed_from, entered_from}
 use Rattle.split_laws.proofs.FactLaws.{facts_last, wait_more, done_more, told_more}
 
 -- what a reason to be marked as returning brings: the terminator returns

@@ -3,14 +3,14 @@
 //! contract of a function that does nothing. It holds for every lawful program and all seeds.
 #![tactic(auto)]
 
-ghost use Rattle.cfg_model.specs.Builder.Laws.{EventsKeepStatus, FactsLast, ReasonsLast};
-ghost use Rattle.cfg_model.specs.Builder.Laws.{AllowedStaysAllowed, OwnShardStaysBacked};
-ghost use Rattle.cfg_model.specs.Builder.Laws.{OtherShardsStay, OtherShardsStayBacked};
-ghost use Rattle.cfg_model.specs.Builder.Laws.{KeptIsBacked, StepsStayInShard, PartsAreShown};
-ghost use Rattle.cfg_model.specs.Builder.Laws.{FactsReadBack, ReasonsGrow, ClosedShowsGraph};
-ghost use Rattle.cfg_model.specs.Builder.Laws.{EmptyIsKept, EventsKeepKept, EventsBringFacts};
-ghost use Rattle.cfg_model.specs.Builder.Laws.{StandingIsKnown, KeptIsSound, SoundFactsHold};
-ghost use Rattle.cfg_model.specs.Builder.Laws.{EventsKeepSound, Confluence, OrdersAgree};
+ghost use Rattle.builder_model.specs.Laws.{EventsKeepStatus, FactsLast, ReasonsLast};
+ghost use Rattle.builder_model.specs.Laws.{AllowedStaysAllowed, OwnShardStaysBacked};
+ghost use Rattle.builder_model.specs.Laws.{OtherShardsStay, OtherShardsStayBacked};
+ghost use Rattle.builder_model.specs.Laws.{KeptIsBacked, StepsStayInShard, PartsAreShown};
+ghost use Rattle.builder_model.specs.Laws.{FactsReadBack, ReasonsGrow, ClosedShowsGraph};
+ghost use Rattle.builder_model.specs.Laws.{EmptyIsKept, EventsKeepKept, EventsBringFacts};
+ghost use Rattle.builder_model.specs.Laws.{StandingIsKnown, KeptIsSound, SoundFactsHold};
+ghost use Rattle.builder_model.specs.Laws.{EventsKeepSound, Confluence, OrdersAgree};
 
 /// Each allowed event keeps what the invariant says of return status. What is marked as returning
 /// returns. Waits, terminators that are dealt with and waiters that were told still have the reason

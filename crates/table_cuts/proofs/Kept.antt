@@ -12,7 +12,7 @@ use borrow.Author.Count.{below_more}
 use Rattle.jump_table.specs.declared.table.Table.{Table}
 use Rattle.jump_table.specs.Table.{table_at}
 use Rattle.cfg_model.specs.Program.Cuts.{Extent, IsBaseInside, IsCutTo, AreCuts, kept_before}
-use Rattle.cfg_model.proofs.Builder.MapFacts.{same_or_other, get_here, get_apart}
+use Rattle.cfg_model.proofs.Program.MapFacts.{same_or_other, get_here, get_apart}
 use Rattle.code_view.specs.Cuts.{Counts, cut_of, CutsFit}
 use Rattle.table_cuts.specs.Extents.{extent_of, extent_at}
 use Rattle.code_view.specs.declared.table_jump.TableJump.{TableJump}

@@ -4,8 +4,8 @@ use Rattle.std.specs.Prelude.{Option, Some, None}
 use Rattle.std.specs.Option.{option_eq}
 use Rattle.std.proofs.lemmas.Bool.{eqb-true}
 use Rattle.cfg_model.specs.Program.Chain.{OnChain}
-use Rattle.cfg_model.specs.Builder.State.{EndMap, IsNear, near_at}
-use Rattle.cfg_model.proofs.Builder.StateReads.{one_value}
+use Rattle.builder_model.specs.State.{EndMap, IsNear, near_at}
+use Rattle.builder_model.proofs.StateReads.{one_value}
 use Rattle.test_graph.specs.StateRow.{row_23}
 
 pub from_0 : OnChain row_23 0x10000 0x10004

@@ -2,7 +2,7 @@
 
 ghost use Rattle.std.specs.Prelude.{IfOk};
 ghost use Rattle.cfg_model.specs.Program.Reach.{AreSeeds};
-ghost use Rattle.cfg_model.specs.Builder.Kept.{IsClosed};
+ghost use Rattle.builder_model.specs.Kept.{IsClosed};
 
 use cfg_model::Chains;
 use core_state::{Memory, State};

@@ -2,7 +2,7 @@
 //! those that are made without a state.
 
 ghost use Rattle.std.specs.Prelude.{◌≤◌, ℕ, List, IsSome};
-ghost use Rattle.cfg_model.specs.Builder.Kept.{IsClosed};
+ghost use Rattle.builder_model.specs.Kept.{IsClosed};
 ghost use Rattle.reached_terms.specs.Reached.{AreReachedTerms};
 
 use crate::asserts::same;

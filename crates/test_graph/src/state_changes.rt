@@ -2,7 +2,7 @@
 
 use crate::asserts::{holds, same};
 use crate::state_program::{Program, assert_entered, assert_near, assert_no_end, assert_start};
-use cfg_model::{Mark, WaitKind, Waiter};
+use builder_model::{Mark, WaitKind, Waiter};
 use core_state::{Arrival, Ends, Name, Starts, State, Terms, WorkKind};
 use std::alloc::Global;
 use std::marker::Send;

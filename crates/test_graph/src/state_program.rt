@@ -4,7 +4,7 @@
 ghost use Rattle.std.specs.Prelude.{◌≡◌, Some, None};
 ghost use Rattle.std.specs.Option.{option_map};
 ghost use Rattle.cfg_model.specs.Program.Instructions.{IsLawful};
-ghost use Rattle.cfg_model.specs.Builder.State.{IsStart, IsEntered, near_at};
+ghost use Rattle.builder_model.specs.State.{IsStart, IsEntered, near_at};
 ghost use Rattle.test_graph.specs.StateRow.{row_23};
 
 use cfg_model::{Chains, Flow, Memory};

@@ -1,10 +1,10 @@
 //! Waiters of one terminator, few and many: each is told once, in their order.
 
 ghost use Rattle.std.specs.Prelude.{◌<◌};
-ghost use Rattle.cfg_model.specs.Builder.State.{IsEntered};
+ghost use Rattle.builder_model.specs.State.{IsEntered};
 
 use crate::asserts::same;
-use cfg_model::{WaitKind, Waiter};
+use builder_model::{WaitKind, Waiter};
 use core_state::Terms;
 use std::alloc::Global;
 use std::process::Abort;

@@ -5,7 +5,7 @@ ghost use Rattle.test_graph.specs.StateRow.{row_23};
 
 use crate::asserts::same;
 use crate::state_program::{Program, assert_entered, assert_near, assert_no_end, assert_start};
-use cfg_model::{WaitKind, Waiter};
+use builder_model::{WaitKind, Waiter};
 use core_state::{Name, State, WorkKind};
 use std::alloc::Global;
 use std::process::Abort;

@@ -4,15 +4,15 @@ use Rattle.std.specs.Prelude.{Option, Some, None, IsSome, IsTrue, is_some}
 use Rattle.std.specs.Option.{option_map, option_map_or}
 use mathlib.Core.Logic.{inr}
 use Rattle.std.specs.FinMap as maps
-use Rattle.cfg_model.specs.declared.state.Mark.TheVariants.{Wanted, Parsed}
-use Rattle.cfg_model.specs.declared.state.Waiter.{Waiter}
+use Rattle.builder_model.specs.declared.state.Mark.TheVariants.{Wanted, Parsed}
+use Rattle.builder_model.specs.declared.state.Waiter.{Waiter}
 use Rattle.cfg_model.specs.Program.Instructions.{InstructionMap, Instruction, IsLawful}
 use Rattle.cfg_model.specs.Program.Chain.{EndsChain}
 use Rattle.cfg_model.specs.Program.Reach.{AreSeeds}
-use Rattle.cfg_model.specs.Builder.State.{BuilderState, TerminatorMap, TerminatorEntry, IsStart, IsMoved, IsDone, IsReturned, IsUntold, IsTold, WaitsAt}
-use Rattle.cfg_model.specs.Builder.Fact.{Fact, Holds}
-use Rattle.cfg_model.specs.Builder.Kept.{IsKept}
-use Rattle.cfg_model.specs.Builder.Left.{Work, IsLeft}
+use Rattle.builder_model.specs.State.{BuilderState, TerminatorMap, TerminatorEntry, IsStart, IsMoved, IsDone, IsReturned, IsUntold, IsTold, WaitsAt}
+use Rattle.builder_model.specs.Fact.{Fact, Holds}
+use Rattle.builder_model.specs.Kept.{IsKept}
+use Rattle.builder_model.specs.Left.{Work, IsLeft}
 use Rattle.core_state.specs.Least.{IsLeast}
 use Rattle.core_state.specs.Reads.{done_at, IsNextToTell}
 use Rattle.core_state.specs.Place.{WhereTold}

@@ -7,10 +7,10 @@ use mathlib.Core.Logic.{inl, inr}
 use Rattle.std.proofs.lemmas.Bool.{eq-eqb, ne_eqb}
 use Rattle.cfg_model.specs.Program.Instructions.{InstructionMap}
 use Rattle.cfg_model.specs.Program.Chain.{OnChain}
-use Rattle.cfg_model.specs.Builder.State.{BuilderState, EndMap, EndEntry, IsNear, IsMoved}
-use Rattle.cfg_model.specs.Builder.Event.{Event, Steps, Arrives, ArrivesAt, with_settled}
-use Rattle.cfg_model.proofs.Builder.MapFacts.{get_here}
-use Rattle.cfg_model.proofs.Builder.StateReads.{near_is}
+use Rattle.builder_model.specs.State.{BuilderState, EndMap, EndEntry, IsNear, IsMoved}
+use Rattle.builder_model.specs.Event.{Event, Steps, Arrives, ArrivesAt, with_settled}
+use Rattle.cfg_model.proofs.Program.MapFacts.{get_here}
+use Rattle.builder_model.proofs.StateReads.{near_is}
 use Rattle.core_state.specs.declared.answer.Arrival.{Arrival}
 use Rattle.core_state.specs.declared.answer.Arrival.TheVariants.{Same, Split}
 use Rattle.core_state.specs.Answer.{arrival_of, split_into}

@@ -1,11 +1,11 @@
 -- Work that is left in a kept state may be done.
 use Rattle.std.proofs.Common.{ℕ, List}
 use Rattle.cfg_model.specs.Program.Instructions.{InstructionMap}
-use Rattle.cfg_model.specs.Builder.State.{BuilderState}
-use Rattle.cfg_model.specs.Builder.Fact.{Holds}
-use Rattle.cfg_model.specs.Builder.Left.{Work, IsLeft}
-use Rattle.cfg_model.specs.Builder.Reason.{WantReason}
-use Rattle.cfg_model.specs.Builder.Kept.{IsKept}
+use Rattle.builder_model.specs.State.{BuilderState}
+use Rattle.builder_model.specs.Fact.{Holds}
+use Rattle.builder_model.specs.Left.{Work, IsLeft}
+use Rattle.builder_model.specs.Reason.{WantReason}
+use Rattle.builder_model.specs.Kept.{IsKept}
 use Rattle.status_laws.proofs.BroughtLaws.{standing_is_known}
 
 module _ (map : InstructionMap) (seeds : List ℕ) (state : BuilderState) (kept : IsKept map seeds state) where

@@ -9,18 +9,18 @@ use Rattle.std.specs.FinMap as maps
 use Rattle.std.specs.FinSet as sets
 use Rattle.std.proofs.lemmas.Bool.{eq-eqb, ne_eqb}
 use Rattle.std.proofs.Math.Nat.{mul-le-mul_left, mul-le-mul_right, pow-le-pow_right, one-le-pow, pow-succ'}
-use Rattle.cfg_model.specs.declared.state.Mark.{Mark}
-use Rattle.cfg_model.specs.declared.state.Mark.TheVariants.{Wanted, Parsed}
-use Rattle.cfg_model.specs.declared.state.WaitKind.{WaitKind}
-use Rattle.cfg_model.specs.declared.state.WaitKind.TheVariants.{Follow, Release}
-use Rattle.cfg_model.specs.declared.state.Waiter.{Waiter}
+use Rattle.builder_model.specs.declared.state.Mark.{Mark}
+use Rattle.builder_model.specs.declared.state.Mark.TheVariants.{Wanted, Parsed}
+use Rattle.builder_model.specs.declared.state.WaitKind.{WaitKind}
+use Rattle.builder_model.specs.declared.state.WaitKind.TheVariants.{Follow, Release}
+use Rattle.builder_model.specs.declared.state.Waiter.{Waiter}
 use Rattle.cfg_model.specs.Program.Instructions.{InstructionMap}
-use Rattle.cfg_model.specs.Builder.Waiter.{follower, released}
-use Rattle.cfg_model.specs.Builder.State.{BuilderState, EndMap, EndEntry, IsMoved, moved_at, waiters_at}
-use Rattle.cfg_model.specs.Builder.Event.{Arrives, ArrivesAt, with_displaced, with_settled}
-use Rattle.cfg_model.specs.Builder.Fact.{Fact, Holds}
-use Rattle.cfg_model.proofs.Builder.MapFacts.{get_here, get_apart}
-use Rattle.cfg_model.proofs.Builder.EndGrowth.{settled_here, settled_apart}
+use Rattle.builder_model.specs.Waiter.{follower, released}
+use Rattle.builder_model.specs.State.{BuilderState, EndMap, EndEntry, IsMoved, moved_at, waiters_at}
+use Rattle.builder_model.specs.Event.{Arrives, ArrivesAt, with_displaced, with_settled}
+use Rattle.builder_model.specs.Fact.{Fact, Holds}
+use Rattle.cfg_model.proofs.Program.MapFacts.{get_here, get_apart}
+use Rattle.builder_model.proofs.EndGrowth.{settled_here, settled_apart}
 use Rattle.work_ops.specs.Going.{MovesBefore}
 use Rattle.work_ops.specs.inner.Measure.{start_left, done_left, told_left, waiting_left, unknown_at, unknown, displaced, to_move, most_to_move, work_left}
 use Rattle.work_ops.proofs.Sums.{sum_le, sum_up, sum_down, sum_ones, digits}

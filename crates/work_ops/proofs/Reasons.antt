@@ -7,16 +7,16 @@ use Rattle.std.proofs.lemmas.Option.{slice_get_within, get_or_from_slice_get, sl
 use Rattle.std.proofs.lemmas.List.Elements.{All-contains, Contains-append_left, Contains-append_right, Contains-append_cases}
 use Rattle.cfg_model.specs.declared.flow.Flow.{Flow}
 use Rattle.cfg_model.specs.declared.flow.Flow.TheVariants.{Straight, Branch, Jump, Call, IndirectCall, Table, Return, Unknown, Stop}
-use Rattle.cfg_model.specs.declared.state.Waiter.{Waiter}
+use Rattle.builder_model.specs.declared.state.Waiter.{Waiter}
 use Rattle.cfg_model.specs.Program.Instructions.{InstructionMap, IsLawful, flow_at, targets_at}
 use Rattle.cfg_model.specs.Program.Chain.{OnChain, GoesOnTo, IsTerminator, IsTerminatorOf, EndsChain}
-use Rattle.cfg_model.specs.Program.Successors.{IsSuccessor, IsCall, ReturnsByItself, successors_by, successors_of_flow}
-use Rattle.cfg_model.specs.Program.Reach.{AreSeeds, Reached}
+use Rattle.cfg_model.specs.Program.Successors.{IsSuccessor, IsCall, ReturnsByItself, successors_by, successors_of_flow, IsTarget}
+use Rattle.cfg_model.specs.Program.Reach.{AreSeeds, Reached, IsReachedTerminator}
 use Rattle.cfg_model.specs.Graph.Leader.{IsLeader}
-use Rattle.cfg_model.specs.Builder.Waiter.{follower, released}
-use Rattle.cfg_model.specs.Builder.Waits.{FollowsFrom, IsTarget, IsWait}
-use Rattle.cfg_model.specs.Builder.Fact.{Fact, IsReachedTerminator}
-use Rattle.cfg_model.specs.Builder.Reason.{SettleReason, ArriveReason, WaitReason, DoneReason}
+use Rattle.builder_model.specs.Waiter.{follower, released}
+use Rattle.builder_model.specs.Waits.{FollowsFrom, IsWait}
+use Rattle.builder_model.specs.Fact.{Fact}
+use Rattle.builder_model.specs.Reason.{SettleReason, ArriveReason, WaitReason, DoneReason}
 use Rattle.cfg_model.proofs.Program.Known.{successor_known, target_known, fall_known, successor_from_flow, successor_to_flow}
 use Rattle.cfg_model.proofs.Program.Listed.{none_in, in_cases, head_in}
 use Rattle.cfg_model.proofs.Program.ChainFacts.{chain_up, goes_up}

@@ -3,7 +3,7 @@ use Rattle.std.proofs.Common.{ℕ, ◌<◌, ◌≤◌, subst, arith}
 use mathlib.Core.Logic.{inl, inr}
 use Rattle.cfg_model.specs.Program.Instructions.{InstructionMap, IsLawful}
 use Rattle.cfg_model.specs.Program.Chain.{OnChain, IsTerminatorOf}
-use Rattle.cfg_model.specs.Builder.Fact.{Fact}
+use Rattle.builder_model.specs.Fact.{Fact}
 use Rattle.cfg_model.proofs.Program.ChainEnds.{end_from}
 use Rattle.cfg_model.proofs.Program.ChainFacts.{chain_on, chain_up, goes_up}
 use Rattle.cfg_model.proofs.Graphs.LeaderFacts.{chain_linear}

@@ -7,12 +7,12 @@ use Rattle.std.specs.Cmp.{nat_cmp_total, unsigned_tied}
 use Rattle.std.specs.FinMap as maps
 use Rattle.std.specs.FinSet as sets
 use Rattle.std.proofs.lemmas.Bool.{eq-eqb}
-use Rattle.cfg_model.specs.declared.state.Waiter.{Waiter}
+use Rattle.builder_model.specs.declared.state.Waiter.{Waiter}
 use Rattle.cfg_model.specs.Program.Instructions.{InstructionMap}
 use Rattle.cfg_model.specs.Program.Chain.{OnChain}
-use Rattle.cfg_model.specs.Builder.State.{BuilderState, EndMap, EndEntry, IsMoved, IsTold, near_at}
-use Rattle.cfg_model.specs.Builder.Event.{Event, with_settled}
-use Rattle.cfg_model.proofs.Builder.EndGrowth.{settled_here}
+use Rattle.builder_model.specs.State.{BuilderState, EndMap, EndEntry, IsMoved, IsTold, near_at}
+use Rattle.builder_model.specs.Event.{Event, with_settled}
+use Rattle.builder_model.proofs.EndGrowth.{settled_here}
 use Rattle.core_state.specs.Least.{IsLeast}
 use Rattle.core_state.specs.Reads.{IsNextToTell}
 use Rattle.core_state.specs.Place.{AreKept, WhereTold, Makes}

@@ -3,8 +3,8 @@ use Rattle.std.specs.Prelude.{ℕ, Option, Some}
 use Rattle.cfg_model.specs.Program.Instructions.{InstructionMap}
 use Rattle.cfg_model.specs.Program.Chain.{IsTerminatorOf}
 use Rattle.cfg_model.specs.Program.Successors.{IsSuccessor, IsCall}
-use Rattle.cfg_model.specs.Builder.Waiter.{follower, released}
-use Rattle.cfg_model.specs.Builder.Fact.{Fact}
+use Rattle.builder_model.specs.Waiter.{follower, released}
+use Rattle.builder_model.specs.Fact.{Fact}
 
 -- The way from the terminator k to this address was followed: it is a start, and k waits at the end
 -- of its chain.

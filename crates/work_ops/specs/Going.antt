@@ -1,13 +1,13 @@
 -- What an operation makes of the place that it works on.
 use Rattle.std.specs.Prelude.{◌≡◌, ℕ, ◌<◌, ◌≤◌, List, Option, Some, MatchOption}
 use Rattle.std.specs.Option.{ForSome}
-use Rattle.cfg_model.specs.declared.state.Waiter.{Waiter}
+use Rattle.builder_model.specs.declared.state.Waiter.{Waiter}
 use Rattle.cfg_model.specs.Program.Instructions.{InstructionMap}
-use Rattle.cfg_model.specs.Builder.State.{BuilderState, EndMap, IsStart, IsNear, IsMoved, IsTold}
+use Rattle.builder_model.specs.State.{BuilderState, EndMap, IsStart, IsNear, IsMoved, IsTold}
 use Rattle.cfg_model.specs.Program.Chain.{OnChain}
-use Rattle.cfg_model.specs.Builder.Event.{Event, ArrivesAt, with_settled}
-use Rattle.cfg_model.specs.Builder.Fact.{Fact}
-use Rattle.cfg_model.specs.Builder.Run.{IsRun}
+use Rattle.builder_model.specs.Event.{Event, ArrivesAt, with_settled}
+use Rattle.builder_model.specs.Fact.{Fact}
+use Rattle.builder_model.specs.Run.{IsRun}
 use Rattle.core_state.specs.declared.answer.PlaceEnd.{PlaceEnd}
 use Rattle.core_state.specs.declared.answer.PlaceEnd.TheVariants.{Busy, Memory}
 use Rattle.core_state.specs.Least.{IsLeast}

@@ -2,9 +2,9 @@
 
 ghost use Rattle.std.specs.Prelude.{◌≡◌, IfErr, OnOk};
 ghost use Rattle.cfg_model.specs.Program.Reach.{AreSeeds};
-ghost use Rattle.cfg_model.specs.Builder.Fact.{Holds};
-ghost use Rattle.cfg_model.specs.Builder.Kept.{IsKept, IsClosed};
-ghost use Rattle.cfg_model.specs.Builder.Left.{HasNothingLeft};
+ghost use Rattle.builder_model.specs.Fact.{Holds};
+ghost use Rattle.builder_model.specs.Kept.{IsKept, IsClosed};
+ghost use Rattle.builder_model.specs.Left.{HasNothingLeft};
 ghost use Rattle.core_state.specs.Place.{Remembers};
 ghost use Rattle.work_ops.specs.inner.Working.{Continues, RanOut};
 

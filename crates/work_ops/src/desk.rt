@@ -1,6 +1,7 @@
 //! A state, with a list of the work that its changes made.
 
-use cfg_model::{Chains, Waiter};
+use builder_model::Waiter;
+use cfg_model::Chains;
 use core_state::{Arrival, Job, Name, Place, PlaceEnd, State};
 
 /// A whole state, and the work items that were found. The list may lack work that is left, and may
@@ -16,8 +17,8 @@ pub(crate) struct Desk {
 /// The state goes through all changes and reads, and work that is found goes on the list.
 impl<J: Job> Place<J> for Desk {
     ghost use Rattle.std.specs.Prelude.{Some};
-    ghost use Rattle.cfg_model.specs.Builder.Fact.{Holds};
-    ghost use Rattle.cfg_model.specs.Builder.State.{BuilderState};
+    ghost use Rattle.builder_model.specs.Fact.{Holds};
+    ghost use Rattle.builder_model.specs.State.{BuilderState};
     ghost use Rattle.std.proofs.Common.{refl, sym, subst};
     ghost use Rattle.std.proofs.lemmas.Option.{same_Some};
     ghost use Rattle.status_laws.proofs.SoundLaws.{kept_is_sound, sound_facts_hold};

@@ -6,14 +6,15 @@ ghost use Rattle.cfg_model.specs.Program.Instructions.{IsLawful, flow_at, target
 ghost use Rattle.cfg_model.specs.Program.Successors.{IsSuccessor, IsCall, MayLand};
 ghost use Rattle.cfg_model.specs.Program.Successors.{LeavesFunction, ReturnsByItself};
 ghost use Rattle.cfg_model.specs.Program.Reach.{AreSeeds};
-ghost use Rattle.cfg_model.specs.Builder.Fact.{Fact};
+ghost use Rattle.builder_model.specs.Fact.{Fact};
 ghost use Rattle.core_state.specs.Place.{AreKept, Remembers};
 ghost use Rattle.work_ops.specs.Going.{Runs, RoseIfBusy, Went};
 ghost use Rattle.work_ops.specs.Done.{IsFollowed, AreFollowed, IsCalled};
 
 use crate::code::{ask, end_of, flow_of, pad_of, targets_of};
 use crate::parts::{enter, note_return, place_wait, start};
-use cfg_model::{Chains, Flow, WaitKind, Waiter};
+use builder_model::{WaitKind, Waiter};
+use cfg_model::{Chains, Flow};
 use core_state::{Job, Place, PlaceEnd};
 
 /// Follows the edges of the terminator `k`. Its targets are made starts. It waits at each

@@ -4,9 +4,9 @@ ghost use Rattle.std.specs.Prelude.{◌≡◌, ◌≢◌, ◌≤◌, OnOk, IfErr
 ghost use Rattle.cfg_model.specs.Program.Instructions.{IsLawful};
 ghost use Rattle.cfg_model.specs.Program.Chain.{OnChain, GoesOnTo};
 ghost use Rattle.cfg_model.specs.Program.Reach.{AreSeeds};
-ghost use Rattle.cfg_model.specs.Builder.Event.{with_settled};
-ghost use Rattle.cfg_model.specs.Builder.Fact.{Fact};
-ghost use Rattle.cfg_model.specs.Builder.Reason.{SettleReason};
+ghost use Rattle.builder_model.specs.Event.{with_settled};
+ghost use Rattle.builder_model.specs.Fact.{Fact};
+ghost use Rattle.builder_model.specs.Reason.{SettleReason};
 ghost use Rattle.core_state.specs.Place.{AreKept, WhereTold, Remembers};
 ghost use Rattle.work_ops.specs.Going.{Runs, RoseIfBusy, Went, PlacesFirst};
 ghost use Rattle.work_ops.specs.Going.{MovesFirst, MovesStart, IsMovedNoMore};

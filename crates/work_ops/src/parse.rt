@@ -4,7 +4,7 @@ ghost use Rattle.std.specs.Prelude.{◌≡◌, ℕ, ◌≤◌, OnOk, IfErr};
 ghost use Rattle.cfg_model.specs.Program.Instructions.{IsLawful};
 ghost use Rattle.cfg_model.specs.Program.Chain.{OnChain, IsTerminatorOf};
 ghost use Rattle.cfg_model.specs.Program.Reach.{AreSeeds};
-ghost use Rattle.cfg_model.specs.Builder.Fact.{Fact};
+ghost use Rattle.builder_model.specs.Fact.{Fact};
 ghost use Rattle.core_state.specs.Place.{AreKept, WhereTold, Remembers};
 ghost use Rattle.work_ops.specs.Going.{Runs, RoseIfBusy, Went, ArrivesOnce, SameEnds};
 

@@ -6,13 +6,14 @@
 ghost use Rattle.std.specs.Prelude.{◌≡◌, ◌≤◌, OnOk, IfErr};
 ghost use Rattle.std.specs.Option.{ForSome};
 ghost use Rattle.cfg_model.specs.Program.Instructions.{IsLawful};
-ghost use Rattle.cfg_model.specs.Builder.Event.{Event, ArrivesAt};
-ghost use Rattle.cfg_model.specs.Builder.Fact.{Fact};
-ghost use Rattle.cfg_model.specs.Builder.Reason.{Reason};
+ghost use Rattle.builder_model.specs.Event.{Event, ArrivesAt};
+ghost use Rattle.builder_model.specs.Fact.{Fact};
+ghost use Rattle.builder_model.specs.Reason.{Reason};
 ghost use Rattle.core_state.specs.Place.{AreKept, WhereTold};
 ghost use Rattle.work_ops.specs.Going.{Went, RoseIfBusy, NearIsStart, SameEnds};
 
-use cfg_model::{Chains, Waiter};
+use builder_model::Waiter;
+use cfg_model::Chains;
 use core_state::{Arrival, Job, Name, Place, PlaceEnd, WorkKind};
 
 /// Passes on work, if it is new.

@@ -3,16 +3,17 @@
 ghost use Rattle.std.specs.Prelude.{◌≡◌, ◌≤◌, OnOk, IfErr, Some};
 ghost use Rattle.cfg_model.specs.Program.Instructions.{IsLawful};
 ghost use Rattle.cfg_model.specs.Program.Reach.{AreSeeds};
-ghost use Rattle.cfg_model.specs.Builder.Fact.{Fact};
-ghost use Rattle.cfg_model.specs.Builder.Reason.{EffectStands, IsReleased};
-ghost use Rattle.cfg_model.specs.Builder.Waiter.{released};
+ghost use Rattle.builder_model.specs.Fact.{Fact};
+ghost use Rattle.builder_model.specs.Reason.{EffectStands, IsReleased};
+ghost use Rattle.builder_model.specs.Waiter.{released};
 ghost use Rattle.core_state.specs.Place.{AreKept, WhereTold, Remembers};
 ghost use Rattle.work_ops.specs.Going.{Runs, RoseIfBusy, Went, TellsNext};
 ghost use Rattle.work_ops.specs.Done.{IsFreed};
 
 use crate::code::{ask, end_of, flow_of};
 use crate::parts::{enter, note_return, pass_on, place_wait, start};
-use cfg_model::{Chains, Flow, WaitKind, Waiter};
+use builder_model::{WaitKind, Waiter};
+use cfg_model::{Chains, Flow};
 use core_state::{Job, Place, PlaceEnd, WorkKind};
 
 /// Gives one untold waiter of the returning terminator `k` what it waits for, and notes that it was

@@ -6,7 +6,7 @@
 ghost use Rattle.std.specs.Prelude.{◌≡◌, ◌≤◌, IfErr, IfOk, IfSome, IsSome};
 ghost use Rattle.cfg_model.specs.Program.Chain.{IsTerminatorOf, OnChain};
 ghost use Rattle.cfg_model.specs.Program.Instructions.{IsLawful};
-ghost use Rattle.cfg_model.specs.Builder.Fact.{Fact};
+ghost use Rattle.builder_model.specs.Fact.{Fact};
 ghost use Rattle.core_state.specs.Place.{AreKept};
 ghost use Rattle.work_ops.specs.Going.{RoseIfBusy, Went};
 ghost use Rattle.work_ops.specs.inner.Walking.{IsBeforeStart, IsStopTo};

@@ -2,8 +2,8 @@
 
 ghost use Rattle.std.specs.Prelude.{◌≡◌, ◌≤◌, OnOk, IfErr};
 ghost use Rattle.cfg_model.specs.Program.Reach.{AreSeeds};
-ghost use Rattle.cfg_model.specs.Builder.Fact.{Fact};
-ghost use Rattle.cfg_model.specs.Builder.Reason.{WantReason};
+ghost use Rattle.builder_model.specs.Fact.{Fact};
+ghost use Rattle.builder_model.specs.Reason.{WantReason};
 ghost use Rattle.core_state.specs.Place.{AreKept, Remembers};
 ghost use Rattle.work_ops.specs.Going.{Runs, RoseIfBusy};
 

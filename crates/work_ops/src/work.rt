@@ -2,8 +2,8 @@
 
 ghost use Rattle.std.specs.Prelude.{◌≡◌, ◌≢◌, ◌<◌, ◌⊎◌, IfErr, IfOk, OnOk, IsTrue, vec_len};
 ghost use Rattle.cfg_model.specs.Program.Reach.{AreSeeds};
-ghost use Rattle.cfg_model.specs.Builder.Kept.{IsKept};
-ghost use Rattle.cfg_model.specs.Builder.Left.{Work, IsLeft, HasNothingLeft};
+ghost use Rattle.builder_model.specs.Kept.{IsKept};
+ghost use Rattle.builder_model.specs.Left.{Work, IsLeft, HasNothingLeft};
 ghost use Rattle.core_state.specs.declared.answer.WorkKind.TheVariants as kinds;
 ghost use Rattle.core_state.specs.Work.{work_of};
 ghost use Rattle.work_ops.specs.inner.Working.{Continues, Lowers, RanOut, to_do};
@@ -12,7 +12,8 @@ use crate::code::ask;
 use crate::desk::Desk;
 use crate::tell::tell;
 use crate::{edges_op, move_op, parse_op, want_op};
-use cfg_model::{Chains, Mark};
+use builder_model::Mark;
+use cfg_model::Chains;
 use core_state::{Job, Name, PlaceEnd, WorkKind};
 
 /// Makes one seed after the other a start, the highest first, and does what that makes to do before

@@ -5,8 +5,8 @@ use Rattle.std.specs.Ordering.{nat_cmp}
 use Rattle.std.specs.FinMap as maps
 use mathlib.Core.Option.{some}
 use lib.ListN.{get_elem?}
-use Rattle.cfg_model.specs.Builder.Shard.{part_of}
-use Rattle.cfg_model.specs.Builder.State.{BuilderState, StartMap, EndMap, TerminatorMap}
+use Rattle.builder_model.specs.Shard.{part_of}
+use Rattle.builder_model.specs.State.{BuilderState, StartMap, EndMap, TerminatorMap}
 use Rattle.board.specs.declared.piece.Piece.{Piece}
 use Rattle.board.specs.declared.piece.Piece.TheVariants.{Starts, Ends, Terms}
 use Rattle.board.specs.Pieces.{piece_in}

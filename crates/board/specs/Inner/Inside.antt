@@ -5,13 +5,13 @@ use Rattle.atomic_table.specs.Table.{Me}
 use Rattle.atomic_table.specs.declared.shared.Seat.{Seat}
 use Rattle.board.specs.Locks.Share.{IsAboveZero}
 use Rattle.cfg_model.specs.Program.Instructions.{InstructionMap}
-use Rattle.cfg_model.specs.Builder.Event.{Event, Steps}
-use Rattle.cfg_model.specs.Builder.Fact.{Fact, Holds, IsSoundFact}
-use Rattle.cfg_model.specs.Builder.Kept.{IsKept}
-use Rattle.cfg_model.specs.Builder.Reason.{Reason}
-use Rattle.cfg_model.specs.Builder.Shard.{Shard, shard_of_event}
-use Rattle.cfg_model.specs.Builder.State.{BuilderState, WaitsAt}
-use Rattle.cfg_model.specs.declared.state.Waiter.{Waiter}
+use Rattle.builder_model.specs.Event.{Event, Steps}
+use Rattle.builder_model.specs.Fact.{Fact, Holds, IsSoundFact}
+use Rattle.builder_model.specs.Kept.{IsKept}
+use Rattle.builder_model.specs.Reason.{Reason}
+use Rattle.builder_model.specs.Shard.{Shard, shard_of_event}
+use Rattle.builder_model.specs.State.{BuilderState, WaitsAt}
+use Rattle.builder_model.specs.declared.state.Waiter.{Waiter}
 use Rattle.std.specs.declared.alloc.AllocError.{AllocError as Memory}
 use Rattle.core_state.specs.declared.answer.PlaceEnd.{PlaceEnd}
 use Rattle.core_state.specs.declared.answer.PlaceEnd.TheVariants as refusals

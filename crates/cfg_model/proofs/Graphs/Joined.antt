@@ -23,7 +23,7 @@ use Rattle.cfg_model.specs.Graph.Joined.{StartsABlock, EdgesJoinBlocks, EntriesS
 use Rattle.cfg_model.proofs.Program.Listed.{head_in}
 use Rattle.cfg_model.proofs.Program.Known.{successor_known, target_known, fall_known, successor_from_flow, reached_along}
 use Rattle.cfg_model.proofs.Program.Landing.{landing_follows, call_stands}
-use Rattle.cfg_model.proofs.Builder.StateGrowth.{none_is_some}
+use Rattle.cfg_model.proofs.Program.MapFacts.{none_is_some}
 use Rattle.cfg_model.proofs.Graphs.LeaderFacts.{pad_starts}
 use Rattle.cfg_model.proofs.Graphs.Lists.{Contains-here, Contains-later, Contains-none, Contains-cons_cases}
 use Rattle.cfg_model.proofs.Graphs.OneBlock.{not_both, straight_once}

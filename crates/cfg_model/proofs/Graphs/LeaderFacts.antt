@@ -8,14 +8,13 @@ use Rattle.cfg_model.specs.declared.flow.Flow.{Flow}
 use Rattle.cfg_model.specs.declared.flow.Flow.TheVariants.{Straight, Branch, Jump, Call, IndirectCall, Table, Return, Unknown, Stop}
 use Rattle.cfg_model.specs.Program.Instructions.{InstructionMap, Instruction, flow_at, length_at, targets_at, IsLawful, IsLawfulAt, FlowFits}
 use Rattle.cfg_model.specs.Program.Chain.{OnChain, GoesOnTo, IsTerminator, EndsChain}
-use Rattle.cfg_model.specs.Program.Successors.{successors_of_flow, MayLand}
+use Rattle.cfg_model.specs.Program.Successors.{successors_of_flow, MayLand, IsTarget}
 use Rattle.cfg_model.specs.Program.Reach.{Reached}
 use Rattle.cfg_model.specs.Graph.Leader.{IsLeader, StartsBlock}
-use Rattle.cfg_model.specs.Builder.Waits.{IsTarget}
 use Rattle.cfg_model.specs.Program.Meeting.{IsMeeting}
 use Rattle.cfg_model.proofs.Program.Listed.{none_in, in_cases, head_in, tail_in}
 use Rattle.cfg_model.proofs.Program.Landing.{call_ends, landing_follows}
-use Rattle.cfg_model.proofs.Builder.MapFacts.{same_or_other}
+use Rattle.cfg_model.proofs.Program.MapFacts.{same_or_other}
 use Rattle.cfg_model.proofs.Program.ChainFacts.{chain_up, chain_cases, one_next, goes_up, flow_of, straight_next}
 use Rattle.cfg_model.proofs.Program.Along.{next_is_successor}
 

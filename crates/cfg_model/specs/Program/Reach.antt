@@ -2,6 +2,7 @@
 use Rattle.std.specs.Prelude.{ℕ, ◌<◌, List, length, All, Contains, Option, Some, IsSome}
 use Rattle.std.specs.List.Sorted.{IsStrictlyIncreasing}
 use Rattle.cfg_model.specs.Program.Instructions.{InstructionMap}
+use Rattle.cfg_model.specs.Program.Chain.{IsTerminator}
 use Rattle.cfg_model.specs.Program.Successors.{IsSuccessor, IsCall}
 use Rattle.cfg_model.specs.Program.Status.{Returns}
 
@@ -21,3 +22,8 @@ pub data Reached (map : InstructionMap) (seeds : List ℕ) : ℕ → Type 0 wher
       → Reached map seeds target
   past_call : {a target fall : ℕ} → Reached map seeds a → IsCall map a target (Some fall)
       → Returns map target → Reached map seeds fall
+
+-- k is a reachable instruction that ends a chain.
+pub record IsReachedTerminator (map : InstructionMap) (seeds : List ℕ) (k : ℕ) : Type 0 where
+  pub reached : Reached map seeds k
+  pub ends : IsTerminator map k

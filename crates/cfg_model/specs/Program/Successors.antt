@@ -34,6 +34,13 @@ IsSuccessor map a b = Contains (successors_of map a) b
 abbrev pub IsCall : InstructionMap → ℕ → ℕ → Option ℕ → Type 0
 IsCall map a target fall = flow_at map a ≡ Some (Call target fall)
 
+-- The targets of a terminator: the addresses that it alone makes reachable. They are its successors,
+-- a landing pad among them, and the target of a call. (The fall of a call is reached if the target
+-- returns, too.)
+pub data IsTarget (map : InstructionMap) (terminator to : ℕ) : Type 0 where
+  onward : IsSuccessor map terminator to → IsTarget map terminator to
+  called : {fall : Option ℕ} → IsCall map terminator to fall → IsTarget map terminator to
+
 -- A flow that calls, a known address or through a register.
 abbrev pub Calls : Option Flow → Type 0
 Calls (Some (Call target fall)) = Unit {0}

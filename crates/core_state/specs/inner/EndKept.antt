@@ -1,6 +1,6 @@
 -- What is kept of an end, read as its entry.
 use Rattle.std.specs.FinSet as sets
-use Rattle.cfg_model.specs.Builder.State.{EndEntry}
+use Rattle.builder_model.specs.State.{EndEntry}
 use Rattle.core_state.specs.declared.end.Kept.{Kept}
 use Rattle.core_state.specs.declared.end.Kept.TheVariants.{Near, Split}
 

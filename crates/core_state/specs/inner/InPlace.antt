@@ -2,8 +2,8 @@
 use Rattle.std.specs.Prelude.{ℕ, Bool, true, List, [], ◌∷◌, if◌then◌else◌}
 use Rattle.std.specs.Ordering.{eq_by_cmp}
 use Rattle.std.specs.FinMap as maps
-use Rattle.cfg_model.specs.declared.state.Waiter.{Waiter}
-use Rattle.cfg_model.specs.Builder.Waiter.{waiter_cmp}
+use Rattle.builder_model.specs.declared.state.Waiter.{Waiter}
+use Rattle.builder_model.specs.Waiter.{waiter_cmp}
 use Rattle.core_state.specs.declared.waiters.Note.{Note}
 use Rattle.core_state.specs.declared.waiters.Kept.{Kept}
 use Rattle.core_state.specs.declared.waiters.Kept.TheVariants.{Nobody, One, Two, Several}

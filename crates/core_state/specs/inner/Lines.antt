@@ -5,10 +5,10 @@ use Rattle.std.specs.Int.{bit_at}
 use Rattle.std.specs.Option.{option_and_then}
 use Rattle.std.specs.Ordering.{nat_cmp}
 use Rattle.std.specs.FinMap as maps
-use Rattle.cfg_model.specs.declared.state.Mark.{Mark}
-use Rattle.cfg_model.specs.declared.state.Mark.TheVariants as marks
-use Rattle.cfg_model.specs.Builder.State.{StartMap}
-use Rattle.cfg_model.specs.Builder.Left.{Work}
+use Rattle.builder_model.specs.declared.state.Mark.{Mark}
+use Rattle.builder_model.specs.declared.state.Mark.TheVariants as marks
+use Rattle.builder_model.specs.State.{StartMap}
+use Rattle.builder_model.specs.Left.{Work}
 use Rattle.core_state.specs.declared.answer.Name.{Name}
 use Rattle.core_state.specs.declared.line.Line.{Line}
 use Rattle.core_state.specs.Work.{work_of}

@@ -1,9 +1,9 @@
 -- A part of a state in which nothing is left: by the addresses that belong to it, or the place where
 -- work is looked for.
 use Rattle.std.specs.Prelude.{◌≡◌, ℕ, ◌+◌, List, Contains, Option, IfSome, IfNone}
-use Rattle.cfg_model.specs.Builder.Shard.{shard_of}
-use Rattle.cfg_model.specs.Builder.State.{BuilderState, IsStart}
-use Rattle.cfg_model.specs.Builder.Left.{Work, IsLeft}
+use Rattle.builder_model.specs.Shard.{shard_of}
+use Rattle.builder_model.specs.State.{BuilderState, IsStart}
+use Rattle.builder_model.specs.Left.{Work, IsLeft}
 use Rattle.core_state.specs.declared.answer.Name.{Name}
 use Rattle.core_state.specs.Work.{work_of}
 use Rattle.address_map.specs.Found.{IsFoundAmong}

@@ -2,11 +2,11 @@
 use Rattle.std.specs.Prelude.{◌≡◌, ℕ, Some, false, IsTrue}
 use Rattle.std.specs.FinMap as maps
 use Rattle.std.specs.FinSet as sets
-use Rattle.cfg_model.specs.declared.state.Mark.{Mark}
-use Rattle.cfg_model.specs.declared.state.Mark.TheVariants as marks
-use Rattle.cfg_model.specs.declared.state.Waiter.{Waiter}
-use Rattle.cfg_model.specs.Builder.State.{StartMap, EndEntry, TerminatorEntry, IsStart}
-use Rattle.cfg_model.specs.Builder.Left.{Work}
+use Rattle.builder_model.specs.declared.state.Mark.{Mark}
+use Rattle.builder_model.specs.declared.state.Mark.TheVariants as marks
+use Rattle.builder_model.specs.declared.state.Waiter.{Waiter}
+use Rattle.builder_model.specs.State.{StartMap, EndEntry, TerminatorEntry, IsStart}
+use Rattle.builder_model.specs.Left.{Work}
 use Rattle.core_state.specs.declared.answer.Name.{Name}
 use Rattle.core_state.specs.Work.{work_of}
 

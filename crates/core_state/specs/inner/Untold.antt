@@ -2,8 +2,8 @@
 use Rattle.std.specs.Prelude.{◌≡◌, Bool, false, not, Option, Some, None}
 use Rattle.std.specs.FinMap as maps
 use Rattle.std.specs.FinSet as sets
-use Rattle.cfg_model.specs.declared.state.Waiter.{Waiter}
-use Rattle.cfg_model.specs.Builder.Waiter.{waiter_cmp}
+use Rattle.builder_model.specs.declared.state.Waiter.{Waiter}
+use Rattle.builder_model.specs.Waiter.{waiter_cmp}
 
 -- Whether a waiter is there and was not told, by its mark.
 abbrev pub is_untold : Option Bool → Bool

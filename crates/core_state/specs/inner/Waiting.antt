@@ -5,9 +5,9 @@ use Rattle.std.specs.declared.cmp.Ordering.{Ordering}
 use Rattle.std.specs.Ordering.{is_gt}
 use Rattle.std.specs.FinMap as maps
 use Rattle.std.specs.FinMap.{find}
-use Rattle.cfg_model.specs.declared.state.Waiter.{Waiter}
-use Rattle.cfg_model.specs.Builder.State.{TerminatorEntry}
-use Rattle.cfg_model.specs.Builder.Waiter.{waiter_cmp}
+use Rattle.builder_model.specs.declared.state.Waiter.{Waiter}
+use Rattle.builder_model.specs.State.{TerminatorEntry}
+use Rattle.builder_model.specs.Waiter.{waiter_cmp}
 use Rattle.core_state.specs.Least.{IsLeastBy}
 
 -- The waiters, true for one that was told.

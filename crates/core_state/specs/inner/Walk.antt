@@ -1,7 +1,7 @@
 -- What a walk over the keys of many shards reads of them.
 use Rattle.std.specs.Prelude.{◌≡◌, ℕ, ◌==◌, ◌/◌, Bool, false, List}
 use Rattle.std.specs.Prelude.{slice_get, IsTrue, Option, Some, None}
-use Rattle.cfg_model.specs.Builder.Shard.{shard_of}
+use Rattle.builder_model.specs.Shard.{shard_of}
 
 -- k is a key of its own shard.
 abbrev pub IsKey : {S : Type 0} → (S → ℕ → Bool) → List S → ℕ → Type 0

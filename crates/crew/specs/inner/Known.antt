@@ -1,9 +1,9 @@
 -- What a worker keeps in mind.
 use Rattle.std.specs.Prelude.{ℕ, ◌<◌, ◌-◌, ◌^◌, List, Option, Some}
 use Rattle.std.specs.List.{Contains}
-use Rattle.cfg_model.specs.declared.state.Waiter.{Waiter}
+use Rattle.builder_model.specs.declared.state.Waiter.{Waiter}
 use Rattle.cfg_model.specs.Program.Instructions.{InstructionMap}
-use Rattle.cfg_model.specs.Builder.Fact.{Fact}
+use Rattle.builder_model.specs.Fact.{Fact}
 use Rattle.board.specs.Seat.{SeatState}
 use Rattle.crew.specs.declared.cache.Cache.{Cache}
 use Rattle.crew.specs.declared.waiting.Placed.{Placed}

@@ -2,7 +2,7 @@
 use Rattle.std.specs.Prelude.{◌≡◌, ℕ, List, sum}
 use Rattle.board.specs.Locks.Share.{Share}
 use Rattle.cfg_model.specs.Program.Instructions.{InstructionMap}
-use Rattle.cfg_model.specs.Builder.Fact.{Fact, IsSoundFact}
+use Rattle.builder_model.specs.Fact.{Fact, IsSoundFact}
 use Rattle.board.specs.Slots.{BoardId}
 use Rattle.board.specs.Seat.{SeatState, Knows, HoldsNothing}
 use Rattle.steal_pool.specs.Pool.{DequeId, HandValue}

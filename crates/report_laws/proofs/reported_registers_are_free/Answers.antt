@@ -9,7 +9,7 @@ use Rattle.report_laws.proofs.reported_registers_are_free.Goals as goal
 
 pub returns : goal.returns
 returns c = record {
-  within = λ bytes graph is body first last other steps. runs_within_are_alike bytes (cuts_of is) (seeds bytes) graph body (of_files bytes graph is) first last other steps;
-  always = λ bytes graph is body first other. free_registers_are_free bytes (cuts_of is) (seeds bytes) graph body (of_files bytes graph is) first other;
-  keeps = λ bytes graph is body first. prepared_runs_keep_to_graph bytes (cuts_of is) (seeds bytes) (outline_of graph) graph body (have_outlines bytes graph is) (of_files bytes graph is) is.numbers first;
+  within = λ bytes graph is body surroundings first last other steps. runs_within_are_alike bytes (cuts_of is) (seeds bytes) graph body (of_files bytes graph is) surroundings first last other steps;
+  always = λ bytes graph is body surroundings first other. free_registers_are_free bytes (cuts_of is) (seeds bytes) graph body (of_files bytes graph is) surroundings first other;
+  keeps = λ bytes graph is body surroundings first. prepared_runs_keep_to_graph bytes (cuts_of is) (seeds bytes) (outline_of graph) graph body (have_outlines bytes graph is) (of_files bytes graph is) is.numbers surroundings first;
 }

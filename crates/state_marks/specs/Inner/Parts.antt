@@ -2,7 +2,7 @@
 use Rattle.std.specs.Prelude.{◌≡◌, ℕ, ◌<◌, List, length, slice_index_or, All, Contains}
 use Rattle.std.specs.Prelude.{IfOk, IsOk, Result, Ok}
 use Rattle.std.specs.declared.alloc.AllocError.{AllocError as Memory}
-use Rattle.cfg_model.specs.Builder.State.{BuilderState}
+use Rattle.builder_model.specs.State.{BuilderState}
 use Rattle.reached_terms.specs.Reached.{Reach}
 use Rattle.state_marks.specs.declared.seen.Seen.{Seen}
 use Rattle.state_marks.specs.declared.seen.Kind.{Kind}

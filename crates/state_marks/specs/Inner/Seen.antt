@@ -1,8 +1,8 @@
 -- The numbers of addresses of which a shard shows something, and their marks.
 use Rattle.std.specs.Prelude.{◌≡◌, ◌↔◌, ◌⊎◌, ℕ, Bool, true, false, List, length, get_or, Contains, IsSome}
 use Rattle.cfg_model.specs.Program.Instructions.{InstructionMap}
-use Rattle.cfg_model.specs.Builder.Shard.{shard_of}
-use Rattle.cfg_model.specs.Builder.State.{BuilderState, IsStart, IsEntered, IsReturned}
+use Rattle.builder_model.specs.Shard.{shard_of}
+use Rattle.builder_model.specs.State.{BuilderState, IsStart, IsEntered, IsReturned}
 use Rattle.state_marks.specs.declared.seen.Seen.{Seen}
 
 -- n is the number of an address of which this holds.

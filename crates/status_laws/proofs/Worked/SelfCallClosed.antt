@@ -6,26 +6,28 @@ use mathlib.Core.Logic.{inl, inr}
 use Rattle.std.specs.Ordering.{nat_cmp}
 use Rattle.std.specs.FinMap as maps
 use Rattle.std.specs.FinSet as sets
-use Rattle.cfg_model.specs.declared.state.Mark.TheVariants as marks
-use Rattle.cfg_model.specs.declared.state.Waiter.{Waiter}
+use Rattle.builder_model.specs.declared.state.Mark.TheVariants as marks
+use Rattle.builder_model.specs.declared.state.Waiter.{Waiter}
 use Rattle.cfg_model.specs.Program.Chain.{OnChain, IsTerminatorOf}
-use Rattle.cfg_model.specs.Builder.Waiter.{released}
-use Rattle.cfg_model.specs.Builder.Waits.{IsTarget, IsWait}
-use Rattle.cfg_model.specs.Builder.State.{BuilderState, StartMap, EndMap, EndEntry, TerminatorMap, TerminatorEntry, empty_state, IsStart, StandsAt, WaitsAt, IsDone, IsReturned}
-use Rattle.cfg_model.specs.Builder.Event.{Event, Steps, new_entry}
-use Rattle.cfg_model.specs.Builder.Reason.{May, WantReason}
-use Rattle.cfg_model.specs.Builder.Left.{Work, IsLeft, HasNothingLeft}
-use Rattle.cfg_model.specs.Builder.Shown.{ShowsGraph}
-use Rattle.cfg_model.specs.Builder.Run.{IsRun}
+use Rattle.builder_model.specs.Waiter.{released}
+use Rattle.builder_model.specs.Waits.{IsWait}
+use Rattle.cfg_model.specs.Program.Successors.{IsTarget}
+use Rattle.builder_model.specs.State.{BuilderState, StartMap, EndMap, EndEntry, TerminatorMap, TerminatorEntry, empty_state, IsStart, StandsAt, WaitsAt, IsDone, IsReturned}
+use Rattle.builder_model.specs.Event.{Event, Steps, new_entry}
+use Rattle.builder_model.specs.Reason.{May, WantReason}
+use Rattle.builder_model.specs.Left.{Work, IsLeft, HasNothingLeft}
+use Rattle.builder_model.specs.Shown.{ShowsGraph}
+use Rattle.builder_model.specs.Run.{IsRun}
 use Rattle.cfg_model.proofs.Program.Listed.{none_in, in_cases, head_in}
-use Rattle.cfg_model.proofs.Builder.MapFacts.{same_or_other, get_apart}
-use Rattle.cfg_model.proofs.Builder.StateReads.{near_here, near_is, moved_is, none_near}
-use Rattle.cfg_model.proofs.Builder.WaiterOrder.{waiter_cmp_total}
-use Rattle.cfg_model.proofs.Builder.StateGrowth.{false_true, none_is_some}
-use Rattle.cfg_model.proofs.Builder.EndGrowth.{StandsIn, none_stand}
+use Rattle.cfg_model.proofs.Program.MapFacts.{same_or_other, get_apart}
+use Rattle.builder_model.proofs.StateReads.{near_here, near_is, moved_is, none_near}
+use Rattle.builder_model.proofs.WaiterOrder.{waiter_cmp_total}
+use Rattle.builder_model.proofs.StateGrowth.{false_true}
+use Rattle.cfg_model.proofs.Program.MapFacts.{none_is_some}
+use Rattle.builder_model.proofs.EndGrowth.{StandsIn, none_stand}
 use Rattle.status_laws.proofs.ClosedLaws.{confluence}
 use Rattle.cfg_model.proofs.Worked.Rows.{row_9, row_9_lawful}
-use Rattle.cfg_model.proofs.Worked.SelfCallRow.{seeds, no_successor, the_call, ends_here}
+use Rattle.builder_model.proofs.Worked.SelfCallRow.{seeds, no_successor, the_call, ends_here}
 
 abbrev starts_1 : StartMap
 starts_1 = maps.insert maps.empty 0x10000 marks.Wanted

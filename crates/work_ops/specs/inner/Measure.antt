@@ -5,10 +5,10 @@ use Rattle.std.specs.Option.{option_map_or}
 use Rattle.std.specs.Ordering.{nat_cmp}
 use Rattle.std.specs.FinMap as maps
 use Rattle.std.specs.FinSet as sets
-use Rattle.cfg_model.specs.declared.state.Mark.{Mark}
-use Rattle.cfg_model.specs.declared.state.Mark.TheVariants.{Wanted, Parsed}
-use Rattle.cfg_model.specs.Builder.Waiter.{follower, released}
-use Rattle.cfg_model.specs.Builder.State.{BuilderState, EndMap, TerminatorMap, moved_at, waiters_at}
+use Rattle.builder_model.specs.declared.state.Mark.{Mark}
+use Rattle.builder_model.specs.declared.state.Mark.TheVariants.{Wanted, Parsed}
+use Rattle.builder_model.specs.Waiter.{follower, released}
+use Rattle.builder_model.specs.State.{BuilderState, EndMap, TerminatorMap, moved_at, waiters_at}
 
 -- The sum of what f gives for each number below n.
 unfoldable pub sum_below : ℕ → (ℕ → ℕ) → ℕ

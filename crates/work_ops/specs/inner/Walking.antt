@@ -3,7 +3,7 @@ use Rattle.std.specs.Prelude.{ℕ, ◌≤◌}
 use Rattle.cfg_model.specs.Program.Instructions.{InstructionMap}
 use Rattle.cfg_model.specs.Program.Chain.{OnChain, GoesOnTo}
 use Rattle.cfg_model.specs.Program.Meeting.{IsStop}
-use Rattle.cfg_model.specs.Builder.Fact.{Fact}
+use Rattle.builder_model.specs.Fact.{Fact}
 
 -- The address is on the chain of s, right before a start that is known and does not lie above
 -- limit.

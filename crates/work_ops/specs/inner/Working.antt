@@ -1,9 +1,9 @@
 -- What becomes of a state that is worked on until nothing is left, with a list of work items.
 use Rattle.std.specs.Prelude.{ℕ, ◌+◌, ◌*◌, ◌^◌, ◌<◌, List}
 use Rattle.cfg_model.specs.Program.Instructions.{InstructionMap}
-use Rattle.cfg_model.specs.Builder.State.{BuilderState}
-use Rattle.cfg_model.specs.Builder.Fact.{Holds}
-use Rattle.cfg_model.specs.Builder.Kept.{IsKept}
+use Rattle.builder_model.specs.State.{BuilderState}
+use Rattle.builder_model.specs.Fact.{Holds}
+use Rattle.builder_model.specs.Kept.{IsKept}
 use Rattle.core_state.specs.Place.{Remembers}
 use Rattle.core_state.specs.declared.answer.PlaceEnd.{PlaceEnd}
 use Rattle.work_ops.specs.Going.{RoseIfBusy}

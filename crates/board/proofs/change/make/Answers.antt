@@ -1,6 +1,6 @@
 use Rattle.std.proofs.Common.{sym, ap, ◌∙◌, subst}
-use Rattle.cfg_model.specs.Builder.Reason.{Reason}
-use Rattle.cfg_model.specs.Builder.Shard.{shard_of}
+use Rattle.builder_model.specs.Reason.{Reason}
+use Rattle.builder_model.specs.Shard.{shard_of}
 use Rattle.board.specs.Slots.{shard_at, slot_of}
 use Rattle.board.specs.Seat.{Notes, HasSlot, Knows}
 use Rattle.board.specs.Inner.Inside.{state_of, IsSettled}

@@ -1,6 +1,6 @@
 use Rattle.std.proofs.Common.{sym, ap, ◌∙◌, subst}
 use Rattle.std.specs.Prelude.{Ok}
-use Rattle.cfg_model.specs.Builder.Shard.{shard_of}
+use Rattle.builder_model.specs.Shard.{shard_of}
 use Rattle.board.specs.Slots.{shard_at, shard_for, slot_of}
 use Rattle.board.specs.Seat.{Notes, HasSlot}
 use Rattle.board.specs.Inner.Inside.{state_of, IsOut}

@@ -2,7 +2,7 @@ use Rattle.std.proofs.Common.{rules, ◌≡◌, ◌≢◌, ◌+◌, ◌-◌, ⊎
 use Rattle.std.proofs.lemmas.Bool.{cases_eq}
 use Rattle.std.proofs.lemmas.List.{get_or-set_same, get_or-set_other}
 use Rattle.std.specs.Mem.Slots.{slots_items, slots_counts, slots_filled}
-use Rattle.cfg_model.specs.Builder.State.{BuilderState}
+use Rattle.builder_model.specs.State.{BuilderState}
 use Rattle.board.specs.Inner.Closing.{AreOf}
 use Rattle.board.proofs.Ends.{piece_there, rooms, Sorted, sorted, recount, all_shards, whole_state}
 use Rattle.board.proofs.table.emptied.Goals as goal

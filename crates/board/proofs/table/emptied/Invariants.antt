@@ -1,7 +1,7 @@
 use Rattle.std.proofs.Common.{◌≡◌, ◌≤◌, ◌<◌, ◌-◌, ℕ, vec_capacity, false, get_or}
 use Rattle.std.specs.Mem.Slots.{slots_items, slots_filled, slots_len}
 use Rattle.std.specs.Mem.Slots.Ownership.{Filled}
-use Rattle.cfg_model.specs.Builder.State.{BuilderState}
+use Rattle.builder_model.specs.State.{BuilderState}
 use Rattle.board.specs.Inner.Closing.{AreOf, AreFirst}
 use Rattle.board.proofs.table.emptied.Given as goal
 

@@ -1,6 +1,6 @@
 use Rattle.std.proofs.Common.{rules, ◌≡◌, ap, sym, ◌∙◌, arith, vec_len, length, Some}
 use lib.ListN.{get_elem?}
-use Rattle.cfg_model.specs.Builder.State.{empty_state}
+use Rattle.builder_model.specs.State.{empty_state}
 use Rattle.board.specs.Pieces.{piece_in}
 use Rattle.board.proofs.Ends.{in_places}
 use Rattle.board.proofs.table.empty_slots.Goals as goal

@@ -1,7 +1,7 @@
 use Rattle.std.proofs.Common.{◌≡◌, ◌≤◌, ◌<◌, ℕ, vec_len, vec_capacity, Some}
 use mathlib.Core.Option.{some}
 use lib.ListN.{get_elem?}
-use Rattle.cfg_model.specs.Builder.State.{empty_state}
+use Rattle.builder_model.specs.State.{empty_state}
 use Rattle.board.specs.Pieces.{piece_in}
 use Rattle.board.proofs.table.empty_slots.Given as goal
 

@@ -1,4 +1,4 @@
-use Rattle.cfg_model.specs.Builder.Left.{IsLeft}
+use Rattle.builder_model.specs.Left.{IsLeft}
 use Rattle.core_state.proofs.left.left_at_seeds.Goals as goal
 
 pub returns : goal.returns

@@ -1,6 +1,6 @@
 use Rattle.std.specs.Prelude.{ℕ, Contains}
 use Rattle.std.proofs.Common.{take}
-use Rattle.cfg_model.specs.Builder.State.{IsStart}
+use Rattle.builder_model.specs.State.{IsStart}
 use Rattle.core_state.proofs.left.unstarted.Given as goal
 
 -- each seed that was passed is a start

@@ -2,7 +2,7 @@ use Rattle.std.proofs.Common.{ap, ◌∙◌}
 use Rattle.std.specs.Cmp.{nat_cmp_is}
 use Rattle.std.specs.Ordering.{ordering_then}
 use Rattle.std.specs.declared.cmp.Ordering.TheVariants.{Less}
-use Rattle.cfg_model.specs.Builder.Waiter.{wait_kind_cmp}
+use Rattle.builder_model.specs.Waiter.{wait_kind_cmp}
 use Rattle.core_state.proofs.DerivedOrder.{derived_order}
 use Rattle.core_state.proofs.row.order.Goals as goal
 

@@ -1,6 +1,6 @@
 use Rattle.std.proofs.Common.{subst, ◌∙◌}
-use Rattle.cfg_model.specs.Builder.Waiter.{waiter_cmp}
-use Rattle.cfg_model.proofs.Builder.WaiterOrder.{waiter_cmp_total}
+use Rattle.builder_model.specs.Waiter.{waiter_cmp}
+use Rattle.builder_model.proofs.WaiterOrder.{waiter_cmp_total}
 use Rattle.address_map.specs.Pairs.{IsFirstAt}
 use Rattle.core_state.specs.inner.Pairs.{IsGapAt}
 use Rattle.core_state.proofs.RowInOrder.{put_gap}

@@ -1,5 +1,5 @@
 use Rattle.std.proofs.Common.{refl, sym, ◌∙◌}
-use Rattle.cfg_model.proofs.Builder.WaiterOrder.{waiter_cmp_total}
+use Rattle.builder_model.proofs.WaiterOrder.{waiter_cmp_total}
 use Rattle.core_state.proofs.RowInOrder.{walk_found, walk_gap}
 use Rattle.core_state.proofs.row.spot.Goals as goal
 

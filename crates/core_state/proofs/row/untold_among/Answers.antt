@@ -1,4 +1,4 @@
-use Rattle.cfg_model.proofs.Builder.WaiterOrder.{waiter_cmp_total, exact_waiters}
+use Rattle.builder_model.proofs.WaiterOrder.{waiter_cmp_total, exact_waiters}
 use Rattle.std.proofs.Common.{refl}
 use Rattle.core_state.proofs.RowInOrder.{first_false, none_false, told_on}
 use Rattle.core_state.proofs.row.untold_among.Goals as goal

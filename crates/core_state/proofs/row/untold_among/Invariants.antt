@@ -1,5 +1,5 @@
 use Rattle.std.proofs.Common.{◌≡◌, ℕ, Bool, true, ◌<◌, get_or}
-use Rattle.cfg_model.specs.declared.state.Waiter.{Waiter}
+use Rattle.builder_model.specs.declared.state.Waiter.{Waiter}
 use Rattle.core_state.proofs.row.untold_among.Given as goal
 
 abbrev pub invariant-loop-w : goal.invariant-loop-w

@@ -1,7 +1,7 @@
 use Rattle.std.proofs.Common.{ℕ, subst}
 use Rattle.std.specs.Prelude.{Option, IfSome}
-use Rattle.cfg_model.specs.Builder.Fact.{Fact}
-use Rattle.cfg_model.specs.Builder.Reason.WantReason.{stands}
+use Rattle.builder_model.specs.Fact.{Fact}
+use Rattle.builder_model.specs.Reason.WantReason.{stands}
 use Rattle.crew.specs.inner.Worker.{KnowsSoundly}
 use Rattle.crew.proofs.learn.enters.Goals as goal
 

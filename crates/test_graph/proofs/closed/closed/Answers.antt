@@ -1,5 +1,5 @@
 use Rattle.std.proofs.Common.{sym, subst}
-use Rattle.cfg_model.specs.Builder.Kept.{IsKept}
+use Rattle.builder_model.specs.Kept.{IsKept}
 use Rattle.status_laws.proofs.KeptLaws.{empty_is_kept}
 use Rattle.core_state.specs.Counted.{CountedState}
 use Rattle.test_graph.proofs.closed.closed.Goals as goal

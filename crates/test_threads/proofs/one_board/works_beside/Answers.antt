@@ -1,5 +1,5 @@
 use Rattle.std.proofs.Common.{refl, ◌∙◌, arith}
-use Rattle.cfg_model.specs.Builder.Reason.{WantReason}
+use Rattle.builder_model.specs.Reason.{WantReason}
 use Rattle.board.proofs.LawProofs.{still_nothing}
 use Rattle.test_threads.proofs.one_board.works_beside.Goals as goal
 

@@ -1,6 +1,6 @@
 use Rattle.work_ops.proofs.GoingOn.{goes_on}
-use Rattle.cfg_model.specs.Builder.Reason.{WantReason, EndsAStart}
-use Rattle.cfg_model.specs.Builder.Waits.{IsTarget}
+use Rattle.builder_model.specs.Reason.{WantReason, EndsAStart}
+use Rattle.cfg_model.specs.Program.Successors.{IsTarget}
 use Rattle.work_ops.proofs.edges.call.Goals as goal
 
 pub start-requires-clause-reason : goal.start-requires-clause-reason

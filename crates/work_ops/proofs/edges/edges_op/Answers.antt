@@ -1,4 +1,4 @@
-use Rattle.cfg_model.specs.Builder.Event.{Event}
+use Rattle.builder_model.specs.Event.{Event}
 use Rattle.work_ops.proofs.GoingOn.{runs_then, runs_call}
 use Rattle.work_ops.proofs.Reasons.{done_reason, followed_more, called_more}
 use Rattle.work_ops.proofs.edges.edges_op.Goals as goal

@@ -1,8 +1,8 @@
-use Rattle.cfg_model.specs.Builder.Fact.{Fact}
+use Rattle.builder_model.specs.Fact.{Fact}
 use Rattle.work_ops.proofs.GoingOn.{goes_on}
 use Rattle.std.proofs.lemmas.Result.{on_ok_weaker}
-use Rattle.cfg_model.specs.Builder.Reason.{WantReason, EndsAStart}
-use Rattle.cfg_model.specs.Builder.Waits.{IsTarget}
+use Rattle.builder_model.specs.Reason.{WantReason, EndsAStart}
+use Rattle.cfg_model.specs.Program.Successors.{IsTarget}
 use Rattle.work_ops.proofs.Reasons.{follow_reason, followed}
 use Rattle.work_ops.proofs.edges.follow.Goals as goal
 

@@ -1,7 +1,7 @@
 use Rattle.std.proofs.Common.{ap, ◌∙◌}
 use Rattle.std.specs.Prelude.{Some}
 use Rattle.cfg_model.specs.declared.flow.Flow.TheVariants.{Call, IndirectCall}
-use Rattle.cfg_model.specs.Builder.Fact.{Fact}
+use Rattle.builder_model.specs.Fact.{Fact}
 use Rattle.cfg_model.proofs.Program.Landing.{may_land}
 use Rattle.work_ops.proofs.GoingOn.{rests, on_ok_both}
 use Rattle.std.proofs.lemmas.Result.{on_ok_weaker}

@@ -1,6 +1,6 @@
 use Rattle.std.proofs.Common.{arith}
 use Rattle.std.proofs.lemmas.Option.{MatchOption-at_some}
-use Rattle.cfg_model.specs.Builder.Fact.{Fact}
+use Rattle.builder_model.specs.Fact.{Fact}
 use Rattle.work_ops.proofs.GoingOn.{rests, reads, goes_on, kept_along}
 use Rattle.work_ops.proofs.Stops.{leads_too}
 use Rattle.work_ops.proofs.joining.joining_at.Goals as goal

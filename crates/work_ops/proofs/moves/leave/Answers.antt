@@ -1,4 +1,4 @@
-use Rattle.cfg_model.specs.Builder.Event.{Event}
+use Rattle.builder_model.specs.Event.{Event}
 use Rattle.work_ops.proofs.GoingOn.{changes, finds, goes_on}
 use Rattle.work_ops.proofs.Told.{gone}
 use Rattle.work_ops.proofs.EndsTold.{settled_there}

@@ -1,6 +1,6 @@
 use Rattle.std.proofs.Common.{◌∙◌}
 use Rattle.std.specs.Prelude.{IsTrue}
-use Rattle.cfg_model.specs.Builder.Fact.{Fact}
+use Rattle.builder_model.specs.Fact.{Fact}
 use Rattle.work_ops.proofs.GoingOn.{runs_then, runs_none, kept_along}
 use Rattle.std.proofs.lemmas.Option.{MatchOption-at_some}
 use Rattle.std.proofs.lemmas.Result.{on_ok_weaker}

@@ -1,7 +1,7 @@
 use Rattle.std.proofs.lemmas.Result.{on_ok_weaker}
-use Rattle.cfg_model.specs.Builder.Event.{ArrivesAt}
-use Rattle.cfg_model.specs.Builder.Fact.{Fact}
-use Rattle.cfg_model.specs.Builder.Reason.{WantReason}
+use Rattle.builder_model.specs.Event.{ArrivesAt}
+use Rattle.builder_model.specs.Fact.{Fact}
+use Rattle.builder_model.specs.Reason.{WantReason}
 use Rattle.cfg_model.proofs.Program.ChainFacts.{chain_on}
 use Rattle.work_ops.proofs.EndsTold.{ends_then, ends_same, ends_come, moved_before}
 use Rattle.work_ops.proofs.GoingOn.{goes_on}

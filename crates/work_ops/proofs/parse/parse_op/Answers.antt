@@ -1,7 +1,7 @@
 use Rattle.std.proofs.Common.{subst}
-use Rattle.cfg_model.specs.Builder.State.{EndMap, IsNear}
-use Rattle.cfg_model.specs.Builder.Event.{ArrivesAt}
-use Rattle.cfg_model.specs.Builder.Fact.{Fact}
+use Rattle.builder_model.specs.State.{EndMap, IsNear}
+use Rattle.builder_model.specs.Event.{ArrivesAt}
+use Rattle.builder_model.specs.Fact.{Fact}
 use Rattle.work_ops.proofs.GoingOn.{always, runs_then}
 use Rattle.work_ops.proofs.EndsTold.{ends_back, ends_come, ends_same, arrived_once}
 use Rattle.work_ops.proofs.Reasons.{leader_stands}

@@ -1,6 +1,6 @@
 use Rattle.std.proofs.Common.{subst}
-use Rattle.cfg_model.specs.Builder.Event.{Event}
-use Rattle.cfg_model.specs.Builder.Fact.{Fact}
+use Rattle.builder_model.specs.Event.{Event}
+use Rattle.builder_model.specs.Fact.{Fact}
 use Rattle.cfg_model.proofs.Program.ChainEnds.{one_end}
 use Rattle.work_ops.proofs.GoingOn.{always, changes, finds, goes_on}
 use Rattle.work_ops.proofs.EndsTold.{ends_call, ends_then, ends_same, term_leaves, parsed_leaves}

@@ -1,12 +1,12 @@
 use Rattle.std.proofs.Common.{subst}
 use Rattle.core_state.specs.declared.answer.Arrival.{Arrival}
-use Rattle.cfg_model.specs.Builder.Event.{Event, ArrivesAt}
-use Rattle.cfg_model.specs.Builder.Fact.{Fact}
-use Rattle.cfg_model.specs.Builder.Reason.{WantReason}
+use Rattle.builder_model.specs.Event.{Event, ArrivesAt}
+use Rattle.builder_model.specs.Fact.{Fact}
+use Rattle.builder_model.specs.Reason.{WantReason}
 use Rattle.core_state.specs.Place.{near_after}
 use Rattle.std.proofs.Common.{sym, ap, ◌∙◌}
 use Rattle.std.proofs.lemmas.Result.{on_ok_weaker}
-use Rattle.cfg_model.specs.Builder.State.{EndMap, IsNear, IsStart}
+use Rattle.builder_model.specs.State.{EndMap, IsNear, IsStart}
 use Rattle.work_ops.proofs.GoingOn.{changes, finds, goes_on, always}
 use Rattle.work_ops.proofs.EndsTold.{ends_back, ends_then, ends_same, ends_gone, arrived, arrived_there}
 use Rattle.work_ops.proofs.parts.arrive_at.Goals as goal

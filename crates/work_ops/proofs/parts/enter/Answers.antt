@@ -1,4 +1,4 @@
-use Rattle.cfg_model.specs.Builder.Event.{Event}
+use Rattle.builder_model.specs.Event.{Event}
 use Rattle.work_ops.proofs.GoingOn.{changes}
 use Rattle.work_ops.proofs.parts.enter.Goals as goal
 

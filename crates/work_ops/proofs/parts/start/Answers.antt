@@ -1,4 +1,4 @@
-use Rattle.cfg_model.specs.Builder.Event.{Event}
+use Rattle.builder_model.specs.Event.{Event}
 use Rattle.work_ops.proofs.GoingOn.{changes, goes_on}
 use Rattle.work_ops.proofs.EndsTold.{ends_call, ends_then, ends_same, want_leaves}
 use Rattle.work_ops.proofs.parts.start.Goals as goal

@@ -1,5 +1,5 @@
 use Rattle.work_ops.proofs.GoingOn.{goes_on}
-use Rattle.cfg_model.specs.Builder.Reason.{WantReason, EndsAStart}
+use Rattle.builder_model.specs.Reason.{WantReason, EndsAStart}
 use Rattle.work_ops.proofs.Reasons.{past_reason}
 use Rattle.work_ops.proofs.tell.go_past.Goals as goal
 

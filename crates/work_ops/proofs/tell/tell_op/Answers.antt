@@ -1,4 +1,4 @@
-use Rattle.cfg_model.specs.Builder.Fact.{Fact}
+use Rattle.builder_model.specs.Fact.{Fact}
 use Rattle.work_ops.proofs.GoingOn.{runs_none}
 use Rattle.std.proofs.lemmas.Result.{on_ok_weaker}
 use Rattle.work_ops.proofs.Told.{tells, tells_none}

@@ -3,7 +3,7 @@ use Rattle.std.specs.Prelude.{Some}
 use Rattle.std.proofs.lemmas.Option.{MatchOption-at_some}
 use Rattle.cfg_model.specs.declared.flow.Flow.TheVariants.{Straight}
 use Rattle.cfg_model.specs.Program.Chain.{OnChain}
-use Rattle.cfg_model.specs.Builder.Fact.{Fact}
+use Rattle.builder_model.specs.Fact.{Fact}
 use Rattle.cfg_model.proofs.Program.ChainFacts.{chain_on}
 use Rattle.work_ops.proofs.GoingOn.{rests, goes_on}
 use Rattle.work_ops.proofs.walk.before_start.Goals as goal

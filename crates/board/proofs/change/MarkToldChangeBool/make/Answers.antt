@@ -1,6 +1,6 @@
 use Rattle.std.proofs.Common.{refl}
-use Rattle.cfg_model.specs.Builder.Event.{Event}
-use Rattle.cfg_model.specs.Builder.Fact.{Fact}
+use Rattle.builder_model.specs.Event.{Event}
+use Rattle.builder_model.specs.Fact.{Fact}
 use Rattle.core_state.proofs.TermChanges.{waits_entered}
 use Rattle.board.proofs.Due.{due_reads}
 use Rattle.board.proofs.change.MarkToldChangeBool.make.Goals as goal

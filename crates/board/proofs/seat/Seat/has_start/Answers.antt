@@ -1,6 +1,6 @@
 use Rattle.std.proofs.Common.{refl}
-use Rattle.cfg_model.specs.Builder.Fact.{Fact}
-use Rattle.cfg_model.specs.Builder.Shard.{Shard, shard_of}
+use Rattle.builder_model.specs.Fact.{Fact}
+use Rattle.builder_model.specs.Shard.{Shard, shard_of}
 use Rattle.board.proofs.Due.{is_there}
 use Rattle.board.proofs.Looks.{start_known}
 use Rattle.board.proofs.seat.Seat.has_start.Goals as goal

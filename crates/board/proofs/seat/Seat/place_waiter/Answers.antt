@@ -1,6 +1,6 @@
 use Rattle.std.proofs.Common.{refl}
-use Rattle.cfg_model.specs.Builder.Event.{Event}
-use Rattle.cfg_model.specs.Builder.Fact.{Fact}
+use Rattle.builder_model.specs.Event.{Event}
+use Rattle.builder_model.specs.Fact.{Fact}
 use Rattle.board.proofs.Due.{not_due}
 use Rattle.board.proofs.Looks.{due_returned}
 use Rattle.board.proofs.seat.Seat.place_waiter.Goals as goal

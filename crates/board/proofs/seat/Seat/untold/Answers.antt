@@ -1,7 +1,7 @@
 use Rattle.std.proofs.Common.{List, Option, None, get_or, sym, ap, ◌∙◌, subst}
 use Rattle.std.specs.Prelude.{IsSome}
 use Rattle.core_state.specs.declared.answer.ShardKind.TheVariants.{Terms}
-use Rattle.cfg_model.specs.Builder.Shard.{Shard, shard_of}
+use Rattle.builder_model.specs.Shard.{Shard, shard_of}
 use Rattle.core_state.specs.Reads.{IsNextToTell}
 use Rattle.board.specs.Slots.{shard_at, slot_of}
 use Rattle.board.specs.Seat.{Notes, Values, HasSlot}

@@ -1,8 +1,8 @@
 use Rattle.std.proofs.Common.{sym, ap, ◌∙◌, subst}
 use Rattle.std.specs.Mem.Slots.{slots_counts}
 use Rattle.board.specs.Locks.Share.{IsWhole}
-use Rattle.cfg_model.specs.Builder.Fact.{Holds}
-use Rattle.cfg_model.specs.Builder.Kept.{IsKept}
+use Rattle.builder_model.specs.Fact.{Holds}
+use Rattle.builder_model.specs.Kept.{IsKept}
 use Rattle.board.specs.Seat.{HasSlot, Knows}
 use Rattle.board.proofs.Ends.{closes}
 use Rattle.board.proofs.table.Board.close.Goals as goal

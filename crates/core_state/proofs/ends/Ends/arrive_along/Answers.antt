@@ -2,10 +2,10 @@ use Rattle.std.proofs.Common.{refl, sym, ap, subst, ◌∙◌, ◌≡◌, ℕ}
 use Rattle.std.specs.Prelude.{Some, None}
 use Rattle.std.specs.FinMap as maps
 use Rattle.std.proofs.lemmas.Result.{IfOk-weaker, on_ok_weaker, on_err_weaker}
-use Rattle.cfg_model.specs.Builder.State.{IsNear, near_at}
-use Rattle.cfg_model.specs.Builder.Event.{ArrivesAt}
-use Rattle.cfg_model.proofs.Builder.MapFacts.{insert_again}
-use Rattle.cfg_model.proofs.Builder.StateReads.{near_here}
+use Rattle.builder_model.specs.State.{IsNear, near_at}
+use Rattle.builder_model.specs.Event.{ArrivesAt}
+use Rattle.cfg_model.proofs.Program.MapFacts.{insert_again}
+use Rattle.builder_model.proofs.StateReads.{near_here}
 use Rattle.core_state.specs.declared.answer.Arrival.TheVariants.{First}
 use Rattle.core_state.specs.Answer.{arrival_of}
 use Rattle.address_map.proofs.PairsKept.{held, none_before_it, put_there, left_there, has_it}

@@ -1,7 +1,7 @@
 use Rattle.std.proofs.Common.{sym, subst, ◌∙◌, ap}
 use Rattle.std.specs.FinMap as maps
-use Rattle.cfg_model.specs.declared.state.Waiter.{Waiter}
-use Rattle.cfg_model.specs.Builder.Waiter.{waiter_cmp}
+use Rattle.builder_model.specs.declared.state.Waiter.{Waiter}
+use Rattle.builder_model.specs.Waiter.{waiter_cmp}
 use Rattle.core_state.specs.inner.Pairs.{AreRising}
 use Rattle.address_map.specs.Pairs.{over}
 use Rattle.core_state.proofs.WaitersKept.{Row, put_over, put_kept}

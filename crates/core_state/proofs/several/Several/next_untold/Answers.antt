@@ -1,7 +1,7 @@
 use Rattle.std.proofs.Common.{sym, subst, ◌≡◌, false}
 use Rattle.std.specs.Prelude.{Some}
 use Rattle.std.specs.FinMap.{find}
-use Rattle.cfg_model.specs.Builder.Waiter.{waiter_cmp}
+use Rattle.builder_model.specs.Waiter.{waiter_cmp}
 use Rattle.core_state.specs.Least.{IsLeastBy}
 use Rattle.core_state.specs.inner.Waiting.{AwaitsTelling}
 use Rattle.core_state.proofs.WaitersKept.{Row, least_of_all}

@@ -1,5 +1,5 @@
 use Rattle.std.proofs.Common.{true, sym, ap, subst, ◌∙◌, ◌<◌}
-use Rattle.cfg_model.specs.Builder.Waiter.{waiter_cmp}
+use Rattle.builder_model.specs.Waiter.{waiter_cmp}
 use Rattle.address_map.specs.Pairs.{IsFirstAt, over}
 use Rattle.core_state.specs.inner.Pairs.{IsGapAt}
 use Rattle.core_state.specs.inner.Waiting.{WaiterMap, AreAway}

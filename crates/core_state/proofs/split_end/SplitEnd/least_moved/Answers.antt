@@ -2,7 +2,7 @@ use Rattle.std.proofs.Common.{subst}
 use Rattle.std.specs.Prelude.{IsTrue}
 use Rattle.std.specs.Cmp.{nat_cmp_total}
 use Rattle.std.specs.FinSet as sets
-use Rattle.cfg_model.specs.Builder.State.{EndEntry}
+use Rattle.builder_model.specs.State.{EndEntry}
 use Rattle.core_state.specs.Least.{IsLeast}
 use Rattle.core_state.proofs.LeastFirst.{least_of_first, least_number}
 use Rattle.core_state.proofs.split_end.SplitEnd.least_moved.Goals as goal

@@ -1,6 +1,6 @@
 use Rattle.std.proofs.Common.{ap, ◌∙◌}
 use Rattle.std.specs.FinSet as sets
-use Rattle.cfg_model.specs.Builder.State.{EndEntry}
+use Rattle.builder_model.specs.State.{EndEntry}
 use Rattle.core_state.proofs.Displaced.{remove_one}
 use Rattle.core_state.proofs.split_end.SplitEnd.settle.Goals as goal
 

@@ -1,4 +1,4 @@
-use Rattle.cfg_model.specs.Builder.State.{IsStart}
+use Rattle.builder_model.specs.State.{IsStart}
 use Rattle.core_state.proofs.StartsPassed.{passes, all_passed}
 use Rattle.core_state.proofs.starts.Starts.all.Goals as goal
 

@@ -1,5 +1,5 @@
 use Rattle.std.proofs.Common.{◌-◌, ◌^◌}
-use Rattle.cfg_model.specs.Builder.State.{IsStart}
+use Rattle.builder_model.specs.State.{IsStart}
 use Rattle.core_state.proofs.StartsPassed.{ArePassed, passed}
 use Rattle.core_state.proofs.starts.Starts.all.Given as goal
 

@@ -1,6 +1,6 @@
 use Rattle.std.proofs.Common.{ap, sym, ◌∙◌}
 use Rattle.std.specs.Prelude.{is_some}
-use Rattle.cfg_model.specs.declared.state.Mark.TheVariants as marks
+use Rattle.builder_model.specs.declared.state.Mark.TheVariants as marks
 use Rattle.core_state.proofs.LineStarts.{has_line, of_line, still_lines, rewrite}
 use Rattle.core_state.proofs.StartChanges.{parsed_here}
 use Rattle.core_state.proofs.starts.Starts.parsed.Goals as goal

@@ -3,7 +3,7 @@ use Rattle.std.specs.Prelude.{is_some}
 use Rattle.std.specs.Option.{option_and_then}
 use Rattle.std.specs.Ordering.{nat_cmp}
 use Rattle.std.specs.FinMap as maps
-use Rattle.cfg_model.specs.declared.state.Mark.TheVariants as marks
+use Rattle.builder_model.specs.declared.state.Mark.TheVariants as marks
 use Rattle.address_map.proofs.PairsKept.{added_new}
 use Rattle.core_state.specs.declared.line.Line.{Line}
 use Rattle.core_state.specs.inner.Lines.{starts_of, mark_in, AreLines}

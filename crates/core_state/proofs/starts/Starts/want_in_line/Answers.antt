@@ -1,6 +1,6 @@
 use Rattle.std.proofs.Common.{sym, subst, ◌∙◌}
-use Rattle.cfg_model.specs.declared.state.Mark.TheVariants as marks
-use Rattle.cfg_model.specs.Builder.State.{StartMap}
+use Rattle.builder_model.specs.declared.state.Mark.TheVariants as marks
+use Rattle.builder_model.specs.State.{StartMap}
 use Rattle.core_state.specs.Line.{IsNextInLine}
 use Rattle.core_state.proofs.LineStarts.{no_line, none_there, next_there, still_lines, rewrite, new_start, known_start}
 use Rattle.core_state.proofs.LineStarts.{answer_new, answer_old, marked, unmarked, none_behind, next_put}

@@ -2,8 +2,8 @@ use Rattle.std.proofs.Common.{ap, refl, sym, subst, ◌∙◌}
 use Rattle.std.specs.Prelude.{Option}
 use Rattle.std.specs.Option.{option_map}
 use Rattle.std.specs.FinMap as maps
-use Rattle.cfg_model.specs.Builder.State.{EndEntry}
-use Rattle.cfg_model.specs.Builder.Event.{Arrives}
+use Rattle.builder_model.specs.State.{EndEntry}
+use Rattle.builder_model.specs.Event.{Arrives}
 use Rattle.core_state.specs.Answer.{arrival_of}
 use Rattle.core_state.proofs.LocalChanges.{put_local}
 use Rattle.core_state.proofs.OneShard.{end_there, ends_kept, ends_changed, end_then}

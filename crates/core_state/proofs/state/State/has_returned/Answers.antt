@@ -1,6 +1,6 @@
 use Rattle.std.proofs.Common.{ap, ◌∙◌}
 use Rattle.std.specs.Option.{option_map}
-use Rattle.cfg_model.specs.Builder.State.{TerminatorEntry}
+use Rattle.builder_model.specs.State.{TerminatorEntry}
 use Rattle.core_state.proofs.OneShard.{term_there}
 use Rattle.core_state.proofs.state.State.has_returned.Goals as goal
 

@@ -1,6 +1,6 @@
 use Rattle.std.proofs.Common.{ap, sym, ◌∙◌}
 use Rattle.std.specs.Prelude.{is_some}
-use Rattle.cfg_model.specs.Builder.Event.{entry_with_told}
+use Rattle.builder_model.specs.Event.{entry_with_told}
 use Rattle.core_state.proofs.LocalChanges.{change_local}
 use Rattle.core_state.proofs.TermChanges.{left_as}
 use Rattle.core_state.proofs.OneShard.{term_there, terms_kept, terms_changed, term_then}

@@ -2,7 +2,7 @@ use Rattle.std.proofs.Common.{subst}
 use Rattle.std.specs.Prelude.{Option, IsTrue}
 use Rattle.std.specs.Option.{option_map_or}
 use Rattle.std.specs.FinSet as sets
-use Rattle.cfg_model.specs.Builder.State.{EndEntry}
+use Rattle.builder_model.specs.State.{EndEntry}
 use Rattle.core_state.specs.Least.{IsLeast}
 use Rattle.core_state.proofs.OneShard.{end_there}
 use Rattle.core_state.proofs.state.State.moved.Goals as goal

@@ -1,6 +1,6 @@
 use Rattle.std.proofs.Common.{ap, ◌∙◌}
 use Rattle.std.specs.Option.{option_map}
-use Rattle.cfg_model.specs.Builder.State.{EndEntry}
+use Rattle.builder_model.specs.State.{EndEntry}
 use Rattle.core_state.proofs.OneShard.{end_there}
 use Rattle.core_state.proofs.state.State.near.Goals as goal
 

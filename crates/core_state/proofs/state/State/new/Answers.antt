@@ -1,5 +1,5 @@
 use Rattle.std.proofs.Common.{◌≡◌, ◌∙◌}
-use Rattle.cfg_model.specs.Builder.State.{empty_state}
+use Rattle.builder_model.specs.State.{empty_state}
 use Rattle.core_state.proofs.Shards.{empty_shards, empty_joined}
 use Rattle.core_state.proofs.state.State.new.Goals as goal
 

@@ -2,8 +2,8 @@ use Rattle.std.proofs.Common.{ap, subst, ◌∙◌}
 use Rattle.std.specs.Prelude.{Option, IsSome, IsTrue, is_some, false, ◌↔◌}
 use Rattle.std.specs.Option.{option_map_or}
 use Rattle.std.specs.FinMap as maps
-use Rattle.cfg_model.specs.Builder.State.{TerminatorEntry}
-use Rattle.cfg_model.specs.Builder.Event.{entry_with_waiter}
+use Rattle.builder_model.specs.State.{TerminatorEntry}
+use Rattle.builder_model.specs.Event.{entry_with_waiter}
 use Rattle.core_state.proofs.LocalChanges.{change_local}
 use Rattle.core_state.proofs.OneShard.{term_there, terms_kept, terms_changed}
 use Rattle.core_state.proofs.state.State.place_waiter.Goals as goal

@@ -1,8 +1,8 @@
 use Rattle.std.proofs.Common.{ap, subst, ◌∙◌}
 use Rattle.std.specs.Prelude.{Option, IsTrue, is_some, false, ◌↔◌}
 use Rattle.std.specs.Option.{option_map_or}
-use Rattle.cfg_model.specs.Builder.State.{TerminatorEntry}
-use Rattle.cfg_model.specs.Builder.Event.{entry_with_return}
+use Rattle.builder_model.specs.State.{TerminatorEntry}
+use Rattle.builder_model.specs.Event.{entry_with_return}
 use Rattle.core_state.proofs.LocalChanges.{change_local}
 use Rattle.core_state.proofs.OneShard.{term_there, terms_kept, terms_changed}
 use Rattle.core_state.proofs.state.State.returned.Goals as goal

@@ -1,6 +1,6 @@
 use Rattle.std.proofs.Common.{subst}
 use Rattle.std.specs.Prelude.{Option, IsSome, IsTrue, ◌↔◌}
-use Rattle.cfg_model.specs.Builder.State.{TerminatorEntry}
+use Rattle.builder_model.specs.State.{TerminatorEntry}
 use Rattle.core_state.proofs.LocalChanges.{term_local}
 use Rattle.core_state.proofs.OneShard.{term_there, terms_kept, terms_changed}
 use Rattle.core_state.proofs.state.State.term.Goals as goal

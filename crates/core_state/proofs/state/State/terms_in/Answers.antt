@@ -1,7 +1,7 @@
 use Rattle.std.proofs.Common.{◌≡◌, Some, ap}
 use Rattle.std.specs.Option.{option_map}
 use Rattle.std.proofs.lemmas.Result.{IfOk-weaker}
-use Rattle.cfg_model.specs.Builder.State.{TerminatorEntry}
+use Rattle.builder_model.specs.State.{TerminatorEntry}
 use Rattle.core_state.specs.Counted.{CountedState}
 use Rattle.core_state.proofs.ShardRead.{through, in_shard, has_status}
 use Rattle.core_state.proofs.state.State.terms_in.Goals as goal

@@ -1,4 +1,4 @@
-use Rattle.cfg_model.specs.Builder.Event.{entry_with_told}
+use Rattle.builder_model.specs.Event.{entry_with_told}
 use Rattle.core_state.proofs.LocalChanges.{change_local}
 use Rattle.core_state.proofs.OneShard.{terms_kept, terms_changed}
 use Rattle.core_state.proofs.state.State.told.Goals as goal

@@ -1,6 +1,6 @@
 use Rattle.std.proofs.Common.{subst}
 use Rattle.std.specs.Prelude.{Option, IsSome, IsTrue, ◌↔◌}
-use Rattle.cfg_model.specs.declared.state.Mark.{Mark}
+use Rattle.builder_model.specs.declared.state.Mark.{Mark}
 use Rattle.core_state.proofs.LocalChanges.{want_local}
 use Rattle.core_state.proofs.OneShard.{start_there, starts_kept, starts_changed}
 use Rattle.core_state.proofs.state.State.want.Goals as goal

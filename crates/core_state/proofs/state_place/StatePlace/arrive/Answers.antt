@@ -2,7 +2,7 @@ use Rattle.std.proofs.Common.{arith, refl, sym, subst}
 use mathlib.Core.Logic.{inl}
 use Rattle.cfg_model.specs.Program.Instructions.{InstructionMap}
 use Rattle.cfg_model.specs.Program.Chain.{OnChain}
-use Rattle.cfg_model.specs.Builder.Event.{Event, Steps}
+use Rattle.builder_model.specs.Event.{Event, Steps}
 use Rattle.core_state.proofs.StatePlace.{makes, keeps, brings, remembers, arrived_near}
 use Rattle.core_state.proofs.state_place.StatePlace.arrive.Goals as goal
 

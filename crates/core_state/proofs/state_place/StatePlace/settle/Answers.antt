@@ -1,5 +1,5 @@
 use Rattle.std.proofs.Common.{arith}
-use Rattle.cfg_model.specs.Builder.Event.{Event}
+use Rattle.builder_model.specs.Event.{Event}
 use Rattle.core_state.proofs.StatePlace.{makes, keeps, remembers}
 use Rattle.core_state.proofs.state_place.StatePlace.settle.Goals as goal
 

@@ -1,5 +1,5 @@
 use Rattle.std.proofs.Common.{arith}
-use Rattle.cfg_model.specs.Builder.Event.{Event}
+use Rattle.builder_model.specs.Event.{Event}
 use Rattle.core_state.proofs.StatePlace.{makes, keeps, brings, remembers}
 use Rattle.core_state.proofs.state_place.StatePlace.term.Goals as goal
 

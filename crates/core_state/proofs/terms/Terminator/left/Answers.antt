@@ -1,5 +1,5 @@
 use Rattle.std.proofs.Common.{sym, ap, ◌∙◌}
-use Rattle.cfg_model.specs.Builder.State.{TerminatorEntry}
+use Rattle.builder_model.specs.State.{TerminatorEntry}
 use Rattle.core_state.specs.inner.Remaining.{LeftAtTerminator}
 use Rattle.core_state.proofs.AtEntries.{terminator_undone, terminator_free}
 use Rattle.core_state.proofs.terms.Terminator.left.Goals as goal

@@ -1,7 +1,7 @@
 use Rattle.std.proofs.Common.{sym, ap, ◌∙◌}
 use Rattle.std.specs.Prelude.{Some, None}
 use Rattle.std.specs.Option.{option_copied}
-use Rattle.cfg_model.specs.Builder.State.{TerminatorEntry}
+use Rattle.builder_model.specs.State.{TerminatorEntry}
 use Rattle.core_state.proofs.TermChanges.{read}
 use Rattle.core_state.proofs.terms.Terms.done.Goals as goal
 

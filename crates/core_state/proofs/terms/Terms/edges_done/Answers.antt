@@ -1,7 +1,7 @@
 use Rattle.std.proofs.Common.{ap, ◌∙◌}
 use Rattle.std.specs.Prelude.{is_some}
 use Rattle.std.specs.FinMap as maps
-use Rattle.cfg_model.specs.Builder.Event.{entry_with_done}
+use Rattle.builder_model.specs.Event.{entry_with_done}
 use Rattle.core_state.proofs.TermChanges.{changes}
 use Rattle.core_state.proofs.terms.Terms.edges_done.Goals as goal
 

@@ -2,8 +2,8 @@ use Rattle.std.proofs.Common.{ap, ◌∙◌}
 use Rattle.std.specs.Prelude.{is_some}
 use Rattle.std.specs.FinMap as maps
 use Rattle.std.proofs.lemmas.Result.{IfOk-weaker, on_ok_weaker, on_err_weaker}
-use Rattle.cfg_model.specs.Builder.Event.{entry_with_waiter}
-use Rattle.cfg_model.proofs.Builder.MapFacts.{insert_again}
+use Rattle.builder_model.specs.Event.{entry_with_waiter}
+use Rattle.cfg_model.proofs.Program.MapFacts.{insert_again}
 use Rattle.core_state.proofs.TermChanges.{changes, newly_due}
 use Rattle.core_state.proofs.terms.Terms.place_waiter.Goals as goal
 

@@ -1,6 +1,6 @@
 use Rattle.std.proofs.Common.{sym, ap, ◌∙◌}
 use Rattle.std.specs.Prelude.{is_some}
-use Rattle.cfg_model.specs.Builder.Event.{entry_with_told}
+use Rattle.builder_model.specs.Event.{entry_with_told}
 use Rattle.address_map.proofs.PairsKept.{none_copied, some_copied}
 use Rattle.core_state.proofs.TermChanges.{changes, changes_none}
 use Rattle.core_state.proofs.terms.Terms.told.Goals as goal

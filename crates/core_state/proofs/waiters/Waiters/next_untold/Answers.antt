@@ -1,7 +1,7 @@
 use Rattle.std.proofs.Common.{[], ◌∷◌, sym, subst}
 use Rattle.std.specs.Prelude.{Option, None}
-use Rattle.cfg_model.specs.declared.state.Waiter.{Waiter}
-use Rattle.cfg_model.specs.Builder.Waiter.{waiter_cmp}
+use Rattle.builder_model.specs.declared.state.Waiter.{Waiter}
+use Rattle.builder_model.specs.Waiter.{waiter_cmp}
 use Rattle.core_state.specs.Least.{IsLeastBy}
 use Rattle.core_state.specs.inner.InPlace.{pair_of}
 use Rattle.core_state.specs.inner.Waiting.{AwaitsTelling, lesser_by}

@@ -1,6 +1,6 @@
 use Rattle.std.proofs.Common.{[], ◌∷◌, ◌≡◌, Bool, ap, ◌∙◌}
 use Rattle.std.specs.FinMap as maps
-use Rattle.cfg_model.specs.declared.state.Waiter.{Waiter}
+use Rattle.builder_model.specs.declared.state.Waiter.{Waiter}
 use Rattle.core_state.specs.declared.waiters.Kept.TheVariants.{Nobody}
 use Rattle.core_state.specs.declared.waiters.Waiters.TheInside.{Inside}
 use Rattle.core_state.specs.inner.InPlace.{pair_of}

@@ -1,6 +1,6 @@
 use Rattle.std.proofs.Common.{[], ◌∷◌, Bool, false, refl, sym, ap, ◌∙◌}
 use Rattle.std.specs.FinMap as maps
-use Rattle.cfg_model.specs.declared.state.Waiter.{Waiter}
+use Rattle.builder_model.specs.declared.state.Waiter.{Waiter}
 use Rattle.core_state.specs.inner.InPlace.{pair_of}
 use Rattle.address_map.specs.Pairs.{over}
 use Rattle.core_state.proofs.InPlace.{seen_as, apart_as, put_in_place, put_elsewhere, has_in_place, has_one, has_first, has_second}

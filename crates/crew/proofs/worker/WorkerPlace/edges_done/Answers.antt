@@ -1,5 +1,5 @@
 use Rattle.std.proofs.Common.{◌∙◌}
-use Rattle.cfg_model.specs.Builder.Event.{Event}
+use Rattle.builder_model.specs.Event.{Event}
 use Rattle.core_state.specs.declared.answer.ShardKind.TheVariants.{Terms}
 use Rattle.crew.proofs.Reasons.{seat_reason}
 use Rattle.crew.proofs.Losing.{change_tried}

@@ -2,7 +2,7 @@ use Rattle.std.proofs.lemmas.Result.{err_from_is_err_and}
 use Rattle.core_state.specs.declared.answer.ShardKind.TheVariants.{Terms}
 use Rattle.crew.proofs.Losing.{change_tried}
 use Rattle.std.proofs.Common.{◌∙◌}
-use Rattle.cfg_model.specs.Builder.Event.{Event}
+use Rattle.builder_model.specs.Event.{Event}
 use Rattle.crew.proofs.Caching.{desk_after, stays_at, still_cached, waiter_cached, returning_cached}
 use Rattle.crew.proofs.Reasons.{seat_reason}
 use Rattle.crew.proofs.worker.WorkerPlace.place_waiter.Goals as goal

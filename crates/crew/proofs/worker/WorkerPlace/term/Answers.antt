@@ -1,6 +1,6 @@
 use Rattle.std.proofs.lemmas.Result.{err_from_is_err_and}
 use Rattle.std.proofs.Common.{◌∙◌}
-use Rattle.cfg_model.specs.Builder.Event.{Event}
+use Rattle.builder_model.specs.Event.{Event}
 use Rattle.core_state.specs.declared.answer.ShardKind.TheVariants.{Terms}
 use Rattle.crew.proofs.Losing.{change_tried}
 use Rattle.crew.proofs.Caching.{desk_after, stays_at, still_cached, terminator_cached}

@@ -1,6 +1,6 @@
 use Rattle.std.proofs.Common.{subst, ◌∙◌}
 use Rattle.std.specs.Prelude.{Option, IfSome}
-use Rattle.cfg_model.specs.declared.state.Waiter.{Waiter}
+use Rattle.builder_model.specs.declared.state.Waiter.{Waiter}
 use Rattle.crew.specs.inner.Known.{IsPlaced}
 use Rattle.crew.proofs.Losing.{all_told}
 use Rattle.crew.proofs.Caching.{desk_after, fewer_cached}

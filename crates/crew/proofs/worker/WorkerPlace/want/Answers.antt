@@ -1,5 +1,5 @@
 use Rattle.std.proofs.Common.{◌∙◌}
-use Rattle.cfg_model.specs.Builder.Event.{Event}
+use Rattle.builder_model.specs.Event.{Event}
 use Rattle.crew.proofs.Caching.{desk_after, stays_at, still_cached, start_cached, next_cached, next_is_true}
 use Rattle.crew.proofs.Reasons.{seat_reason}
 use Rattle.crew.proofs.worker.WorkerPlace.want.Goals as goal
