@@ -23,8 +23,8 @@ class Made(unittest.TestCase):
         self.assertNotEqual(texts[0], texts[2])
 
     def test_operations(self) -> None:
-        self.assertEqual(len(TOOL.OPERATIONS), 86)
-        self.assertTrue({"mulhsu", "amomaxu.d", "lr.w", "sc.d", "jalr", "fence", "fence.i", "lui"} <= TOOL.OPERATIONS)
+        self.assertEqual(len(TOOL.OPERATIONS), 126)
+        self.assertTrue({"mulhsu", "amomaxu.d", "lr.w", "sc.d", "jalr", "fence", "fence.i", "lui", "sh3add.uw", "roriw", "orc.b"} <= TOOL.OPERATIONS)
         self.assertFalse({"ecall", "ebreak", "csrrw", "fld"} & TOOL.OPERATIONS)
 
     def test_an_sc_comes_right_after_its_lr(self) -> None:
@@ -76,7 +76,7 @@ print("\\n".join(lines) + "\\ntrap Ecall")
     def test_the_same(self) -> None:
         status, said = self.said_of(self.machine(""))
         self.assertEqual((status, said[-1]), (0, "0 differences"))
-        self.assertRegex(said[0], r"^1 programs, \d+ steps; \d+ of 86 operations were executed, \d+ of them in compressed forms too$")
+        self.assertRegex(said[0], r"^1 programs, \d+ steps; \d+ of 126 operations were executed, \d+ of them in compressed forms too$")
 
     def test_different(self) -> None:
         status, said = self.said_of(self.machine("lines[50] = lines[50][:-1] + ('1' if lines[50][-1] == '0' else '0')"), "-o", str(self.folder / "kept"))

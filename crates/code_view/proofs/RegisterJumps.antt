@@ -95,6 +95,7 @@ module _ (bytes : List ℕ) (a : ℕ) where
   insn-none (insns.Float rd rs1) never = refl
   insn-none (insns.ShiftAdd shift zero_extended rd rs1 rs2) never = refl
   insn-none (insns.Extend kind rd rs1) never = refl
+  insn-none (insns.Unary kind rd rs1) never = refl
   insn-none (insns.Extension reads writes) never = refl
   insn-none (insns.Away kind reads writes) never = away-none kind
   insn-none (insns.Vendor kind shift rd rs1 rs2) never = refl

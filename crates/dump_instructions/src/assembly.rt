@@ -5,7 +5,7 @@
 
 use rv_decode::{
     AtomicKind, AwayKind, BranchKind, CsrKind, ExtendKind, ImmKind, ImmWKind, Insn, LoadKind,
-    RegKind, RegWKind, StoreKind, VendorKind,
+    RegKind, RegWKind, StoreKind, UnaryKind, VendorKind,
 };
 use std::fmt;
 
@@ -83,6 +83,7 @@ impl fmt::Display for Assembly {
                 write!(f, "shiftadd{width} x{rd},x{rs1},x{rs2},{shift}")
             }
             Insn::Extend { kind, rd, rs1 } => write!(f, "{} x{rd},x{rs1}", extend_name(kind)),
+            Insn::Unary { kind, rd, rs1 } => write!(f, "{} x{rd},x{rs1}", unary_name(kind)),
             Insn::Extension { reads, writes } => write!(f, "extension {reads:08x},{writes:08x}"),
             Insn::Away {
                 kind,
@@ -173,6 +174,11 @@ fn imm_name(kind: ImmKind) -> &'static str {
         ImmKind::Slli => "slli",
         ImmKind::Srli => "srli",
         ImmKind::Srai => "srai",
+        ImmKind::Rori => "rori",
+        ImmKind::Bclri => "bclri",
+        ImmKind::Bexti => "bexti",
+        ImmKind::Binvi => "binvi",
+        ImmKind::Bseti => "bseti",
     }
 }
 
@@ -182,6 +188,7 @@ fn imm_w_name(kind: ImmWKind) -> &'static str {
         ImmWKind::Slliw => "slliw",
         ImmWKind::Srliw => "srliw",
         ImmWKind::Sraiw => "sraiw",
+        ImmWKind::Roriw => "roriw",
     }
 }
 
@@ -205,6 +212,21 @@ fn reg_name(kind: RegKind) -> &'static str {
         RegKind::Divu => "divu",
         RegKind::Rem => "rem",
         RegKind::Remu => "remu",
+        RegKind::Andn => "andn",
+        RegKind::Orn => "orn",
+        RegKind::Xnor => "xnor",
+        RegKind::Max => "max",
+        RegKind::Maxu => "maxu",
+        RegKind::Min => "min",
+        RegKind::Minu => "minu",
+        RegKind::Rol => "rol",
+        RegKind::Ror => "ror",
+        RegKind::Bclr => "bclr",
+        RegKind::Bext => "bext",
+        RegKind::Binv => "binv",
+        RegKind::Bset => "bset",
+        RegKind::CzeroEqz => "czero.eqz",
+        RegKind::CzeroNez => "czero.nez",
     }
 }
 
@@ -220,6 +242,8 @@ fn reg_w_name(kind: RegWKind) -> &'static str {
         RegWKind::Divuw => "divuw",
         RegWKind::Remw => "remw",
         RegWKind::Remuw => "remuw",
+        RegWKind::Rolw => "rolw",
+        RegWKind::Rorw => "rorw",
     }
 }
 
@@ -253,6 +277,19 @@ fn extend_name(kind: ExtendKind) -> &'static str {
         ExtendKind::SextB => "sext.b",
         ExtendKind::SextH => "sext.h",
         ExtendKind::ZextH => "zext.h",
+    }
+}
+
+fn unary_name(kind: UnaryKind) -> &'static str {
+    match kind {
+        UnaryKind::Clz => "clz",
+        UnaryKind::Ctz => "ctz",
+        UnaryKind::Cpop => "cpop",
+        UnaryKind::Clzw => "clzw",
+        UnaryKind::Ctzw => "ctzw",
+        UnaryKind::Cpopw => "cpopw",
+        UnaryKind::OrcB => "orc.b",
+        UnaryKind::Rev8 => "rev8",
     }
 }
 

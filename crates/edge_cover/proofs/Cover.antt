@@ -5,11 +5,9 @@ use Rattle.rv_decode.specs.declared.instructions.Insn.{Insn}
 use Rattle.rv_decode.specs.declared.instructions.Insn.TheVariants as insns
 use Rattle.rv_flow.specs.declared.placed.Placed.{Placed}
 use Rattle.rv_flow.specs.Placed.{placed_at}
-use Rattle.rv_flow.specs.Rv64gc.{rv64gc_placed_at}
 use Rattle.rv_flow.specs.declared.raw.RawFlow.{RawFlow}
 use Rattle.rv_flow.specs.declared.raw.RawFlow.TheVariants as raw
 use Rattle.rv_flow.specs.Raw.{raw_flow_by}
-use Rattle.rv_flow.proofs.Stands.{rv64gc_stands}
 use Rattle.jump_table.specs.declared.table.Table.{Table}
 use Rattle.jump_table.specs.Table.{table_at}
 use Rattle.cfg_model.specs.declared.flow.Flow.TheVariants as flows
@@ -21,7 +19,6 @@ use Rattle.code_view.specs.Flow.{flow_by, straight_flow, jump_flow, call_flow, k
 use Rattle.code_view.specs.Program.{program_under}
 use Rattle.code_view.proofs.Lawful.{program-lawful, code_of, length-program, flow-program, placed-end}
 use Rattle.rv_machine.specs.State.{State}
-use Rattle.rv_machine.specs.declared.trap.Trap.{Trap}
 use Rattle.rv_machine.specs.declared.trap.Trap.TheVariants as traps
 use Rattle.rv_machine.specs.Memory.{Bytes}
 use Rattle.rv_machine.specs.Step.{Traps, Goes, advanced, insn_step, placed_step}
@@ -38,30 +35,22 @@ pub record IsMade (bytes : List ℕ) (state after : State) (memory left : Bytes)
   pub insn : Insn
   pub stands : (placed_at bytes state.pc).insn ≡ Some insn
   pub makes : insn_step bytes (placed_at bytes state.pc).length insn state memory ≡ Goes after left
-  pub base : rv64gc_placed_at bytes state.pc ≡ placed_at bytes state.pc
 
 module _ (bytes : List ℕ) (state after : State) (memory left : Bytes) where
-  made_by : (placed : Placed) (otherwise : Trap) (o : Option Insn) → placed.insn ≡ o → placed_step bytes (record placed { insn = o }) otherwise state memory ≡ Goes after left
+  made_by : (placed : Placed) (o : Option Insn) → placed.insn ≡ o → placed_step bytes (record placed { insn = o }) state memory ≡ Goes after left
       → (insn : Insn) × (placed.insn ≡ Some insn) × (insn_step bytes placed.length insn state memory ≡ Goes after left)
-  made_by placed otherwise None is e = cc
-  made_by placed otherwise (Some insn) is e = (insn, is, e)
+  made_by placed None is e = cc
+  made_by placed (Some insn) is e = (insn, is, e)
 
-  made_there : (b : Bool) (otherwise : Trap) → cond b (placed_step bytes (rv64gc_placed_at bytes state.pc) otherwise state memory) (Traps traps.Fetch) ≡ Goes after left
-      → placed_step bytes (rv64gc_placed_at bytes state.pc) otherwise state memory ≡ Goes after left
-  made_there true otherwise e = e
-  made_there false otherwise e = cc
+  made_there : (b : Bool) → cond b (placed_step bytes (placed_at bytes state.pc) state memory) (Traps traps.Fetch) ≡ Goes after left
+      → placed_step bytes (placed_at bytes state.pc) state memory ≡ Goes after left
+  made_there true e = e
+  made_there false e = cc
 
-  -- the instruction of RV64GC that was made is the one that is placed
   pub made : StepsTo bytes state memory after left → IsMade bytes state after memory left
   made steps =
-      let m = made_by (rv64gc_placed_at bytes state.pc) _ (rv64gc_placed_at bytes state.pc).insn refl (made_there (is_code bytes state.pc) _ steps) in
-      let same : rv64gc_placed_at bytes state.pc ≡ placed_at bytes state.pc = rv64gc_stands bytes state.pc m.0 m.1 in
-      record {
-        insn = m.0;
-        stands = ap (λ (p : Placed). p.insn) (sym same) ∙ m.1;
-        makes = subst (λ (p : Placed). insn_step bytes p.length m.0 state memory ≡ Goes after left) same m.2;
-        base = same;
-      }
+      let m = made_by (placed_at bytes state.pc) (placed_at bytes state.pc).insn refl (made_there (is_code bytes state.pc) steps) in
+      record { insn = m.0; stands = m.1; makes = m.2 }
 
 -- where the flow of an instruction alone leads, its flow in its place does too
 module _ (bytes kept : List ℕ) (behind to : ℕ) where

@@ -128,3 +128,4 @@ module _ (bytes : List ℕ) (small : All (λ byte. byte < 256) bytes) (index : �
   by_imm_w immws.Slliw imm value means = tt
   by_imm_w immws.Srliw imm value means = tt
   by_imm_w immws.Sraiw imm value means = tt
+  by_imm_w immws.Roriw imm value means = tt

@@ -123,8 +123,9 @@ module _ (bytes : List ℕ) (b : ℕ) (small : b < 2 ^ 64) (fixed : is_fixed_byt
     insn_keeps insns.Ebreak = tt
     insn_keeps (insns.Csr kind rd source csr) = tt
     insn_keeps (insns.Float writes reads) = tt
-    insn_keeps (insns.ShiftAdd shift zero_extended rd rs1 rs2) = tt
-    insn_keeps (insns.Extend kind rd rs1) = tt
+    insn_keeps (insns.ShiftAdd shift zero_extended rd rs1 rs2) = refl
+    insn_keeps (insns.Extend kind rd rs1) = refl
+    insn_keeps (insns.Unary kind rd rs1) = refl
     insn_keeps (insns.Extension reads writes) = tt
     insn_keeps (insns.Away kind reads writes) = tt
     insn_keeps (insns.Vendor kind shift rd rs1 rs2) = tt

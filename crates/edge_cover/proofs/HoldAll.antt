@@ -10,13 +10,14 @@ use Rattle.rv_decode.specs.declared.instructions.LoadKind.{LoadKind}
 use Rattle.rv_decode.specs.declared.instructions.RegKind.{RegKind}
 use Rattle.rv_decode.specs.declared.instructions.RegKind.TheVariants as regs
 use Rattle.rv_operations.specs.Arithmetic.{sum}
+use Rattle.rv_operations.specs.Bits.{shift_add_result}
 use Rattle.rv_operations.specs.Loads.{load_size}
 use Rattle.rv_operations.specs.Operations.{reg_result}
 use Rattle.rv_flow.specs.Raw.{address_plus}
 use Rattle.jump_table.specs.declared.values.Form.TheVariants.{Bounded}
 use Rattle.jump_table.specs.declared.values.Value.{Value}
 use Rattle.jump_table.specs.declared.values.Value.TheVariants.{Unknown, Const}
-use Rattle.jump_table.specs.Values.{Registers, load_value, reg_value, add_value, sum_of, after}
+use Rattle.jump_table.specs.Values.{Registers, load_value, reg_value, add_value, sum_of, first_part, second_part, shift_add_value, after}
 use Rattle.jump_table.specs.Values as values
 use Rattle.rv_machine.specs.State.{State}
 use Rattle.rv_machine.specs.Registers.{RegisterFile, held, written}
@@ -26,6 +27,7 @@ use Rattle.rv_machine.specs.Access.{read_at, may_store}
 use Rattle.rv_machine.specs.Step.{Outcome, Traps, Goes, gives, load_given, store_then, lr_given, sc_step, amo_given, atomic_aligned, atomic_step, atomic_size, is_reserved, insn_step}
 use Rattle.edge_cover.proofs.Means.{Means, copied, by_imm, by_sum}
 use Rattle.edge_cover.proofs.Entries.{by_load, by_imm_w}
+use Rattle.edge_cover.proofs.Added.{first_is, second_is, extend_is}
 
 -- each register holds a number that its value allows
 abbrev pub HoldAll : List ℕ → ℕ → Registers → RegisterFile → Type 0
@@ -143,30 +145,64 @@ module _ (bytes : List ℕ) (small : All (λ byte. byte < 256) bytes) (index : �
   reg_keeps bound regs.Divu rs1 rs2 = tt
   reg_keeps bound regs.Rem rs1 rs2 = tt
   reg_keeps bound regs.Remu rs1 rs2 = tt
+  reg_keeps bound regs.Andn rs1 rs2 = tt
+  reg_keeps bound regs.Orn rs1 rs2 = tt
+  reg_keeps bound regs.Xnor rs1 rs2 = tt
+  reg_keeps bound regs.Max rs1 rs2 = tt
+  reg_keeps bound regs.Maxu rs1 rs2 = tt
+  reg_keeps bound regs.Min rs1 rs2 = tt
+  reg_keeps bound regs.Minu rs1 rs2 = tt
+  reg_keeps bound regs.Rol rs1 rs2 = tt
+  reg_keeps bound regs.Ror rs1 rs2 = tt
+  reg_keeps bound regs.Bclr rs1 rs2 = tt
+  reg_keeps bound regs.Bext rs1 rs2 = tt
+  reg_keeps bound regs.Binv rs1 rs2 = tt
+  reg_keeps bound regs.Bset rs1 rs2 = tt
+  reg_keeps bound regs.CzeroEqz rs1 rs2 = tt
+  reg_keeps bound regs.CzeroNez rs1 rs2 = tt
+
+  -- ---- a sum with a register that is shifted
+
+  third_keeps : (value : Value) (x rs2 : ℕ) (second : Bool) → (rs2 == 0) ≡ second → Means bytes index value x
+      → Means bytes index (cond second value (sum_of value (known rs2))) (sum w64 x (held state.registers rs2))
+  third_keeps value x rs2 true is means =
+      subst (λ y. Means bytes index value (sum w64 x y)) (ap (λ b. cond b 0 (state.registers rs2)) (sym is))
+      (subst (λ n. Means bytes index value (n % 2 ^ 64)) (plus_zero x) (copied bytes index below value x means))
+    where
+      plus_zero : (n : ℕ) → n ≡ n + 0
+      plus_zero n = omega arith
+  third_keeps value x rs2 false is means = by_sum bytes index below value (known rs2) x (held state.registers rs2) means (hold rs2)
+
+  shift_add_keeps : (bound amount : ℕ) (zero_extended : Bool) (rs1 rs2 : ℕ)
+      → Means bytes index (shift_add_value (Bounded bound) bytes amount zero_extended known rs1 rs2) (shift_add_result amount zero_extended (held state.registers rs1) (held state.registers rs2))
+  shift_add_keeps bound amount zero_extended rs1 rs2 =
+      third_keeps (second_part (Bounded bound) amount (first_part zero_extended (known rs1))) _ rs2 (rs2 == 0) refl
+      (second_is bytes index below bound amount (first_part zero_extended (known rs1)) _ (first_is bytes index below zero_extended (known rs1) (held state.registers rs1) (hold rs1)))
 
   -- ---- the instructions
 
-  pub step_keeps : (bound : ℕ) (insn : Insn) → KeepsAll bytes index (after (Bounded bound) bytes state.pc insn known) (insn_step bytes length insn state memory)
-  step_keeps bound (insns.Lui rd imm) = by_write rd _ _ refl
-  step_keeps bound (insns.Auipc rd imm) = by_write rd _ _ refl
-  step_keeps bound (insns.Jal rd offset) = unknown rd _
-  step_keeps bound (insns.Jalr rd rs1 imm) = unknown rd _
-  step_keeps bound (insns.Branch kind rs1 rs2 offset) = hold
-  step_keeps bound (insns.Load kind rd rs1 imm) = load_keeps bound kind rd rs1 imm (read_at bytes memory (load_size kind) (address_plus (held state.registers rs1) imm)) refl
-  step_keeps bound (insns.Store kind rs1 rs2 imm) = store_keeps known _ _ _ _ hold
-  step_keeps bound (insns.Imm kind rd rs1 imm) = by_write rd _ _ (by_imm bytes index below bound kind imm (known rs1) (held state.registers rs1) (hold rs1))
-  step_keeps bound (insns.ImmW kind rd rs1 imm) = by_write rd _ _ (by_imm_w bytes small index (held state.registers rs1) kind imm (known rs1) (hold rs1))
-  step_keeps bound (insns.Reg kind rd rs1 rs2) = by_write rd _ _ (reg_keeps bound kind rs1 rs2)
-  step_keeps bound (insns.RegW kind rd rs1 rs2) = unknown rd _
-  step_keeps bound (insns.Atomic kind wide acquire release rd rs1 rs2) = atomic_keeps kind wide rd (held state.registers rs1) (held state.registers rs2)
-  step_keeps bound insns.Fence = hold
-  step_keeps bound insns.FenceI = hold
-  step_keeps bound insns.Ecall = tt
-  step_keeps bound insns.Ebreak = tt
-  step_keeps bound (insns.Csr kind rd source csr) = tt
-  step_keeps bound (insns.Float writes reads) = tt
-  step_keeps bound (insns.ShiftAdd shift zero_extended rd rs1 rs2) = tt
-  step_keeps bound (insns.Extend kind rd rs1) = tt
-  step_keeps bound (insns.Extension reads writes) = tt
-  step_keeps bound (insns.Away kind reads writes) = tt
-  step_keeps bound (insns.Vendor kind shift rd rs1 rs2) = tt
+  pub step_keeps : (bound : ℕ) → index < bound → (insn : Insn) → KeepsAll bytes index (after (Bounded bound) bytes state.pc insn known) (insn_step bytes length insn state memory)
+  step_keeps bound within (insns.Lui rd imm) = by_write rd _ _ refl
+  step_keeps bound within (insns.Auipc rd imm) = by_write rd _ _ refl
+  step_keeps bound within (insns.Jal rd offset) = unknown rd _
+  step_keeps bound within (insns.Jalr rd rs1 imm) = unknown rd _
+  step_keeps bound within (insns.Branch kind rs1 rs2 offset) = hold
+  step_keeps bound within (insns.Load kind rd rs1 imm) = load_keeps bound kind rd rs1 imm (read_at bytes memory (load_size kind) (address_plus (held state.registers rs1) imm)) refl
+  step_keeps bound within (insns.Store kind rs1 rs2 imm) = store_keeps known _ _ _ _ hold
+  step_keeps bound within (insns.Imm kind rd rs1 imm) = by_write rd _ _ (by_imm bytes index below bound kind imm (known rs1) (held state.registers rs1) (hold rs1))
+  step_keeps bound within (insns.ImmW kind rd rs1 imm) = by_write rd _ _ (by_imm_w bytes small index (held state.registers rs1) kind imm (known rs1) (hold rs1))
+  step_keeps bound within (insns.Reg kind rd rs1 rs2) = by_write rd _ _ (reg_keeps bound kind rs1 rs2)
+  step_keeps bound within (insns.RegW kind rd rs1 rs2) = unknown rd _
+  step_keeps bound within (insns.Atomic kind wide acquire release rd rs1 rs2) = atomic_keeps kind wide rd (held state.registers rs1) (held state.registers rs2)
+  step_keeps bound within insns.Fence = hold
+  step_keeps bound within insns.FenceI = hold
+  step_keeps bound within insns.Ecall = tt
+  step_keeps bound within insns.Ebreak = tt
+  step_keeps bound within (insns.Csr kind rd source csr) = tt
+  step_keeps bound within (insns.Float writes reads) = tt
+  step_keeps bound within (insns.ShiftAdd shift zero_extended rd rs1 rs2) = by_write rd _ _ (shift_add_keeps bound shift zero_extended rs1 rs2)
+  step_keeps bound within (insns.Extend kind rd rs1) = by_write rd _ _ (extend_is bytes index below bound within kind (known rs1) (held state.registers rs1) (hold rs1))
+  step_keeps bound within (insns.Unary kind rd rs1) = unknown rd _
+  step_keeps bound within (insns.Extension reads writes) = tt
+  step_keeps bound within (insns.Away kind reads writes) = tt
+  step_keeps bound within (insns.Vendor kind shift rd rs1 rs2) = tt

@@ -9,6 +9,7 @@ pub mod Pairs
 pub mod DataWords
 pub mod Means
 pub mod Entries
+mod Added
 pub mod HoldAll
 pub mod Straight
 pub mod Tested

@@ -104,7 +104,7 @@ module _ (bytes : List ℕ) (index : ℕ) (small : index < 2048) where
       (λ other. subst (λ k. shifted_right w64 n k ≡ 8 * index) (sym (eqb-true by 29 other)) (omega arith))
       (λ _. tt))
 
-  left : (imm : ℤ) (value : Value) (n : ℕ) → Means bytes index value n → Means bytes index (slli_value imm value) (shifted_left w64 n (operand imm))
+  pub left : (imm : ℤ) (value : Value) (n : ℕ) → Means bytes index value n → Means bytes index (slli_value imm value) (shifted_left w64 n (operand imm))
   left (pos by) Index n means = scaled by n means
   left (negsuc by) value n means = tt
   left (pos by) Unknown n means = tt
@@ -140,6 +140,11 @@ module _ (bytes : List ℕ) (index : ℕ) (small : index < 2048) where
   by_imm bound imms.Ori imm value n means = tt
   by_imm bound imms.Andi imm value n means = tt
   by_imm bound imms.Srai imm value n means = tt
+  by_imm bound imms.Rori imm value n means = tt
+  by_imm bound imms.Bclri imm value n means = tt
+  by_imm bound imms.Bexti imm value n means = tt
+  by_imm bound imms.Binvi imm value n means = tt
+  by_imm bound imms.Bseti imm value n means = tt
 
   -- ---- ADD
 

@@ -7,7 +7,6 @@ use Rattle.rv_decode.specs.declared.instructions.Insn.{Insn}
 use Rattle.rv_decode.specs.declared.instructions.Insn.TheVariants as insns
 use Rattle.rv_flow.specs.declared.placed.Placed.{Placed}
 use Rattle.rv_flow.specs.Placed.{placed_at}
-use Rattle.rv_flow.specs.Rv64gc.{rv64gc_placed_at}
 use Rattle.rv_flow.specs.Raw.{insn_flow, raw_flow_by, upper_of}
 use Rattle.rv_flow.specs.declared.raw.RawFlow.{RawFlow}
 use Rattle.rv_flow.specs.declared.raw.RawFlow.TheVariants as raw
@@ -26,7 +25,7 @@ use Rattle.rv_machine.specs.declared.trap.Trap.{Trap}
 use Rattle.rv_machine.specs.declared.trap.Trap.TheVariants as traps
 use Rattle.rv_machine.specs.State.{State}
 use Rattle.rv_machine.specs.Memory.{Bytes}
-use Rattle.rv_machine.specs.Step.{Outcome, Traps, Goes, advanced, placed_step, step_of, other_trap}
+use Rattle.rv_machine.specs.Step.{Outcome, Traps, Goes, advanced, placed_step, step_of}
 use Rattle.open_machine.specs.World.{World}
 use Rattle.open_machine.specs.Asked.{Surroundings, KeepsFixedBytes}
 use Rattle.open_machine.specs.Step.{is_left, goes_straight, question}
@@ -38,7 +37,7 @@ use Rattle.edge_cover.specs.Covered.{IsCovered}
 use Rattle.edge_cover.specs.Runs.{GoesOn}
 use Rattle.edge_cover.specs.Cover.{IsOutlineOfFile, IsFullTable}
 use Rattle.edge_cover.specs.OpenCover.{OpenStepsAreCovered, OpenPairsAreCovered, OpenTableRunsAreCovered, OpenFixedBytesStay}
-use Rattle.edge_cover.proofs.Placing.{placed_of, word_stands}
+use Rattle.edge_cover.proofs.Placing.{placed_of, word_placed}
 use Rattle.edge_cover.proofs.Steps.{LeadsBy}
 use Rattle.edge_cover.proofs.Cover.{TableFollows, leading_covered, next_is, steps_are_covered}
 use Rattle.edge_cover.proofs.Pairs.{IsUpper, upper_is, pairs_are_covered}
@@ -103,16 +102,16 @@ module _ (bytes : List ℕ) (state : State) (memory : Bytes) (trap : Trap) (left
       clash : false ≡ true → ⊥
       clash e = cc
 
-  upper_goes : (insn : Insn) (r base : ℕ) → upper_of state.pc r insn ≡ Some base → (otherwise : Trap) → placed_step bytes (placed_of 4 insn) otherwise state memory ≡ Traps trap → ⊥
-  upper_goes (insns.Lui rd imm) r base upper otherwise e = cc
-  upper_goes (insns.Auipc rd imm) r base upper otherwise e = cc
-  upper_goes insn r base upper otherwise e = absurd cc
+  upper_goes : (insn : Insn) (r base : ℕ) → upper_of state.pc r insn ≡ Some base → placed_step bytes (placed_of 4 insn) state memory ≡ Traps trap → ⊥
+  upper_goes (insns.Lui rd imm) r base upper e = cc
+  upper_goes (insns.Auipc rd imm) r base upper e = cc
+  upper_goes insn r base upper e = absurd cc
 
-  no_answer : (insn : Insn) (r base : ℕ) → upper_of state.pc r insn ≡ Some base → rv64gc_placed_at bytes state.pc ≡ placed_of 4 insn → step_of bytes state memory ≡ Traps trap → ⊥
+  no_answer : (insn : Insn) (r base : ℕ) → upper_of state.pc r insn ≡ Some base → placed_at bytes state.pc ≡ placed_of 4 insn → step_of bytes state memory ≡ Traps trap → ⊥
   no_answer insn r base upper placed e = by (is_code bytes state.pc) e
     where
-      by : (b : Bool) → cond b (placed_step bytes (rv64gc_placed_at bytes state.pc) (other_trap (placed_at bytes state.pc).insn) state memory) (Traps traps.Fetch) ≡ Traps trap → ⊥
-      by true e = upper_goes insn r base upper (other_trap (placed_at bytes state.pc).insn) (ap (λ (p : Placed). placed_step bytes p (other_trap (placed_at bytes state.pc).insn) state memory) (sym placed) ∙ e)
+      by : (b : Bool) → cond b (placed_step bytes (placed_at bytes state.pc) state memory) (Traps traps.Fetch) ≡ Traps trap → ⊥
+      by true e = upper_goes insn r base upper (ap (λ (p : Placed). placed_step bytes p state memory) (sym placed) ∙ e)
       by false e = fetch_is_no e
 
 -- ---- the laws
@@ -130,7 +129,7 @@ open_pairs_are_covered bytes cuts seeds outline of surroundings before state aft
     | inl upper ↦ pairs_are_covered bytes cuts seeds outline of before state after start.memory world.memory left.memory reached pair right_before upper.steps written.steps move is
     | inr answer ↦ absurd (no_answer bytes before start.memory answer.trap answer.is_left upper.insn pair.rs1 upper.base
         (subst (λ a. upper_of a pair.rs1 upper.insn ≡ Some upper.base) at upper.upper)
-        (subst (λ a. rv64gc_placed_at bytes a ≡ placed_of 4 upper.insn) at (word_stands bytes (state.pc - 4) upper.word upper.insn upper.there upper.is)) answer.traps)
+        (subst (λ a. placed_at bytes a ≡ placed_of 4 upper.insn) at (word_placed bytes (state.pc - 4) upper.word upper.insn upper.there upper.is)) answer.traps)
   ]
 ]
   where

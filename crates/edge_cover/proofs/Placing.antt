@@ -15,7 +15,7 @@ use Rattle.rvc_expand.proofs.Quadrants.{none_of_quadrant_3}
 use Rattle.rv_flow.specs.declared.placed.Placed.{Placed}
 use Rattle.elf_image.specs.Architecture.{extensions_of}
 use Rattle.rv_flow.specs.Placed.{placed_at, whole, expanded, bad, float_insn, float_form, rv64gc_insn}
-use Rattle.rv_flow.specs.Rv64gc.{rv64gc_placed_at, rv64gc_placed_by}
+use Rattle.rv_flow.proofs.Rv64gc.{rv64gc_placed_at, rv64gc_placed_by}
 use Rattle.rv_flow.proofs.Stands.{rv64gc_stands}
 
 abbrev pub placed_of : ℕ → Insn → Placed

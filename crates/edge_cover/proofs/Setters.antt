@@ -16,7 +16,7 @@ use Rattle.rv_decode.specs.declared.instructions.Insn.{Insn}
 use Rattle.rv_flow.specs.declared.placed.Placed.{Placed}
 use Rattle.elf_image.specs.Architecture.{extensions_of}
 use Rattle.rv_flow.specs.Placed.{whole, expanded, bad, rv64gc_insn}
-use Rattle.rv_flow.specs.Rv64gc.{rv64gc_placed_at, rv64gc_placed_by}
+use Rattle.rv_flow.proofs.Rv64gc.{rv64gc_placed_at, rv64gc_placed_by}
 use Rattle.edge_cover.proofs.Pairs.{and_then_some}
 use Rattle.edge_cover.proofs.Tested.{if_there, sets, IsSetAt}
 use Rattle.edge_cover.proofs.DataWords.{dropped_small}

@@ -147,8 +147,9 @@ module _ (file : List ℕ) (length : ℕ) (cpu : State) (memory : Bytes) where
   step_leads insns.Ebreak pair = tt
   step_leads (insns.Csr kind rd source csr) pair = tt
   step_leads (insns.Float writes reads) pair = tt
-  step_leads (insns.ShiftAdd shift zero_extended rd rs1 rs2) pair = tt
-  step_leads (insns.Extend kind rd rs1) pair = tt
+  step_leads (insns.ShiftAdd shift zero_extended rd rs1 rs2) pair = refl
+  step_leads (insns.Extend kind rd rs1) pair = refl
+  step_leads (insns.Unary kind rd rs1) pair = refl
   step_leads (insns.Extension reads writes) pair = tt
   step_leads (insns.Away kind reads writes) pair = tt
   step_leads (insns.Vendor kind shift rd rs1 rs2) pair = tt

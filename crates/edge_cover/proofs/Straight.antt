@@ -89,13 +89,13 @@ module _ (bytes : List ℕ) (accepted : IsImage bytes) where
       ∙ advanced_is bytes accepted state (code_of_step bytes state next memory left steps)
 
 -- what is known after a step, by the instruction at its address
-pub known_after : (bound : ℕ) (bytes : List ℕ) → All (λ byte. byte < 256) bytes → (index : ℕ) → index < 2048 → (state next : State) (memory left : Bytes) → StepsTo bytes state memory next left
+pub known_after : (bound : ℕ) (bytes : List ℕ) → All (λ byte. byte < 256) bytes → (index : ℕ) → index < 2048 → index < bound → (state next : State) (memory left : Bytes) → StepsTo bytes state memory next left
     → (known : Registers) → HoldAll bytes index known state.registers → HoldAll bytes index (after_placed (Bounded bound) bytes state.pc (placed_at bytes state.pc).insn known) next.registers
-known_after bound bytes small index below state next memory left steps known hold =
+known_after bound bytes small index below within state next memory left steps known hold =
     let step = made bytes state next memory left steps in
     subst (λ o. HoldAll bytes index (after_placed (Bounded bound) bytes state.pc o known) next.registers) (sym step.stands)
     (subst (KeepsAll bytes index (after (Bounded bound) bytes state.pc step.insn known)) step.makes
-    (step_keeps bytes small index below (placed_at bytes state.pc).length state memory known hold bound step.insn))
+    (step_keeps bytes small index below (placed_at bytes state.pc).length state memory known hold bound within step.insn))
 
 -- ---- a run of them
 
@@ -139,7 +139,7 @@ module _ (bytes : List ℕ) (start j a : ℕ) (run : List ℕ) where
       by true here e = inl (eqb-true a j here, sym (same_Some [] run e))
       by false away e = inr (goes (not_equal a j away) (goes_on bytes start a) refl e)
 
-module _ (bound : ℕ) (bytes : List ℕ) (accepted : IsImage bytes) (small : All (λ byte. byte < 256) bytes) (index : ℕ) (below : index < 2048) (start j : ℕ) where
+module _ (bound : ℕ) (bytes : List ℕ) (accepted : IsImage bytes) (small : All (λ byte. byte < 256) bytes) (index : ℕ) (below : index < 2048) (within : index < bound) (start j : ℕ) where
   -- what is known at its first address is known, by the rules of the values, at the jump
   abbrev Holds : ℕ → List ℕ → Type 0
   Holds a run =
@@ -156,7 +156,7 @@ module _ (bound : ℕ) (bytes : List ℕ) (accepted : IsImage bytes) (small : Al
   onward n a run more holds state last memory end (ComesTo.onward {next = next} {left = left} away steps rest) at known hold =
       let straight : is_straight (raw_flow_at bytes state.pc) ≡ true = subst (λ b. is_straight (raw_flow_at bytes b) ≡ true) (sym at) more.straight in
       let behind : next.pc ≡ a + (placed_at bytes a).length = next_straight bytes accepted state next memory left steps straight ∙ ap (λ b. b + (placed_at bytes b).length) at in
-      let now = subst (λ b. HoldAll bytes index (after_placed (Bounded bound) bytes b (placed_at bytes b).insn known) next.registers) at (known_after bound bytes small index below state next memory left steps known hold) in
+      let now = subst (λ b. HoldAll bytes index (after_placed (Bounded bound) bytes b (placed_at bytes b).insn known) next.registers) at (known_after bound bytes small index below within state next memory left steps known hold) in
       subst (λ run. HoldAll bytes index (after_run (Bounded bound) bytes run known) last.registers) (sym more.same)
       (holds next last left end rest behind (after_placed (Bounded bound) bytes a (placed_at bytes a).insn known) now)
 

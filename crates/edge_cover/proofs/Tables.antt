@@ -162,6 +162,7 @@ module _ (bytes : List ℕ) (length : ℕ) (state after : State) (memory left : 
   jump_goes (insns.Float writes reads) flow step = cc
   jump_goes (insns.ShiftAdd shift zero_extended rd rs1 rs2) flow step = cc
   jump_goes (insns.Extend kind rd rs1) flow step = cc
+  jump_goes (insns.Unary kind rd rs1) flow step = cc
   jump_goes (insns.Extension reads writes) flow step = cc
   jump_goes (insns.Away kind reads writes) flow step = cc
   jump_goes (insns.Vendor kind shift rd rs1 rs2) flow step = cc

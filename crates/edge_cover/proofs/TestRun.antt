@@ -1,5 +1,5 @@
 -- What is known of the registers at a jump, after a run through its bound test.
-use Rattle.std.proofs.Common.{◌≡◌, ◌≢◌, ℕ, ◌+◌, ◌%◌, ◌^◌, ◌<◌, ◌≤◌, Bool, true, false, cond, List, Some, eqb, refl, sym, ap, ◌∙◌, subst, arith}
+use Rattle.std.proofs.Common.{◌≡◌, ◌≢◌, ℕ, ◌+◌, ◌%◌, ◌^◌, ◌<◌, ◌≤◌, ◌⊎◌, inl, inr, Bool, true, false, cond, List, Some, eqb, refl, sym, ap, ◌∙◌, subst, arith}
 use Rattle.std.specs.Prelude.{All, ℤ}
 use Rattle.std.specs.Int.{cast_unsigned, w64}
 use Rattle.std.specs.Option.{option_and_then}
@@ -14,7 +14,8 @@ use Rattle.rv_decode.specs.declared.instructions.BranchKind.{BranchKind}
 use Rattle.rv_operations.specs.Operations.{imm_result, is_taken}
 use Rattle.rv_flow.specs.declared.placed.Placed.{Placed}
 use Rattle.rv_flow.specs.Placed.{placed_at}
-use Rattle.rv_flow.specs.Rv64gc.{rv64gc_placed_at}
+use Rattle.rv_flow.proofs.Rv64gc.{rv64gc_placed_at}
+use Rattle.rv_flow.proofs.Beyond.{placed_either}
 use Rattle.rv_flow.specs.Raw.{address_plus}
 use Rattle.jump_table.specs.declared.bound.Comparison.{Comparison}
 use Rattle.jump_table.specs.declared.bound.BoundTest.{BoundTest}
@@ -125,7 +126,7 @@ module _ (bytes : List ℕ) (accepted : IsImage bytes) (small : All (λ byte. by
     index = held table_run.second.registers table_run.has.test.index;
     below = λ bound is. less bound is;
     holds = λ bound is most run straight.
-        run_holds bound bytes accepted small (held table_run.second.registers table_run.has.test.index) (within bound most (less bound is))
+        run_holds bound bytes accepted small (held table_run.second.registers table_run.has.test.index) (within bound most (less bound is)) (less bound is)
         table_run.has.start state.pc 16 (table_run.has.test.at + 4) run straight
         table_run.third state table_run.third_memory memory table_run.comes
         (gone.at ∙ ap (λ b. b + 4) set.at) (at_test table_run.has.test.index)
@@ -148,9 +149,12 @@ module _ (bytes : List ℕ) (accepted : IsImage bytes) (small : All (λ byte. by
       begins : SetsBefore bytes parts.comparison.limit table_run.has.test.at table_run.first.pc
       begins = subst (λ (c : Comparison). SetsBefore bytes c.limit table_run.has.test.at table_run.first.pc) (sym same) table_run.begins
 
-      -- the machine made the step, so an instruction of RV64GC stands there
+      -- ADDI is an instruction of RV64GC
       base : rv64gc_placed_at bytes table_run.first.pc ≡ placed_at bytes table_run.first.pc
-      base = (made bytes table_run.first table_run.second table_run.first_memory table_run.second_memory table_run.sets).base
+      base = elim (placed_either bytes table_run.first.pc _ begins.sets) [
+        | inl same ↦ same
+        | inr beyond ↦ absurd beyond
+      ]
 
       set : IsSet bytes accepted table_run.second table_run.has.test.at parts.comparison.limit parts.limit
       set =

@@ -15,7 +15,7 @@ use Rattle.rv_decode.specs.declared.instructions.BranchKind.TheVariants as branc
 use Rattle.rv_decode.specs.declared.instructions.ImmKind.{ImmKind}
 use Rattle.rv_decode.specs.declared.instructions.ImmKind.TheVariants as imms
 use Rattle.rv_operations.specs.Operations.{is_taken}
-use Rattle.rv_flow.specs.Rv64gc.{rv64gc_placed_at}
+use Rattle.rv_flow.proofs.Rv64gc.{rv64gc_placed_at}
 use Rattle.jump_table.specs.declared.bound.Comparison.{Comparison}
 use Rattle.jump_table.specs.declared.bound.BoundTest.{BoundTest}
 use Rattle.jump_table.specs.Nearest.{nearest, evens}

@@ -156,6 +156,7 @@ module _ (bytes : List ℕ) (length : ℕ) (state : State) (memory : Bytes) (aft
   stop_traps (insns.Float writes reads) stops goes = cc
   stop_traps (insns.ShiftAdd shift zero_extended rd rs1 rs2) stops goes = cc
   stop_traps (insns.Extend kind rd rs1) stops goes = cc
+  stop_traps (insns.Unary kind rd rs1) stops goes = cc
   stop_traps (insns.Extension reads writes) stops goes = cc
   stop_traps (insns.Away kind reads writes) stops goes = cc
   stop_traps (insns.Vendor kind shift rd rs1 rs2) stops goes = cc

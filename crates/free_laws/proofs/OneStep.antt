@@ -5,10 +5,7 @@ use Rattle.elf_image.specs.Code.{is_code}
 use Rattle.rv_decode.specs.declared.instructions.Insn.{Insn}
 use Rattle.rv_flow.specs.declared.placed.Placed.{Placed}
 use Rattle.rv_flow.specs.Placed.{placed_at}
-use Rattle.rv_flow.specs.Rv64gc.{rv64gc_placed_at}
-use Rattle.rv_flow.proofs.Stands.{rv64gc_stands}
 use Rattle.rv_machine.specs.declared.cpu.Reserved.{Reserved}
-use Rattle.rv_machine.specs.declared.trap.Trap.{Trap}
 use Rattle.rv_machine.specs.declared.trap.Trap.TheVariants as traps
 use Rattle.rv_machine.specs.Registers.{RegisterFile, held}
 use Rattle.rv_machine.specs.State.{State}
@@ -31,26 +28,25 @@ module _ (bytes : List ℕ) (one : State) (two : RegisterFile) (memory : Bytes) 
   abbrev AgreeAt : Option Insn → Type 0
   AgreeAt insn = (r : ℕ) → r < 32 → IsTrue (reads insn r) → held one.registers r ≡ held two r
 
-  -- where an instruction of RV64GC stands, it is the one that is placed
-  placed_alike : (placed : Placed) (otherwise : Trap) (insn : Option Insn) → placed.insn ≡ insn → ((i : Insn) → insn ≡ Some i → (insn_of bytes one ≡ Some i) × HasSources i) → AgreeAt (insn_of bytes one)
-      → EndAlike (λ r. IsTrue (writes (insn_of bytes one) r)) (placed_step bytes (record placed { insn = insn }) otherwise one memory) (placed_step bytes (record placed { insn = insn }) otherwise (with_registers one two) memory)
-  placed_alike placed otherwise None is low agree = EndAlike.trapped
-  placed_alike placed otherwise (Some insn) is low agree =
+  placed_alike : (placed : Placed) (insn : Option Insn) → placed.insn ≡ insn → ((i : Insn) → insn ≡ Some i → (insn_of bytes one ≡ Some i) × HasSources i) → AgreeAt (insn_of bytes one)
+      → EndAlike (λ r. IsTrue (writes (insn_of bytes one) r)) (placed_step bytes (record placed { insn = insn }) one memory) (placed_step bytes (record placed { insn = insn }) (with_registers one two) memory)
+  placed_alike placed None is low agree = EndAlike.trapped
+  placed_alike placed (Some insn) is low agree =
       let stands = low insn refl in
       subst (λ o. EndAlike (λ r. IsTrue (writes o r)) (insn_step bytes placed.length insn one memory) (insn_step bytes placed.length insn (with_registers one two) memory)) (sym stands.0)
       (insn_alike bytes placed.length one two memory insn stands.1 (subst AgreeAt stands.0 agree))
 
-  code_alike : (b : Bool) (otherwise : Trap) → AgreeAt (insn_of bytes one)
+  code_alike : (b : Bool) → AgreeAt (insn_of bytes one)
       → EndAlike (λ r. IsTrue (writes (insn_of bytes one) r))
-      (cond b (placed_step bytes (rv64gc_placed_at bytes one.pc) otherwise one memory) (Traps traps.Fetch))
-      (cond b (placed_step bytes (rv64gc_placed_at bytes one.pc) otherwise (with_registers one two) memory) (Traps traps.Fetch))
-  code_alike false otherwise agree = EndAlike.trapped
-  code_alike true otherwise agree =
-      placed_alike (rv64gc_placed_at bytes one.pc) otherwise (rv64gc_placed_at bytes one.pc).insn refl
-      (λ i is. (ap (λ (p : Placed). p.insn) (sym (rv64gc_stands bytes one.pc i is)) ∙ is, placed_sources bytes one.pc i is)) agree
+      (cond b (placed_step bytes (placed_at bytes one.pc) one memory) (Traps traps.Fetch))
+      (cond b (placed_step bytes (placed_at bytes one.pc) (with_registers one two) memory) (Traps traps.Fetch))
+  code_alike false agree = EndAlike.trapped
+  code_alike true agree =
+      placed_alike (placed_at bytes one.pc) (placed_at bytes one.pc).insn refl
+      (λ i is. (is, placed_sources bytes one.pc i is)) agree
 
   same_alike : AgreeAt (insn_of bytes one) → EndAlike (λ r. IsTrue (writes (insn_of bytes one) r)) (step_of bytes one memory) (step_of bytes (with_registers one two) memory)
-  same_alike agree = code_alike (is_code bytes one.pc) _ agree
+  same_alike agree = code_alike (is_code bytes one.pc) agree
 
 pub steps_read_what_is_said : StepsReadWhatIsSaid
 steps_read_what_is_said bytes one other memory agree =

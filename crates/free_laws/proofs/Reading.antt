@@ -8,7 +8,8 @@ use Rattle.rv_decode.specs.declared.instructions.AtomicKind.{AtomicKind}
 use Rattle.rv_decode.specs.declared.instructions.AtomicKind.TheVariants as atomics
 use Rattle.rv_decode.specs.declared.instructions.LoadKind.{LoadKind}
 use Rattle.rv_operations.specs.Loads.{load_size, store_size}
-use Rattle.rv_operations.specs.Operations.{imm_result, imm_w_result, reg_result, reg_w_result, is_taken}
+use Rattle.rv_operations.specs.Operations.{imm_result, imm_w_result, reg_result, reg_w_result, extend_result, unary_result, is_taken}
+use Rattle.rv_operations.specs.Bits.{shift_add_result}
 use Rattle.rv_flow.specs.Raw.{address_plus}
 use Rattle.rv_machine.specs.declared.trap.Trap.TheVariants as traps
 use Rattle.rv_machine.specs.Registers.{RegisterFile, held, written}
@@ -193,8 +194,15 @@ module _ (file : List ℕ) (length : ℕ) (one : State) (two : RegisterFile) (me
   insn_alike insns.Ebreak low agree = EndAlike.trapped
   insn_alike (insns.Csr kind rd source csr) low agree = EndAlike.trapped
   insn_alike (insns.Float written_to read_from) low agree = EndAlike.trapped
-  insn_alike (insns.ShiftAdd shift zero_extended rd rs1 rs2) low agree = EndAlike.trapped
-  insn_alike (insns.Extend kind rd rs1) low agree = EndAlike.trapped
+  insn_alike (insns.ShiftAdd shift zero_extended rd rs1 rs2) low agree =
+      EndAlike.gone (gives_agree rd _ _ (
+      ap (λ x. shift_add_result shift zero_extended x (held one.registers rs2)) (first rs1 rs2 agree low.0)
+      ∙ ap (λ y. shift_add_result shift zero_extended (held two rs1) y) (second rs1 rs2 agree low.1)
+      ))
+  insn_alike (insns.Extend kind rd rs1) low agree =
+      EndAlike.gone (gives_agree rd _ _ (ap (λ x. extend_result kind x) (only rs1 agree low)))
+  insn_alike (insns.Unary kind rd rs1) low agree =
+      EndAlike.gone (gives_agree rd _ _ (ap (λ x. unary_result kind x) (only rs1 agree low)))
   insn_alike (insns.Extension read_from written_to) low agree = EndAlike.trapped
   insn_alike (insns.Away kind read_from written_to) low agree = EndAlike.trapped
   insn_alike (insns.Vendor kind shift rd rs1 rs2) low agree = EndAlike.trapped

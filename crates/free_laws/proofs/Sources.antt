@@ -1,5 +1,5 @@
 -- The sources of an instruction of the base table are among 32 registers: their numbers have five bits.
-use Rattle.std.proofs.Common.{◌≡◌, ℕ, ◌%◌, ◌/◌, ◌<◌, ◌==◌, Bool, true, false, List, [], ◌∷◌, ◌++◌, Option, Some, None, subst, arith}
+use Rattle.std.proofs.Common.{◌≡◌, ℕ, ◌%◌, ◌/◌, ◌<◌, ◌==◌, ◌⊎◌, inl, inr, Bool, true, false, List, [], ◌∷◌, ◌++◌, Option, Some, None, ap, ◌∙◌, subst, arith}
 use Rattle.std.specs.Prelude.{IfSome}
 use Rattle.std.specs.Option.{option_and_then, option_or, option_map_or}
 use Rattle.std.proofs.lemmas.Bool.{cond_both}
@@ -12,8 +12,10 @@ use Rattle.rv_float.specs.Table as float
 use Rattle.rv_flow.specs.declared.placed.Placed.{Placed}
 use Rattle.elf_image.specs.declared.extensions.Extensions.{Extensions}
 use Rattle.elf_image.specs.Architecture.{extensions_of}
-use Rattle.rv_flow.specs.Placed.{expanded, whole, bad, float_insn, rv64gc_insn}
-use Rattle.rv_flow.specs.Rv64gc.{rv64gc_placed_by, rv64gc_placed_at}
+use Rattle.rv_flow.specs.Placed.{expanded, whole, bad, float_insn, rv64gc_insn, placed_at}
+use Rattle.rv_flow.proofs.Beyond.{IsBeyond, placed_either}
+use Rattle.rv_decode.specs.declared.instructions.ImmKind.TheVariants as imms
+use Rattle.rv_flow.proofs.Rv64gc.{rv64gc_placed_by, rv64gc_placed_at}
 
 -- the sources that the machine reads are among 32 registers; an instruction that it traps at has none
 abbrev pub HasSources : Insn → Type 0
@@ -26,6 +28,9 @@ HasSources (insns.ImmW kind rd s imm) = s < 32
 HasSources (insns.Reg kind rd s t) = (s < 32) × (t < 32)
 HasSources (insns.RegW kind rd s t) = (s < 32) × (t < 32)
 HasSources (insns.Atomic kind wide acquire release rd s t) = (s < 32) × (t < 32)
+HasSources (insns.ShiftAdd shift zero_extended rd s t) = (s < 32) × (t < 32)
+HasSources (insns.Extend kind rd s) = s < 32
+HasSources (insns.Unary kind rd s) = s < 32
 HasSources _ = Unit {0}
 
 -- so has each row of a list
@@ -163,6 +168,22 @@ whole_sources : (insn : Option Insn) → IfSome insn HasSources → IfSome (whol
 whole_sources None h = tt
 whole_sources (Some insn) h = h
 
+beyond_sources : (insn : Insn) → IsBeyond insn → HasSources insn
+beyond_sources (insns.Load kind rd s imm) beyond = beyond.1
+beyond_sources (insns.Store kind s t imm) beyond = beyond
+beyond_sources (insns.Imm imms.Addi rd s imm) beyond = absurd beyond
+beyond_sources (insns.Imm kind rd s imm) beyond = beyond.1
+beyond_sources (insns.ImmW kind rd s imm) beyond = beyond.1
+beyond_sources (insns.Reg kind rd s t) beyond = (beyond.1, beyond.2)
+beyond_sources (insns.RegW kind rd s t) beyond = (beyond.1, beyond.2)
+beyond_sources (insns.ShiftAdd shift zero_extended rd s t) beyond = (beyond.1, beyond.2)
+beyond_sources (insns.Extend kind rd s) beyond = beyond.1
+beyond_sources (insns.Unary kind rd s) beyond = beyond.1
+beyond_sources (insns.Extension reads writes) beyond = tt
+beyond_sources (insns.Away kind reads writes) beyond = tt
+beyond_sources (insns.Vendor kind shift rd s t) beyond = tt
+beyond_sources insn beyond = absurd beyond
+
 module _ (bytes : List ℕ) (a : ℕ) where
   by-half : (half : Option ℕ) → IfSome (option_map_or (rv64gc_placed_by (extensions_of bytes) bytes a) half bad).insn HasSources
   by-half None = tt
@@ -171,6 +192,9 @@ module _ (bytes : List ℕ) (a : ℕ) where
       (λ _. cond_both (half / 4 % 8 == 7) _ _ (λ (p : Placed). IfSome p.insn HasSources) (λ _. tt) (λ _. whole_sources (option_and_then (rv64gc_insn (extensions_of bytes)) (word_at bytes a)) (word_sources (extensions_of bytes) (word_at bytes a))))
       (λ _. word_sources (extensions_of bytes) (expanded (extensions_of bytes) half))
 
-  -- the instruction of RV64GC at an address has its sources among 32 registers
-  pub placed_sources : (insn : Insn) → (rv64gc_placed_at bytes a).insn ≡ Some insn → HasSources insn
-  placed_sources insn is = subst (λ (o : Option Insn). IfSome o HasSources) is (by-half (half_at bytes a))
+  -- the instruction at an address has its sources among 32 registers
+  pub placed_sources : (insn : Insn) → (placed_at bytes a).insn ≡ Some insn → HasSources insn
+  placed_sources insn is = elim (placed_either bytes a insn is) [
+    | inl same ↦ subst (λ (o : Option Insn). IfSome o HasSources) (ap (λ (p : Placed). p.insn) same ∙ is) (by-half (half_at bytes a))
+    | inr beyond ↦ beyond_sources insn beyond
+  ]

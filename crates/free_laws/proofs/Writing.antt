@@ -101,8 +101,9 @@ module _ (file : List ℕ) (length : ℕ) (state : State) (memory : Bytes) (r : 
   insn_keeps insns.Ebreak other = tt
   insn_keeps (insns.Csr kind rd source csr) other = tt
   insn_keeps (insns.Float written_to read_from) other = tt
-  insn_keeps (insns.ShiftAdd shift zero_extended rd rs1 rs2) other = tt
-  insn_keeps (insns.Extend kind rd rs1) other = tt
+  insn_keeps (insns.ShiftAdd shift zero_extended rd rs1 rs2) other = kept rd _ other
+  insn_keeps (insns.Extend kind rd rs1) other = kept rd _ other
+  insn_keeps (insns.Unary kind rd rs1) other = kept rd _ other
   insn_keeps (insns.Extension read_from written_to) other = tt
   insn_keeps (insns.Away kind read_from written_to) other = tt
   insn_keeps (insns.Vendor kind shift rd rs1 rs2) other = tt

@@ -49,6 +49,14 @@ reads_one w = (read w, tt)
 reads_two : (w : ℕ) → ((fields.rd w < 32) × (fields.rs1 w < 32) × (fields.rs2 w < 32)) × Unit {0}
 reads_two w = (three w, tt)
 
+-- one register is written, of which nothing is known
+writes_one : (w : ℕ) → (fields.rd w < 32) × Unit {0}
+writes_one w = (rd_fits w, tt)
+
+-- by an amount of six or of five bits
+by_amount : (w : ℕ) → ((fields.rd w < 32) × (fields.rs1 w < 32) × (fields.field w 25 20 < 2048)) × Unit {0}
+by_amount w = ((rd_fits w, rs1_fits w, omega arith), tt)
+
 -- SLLI.UW
 reads_zero : (w : ℕ) → ((fields.rd w < 32) × (fields.rs1 w < 32) × (0 < 32)) × Unit {0}
 reads_zero w = ((rd_fits w, rs1_fits w, zero_fits w), tt)
@@ -75,19 +83,19 @@ plain_block_rows = (plain, (plain, tt))
 
 plain_imm_rows : AllPlain table.imm_rows
 unfolding table.imm_rows
-plain_imm_rows = (plain, (reads_one, (reads_one, (plain, (plain, (plain, (plain, (plain, (plain, (plain, (plain, (plain, (plain, tt)))))))))))))
+plain_imm_rows = (writes_one, (writes_one, (writes_one, (reads_one, (reads_one, (by_amount, (by_amount, (by_amount, (by_amount, (by_amount, (writes_one, (writes_one, (plain, (plain, (plain, (plain, (plain, tt)))))))))))))))))
 
 plain_imm_w_rows : AllPlain table.imm_w_rows
 unfolding table.imm_w_rows
-plain_imm_w_rows = (reads_zero, (plain, (plain, tt)))
+plain_imm_w_rows = (reads_zero, (writes_one, (writes_one, (writes_one, (reads_one, tt)))))
 
 plain_reg_rows : AllPlain table.reg_rows
 unfolding table.reg_rows
-plain_reg_rows = (reads_two, (reads_two, (reads_two, (plain, (plain, (plain, (plain, (plain, (plain, (plain, (plain, (plain, (plain, (plain, (plain, (plain, (plain, (plain, tt))))))))))))))))))
+plain_reg_rows = (reads_two, (reads_two, (reads_two, (reads_two, (reads_two, (reads_two, (reads_two, (reads_two, (reads_two, (reads_two, (reads_two, (reads_two, (plain, (plain, (reads_two, (reads_two, (reads_two, (reads_two, (plain, (plain, (reads_two, (reads_two, (plain, (plain, (plain, (plain, (plain, tt)))))))))))))))))))))))))))
 
 plain_reg_w_rows : AllPlain table.reg_w_rows
 unfolding table.reg_w_rows
-plain_reg_w_rows = (reads_two, (reads_two, (reads_two, (reads_two, (plain, (reads_one, (plain, tt)))))))
+plain_reg_w_rows = (reads_two, (reads_two, (reads_two, (reads_two, (writes_one, (writes_one, (reads_one, (plain, tt))))))))
 
 plain_amo_rows : AllPlain table.amo_rows
 unfolding table.amo_rows

@@ -237,6 +237,7 @@ after form bytes a (insns.ShiftAdd shift zero_extended rd rs1 rs2) before =
     written before rd (shift_add_value form bytes shift zero_extended before rs1 rs2)
 after form bytes a (insns.Extend kind rd rs1) before =
     written before rd (extend_value form kind (before rs1))
+after form bytes a (insns.Unary kind rd rs1) before = written before rd Unknown
 after form bytes a (insns.Extension reads writes) before = overwritten before writes
 after form bytes a (insns.Away kind reads writes) before = overwritten before writes
 after form bytes a (insns.Vendor kind shift rd rs1 rs2) before =

@@ -171,6 +171,7 @@ impl Registers {
             | Insn::RegW { rd, .. }
             | Insn::Atomic { rd, .. }
             | Insn::Csr { rd, .. }
+            | Insn::Unary { rd, .. }
             | Insn::Float { writes: rd, .. } => self.set(rd, Value::Unknown),
             Insn::ShiftAdd {
                 shift,

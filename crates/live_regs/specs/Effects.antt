@@ -44,6 +44,7 @@ has_source (insns.Csr kind rd source csr) r = takes_register kind && r == source
 has_source (insns.Float writes reads) r = r == reads
 has_source (insns.ShiftAdd shift zero_extended rd rs1 rs2) r = r == rs1 || r == rs2
 has_source (insns.Extend kind rd rs1) r = r == rs1
+has_source (insns.Unary kind rd rs1) r = r == rs1
 has_source (insns.Extension reads writes) r = has_bit reads r
 has_source (insns.Away kind reads writes) r = has_bit reads r
 has_source (insns.Vendor kind shift rd rs1 rs2) r = r == rd || (r == rs1 || r == rs2)
@@ -70,6 +71,7 @@ has_destination (insns.Csr kind rd source csr) r = r == rd
 has_destination (insns.Float writes reads) r = r == writes
 has_destination (insns.ShiftAdd shift zero_extended rd rs1 rs2) r = r == rd
 has_destination (insns.Extend kind rd rs1) r = r == rd
+has_destination (insns.Unary kind rd rs1) r = r == rd
 has_destination (insns.Extension reads writes) r = has_bit writes r
 has_destination (insns.Away kind reads writes) r = has_bit writes r
 has_destination (insns.Vendor kind shift rd rs1 rs2) r = false

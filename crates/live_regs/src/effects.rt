@@ -145,7 +145,8 @@ fn reads_of(insn: Insn) -> u32
         | Insn::Load { rs1, .. }
         | Insn::Imm { rs1, .. }
         | Insn::ImmW { rs1, .. }
-        | Insn::Extend { rs1, .. } => register(rs1),
+        | Insn::Extend { rs1, .. }
+        | Insn::Unary { rs1, .. } => register(rs1),
         Insn::Branch { rs1, rs2, .. }
         | Insn::Store { rs1, rs2, .. }
         | Insn::Reg { rs1, rs2, .. }
@@ -190,7 +191,8 @@ fn writes_of(insn: Insn) -> u32
         | Insn::Atomic { rd, .. }
         | Insn::Csr { rd, .. }
         | Insn::ShiftAdd { rd, .. }
-        | Insn::Extend { rd, .. } => register(rd),
+        | Insn::Extend { rd, .. }
+        | Insn::Unary { rd, .. } => register(rd),
         Insn::Float { writes, .. } => register(writes),
         Insn::Extension { writes, .. } | Insn::Away { writes, .. } => registers(writes),
     }

@@ -137,6 +137,7 @@ module _ (bytes : List ℕ) (length : ℕ) (state after : State) (memory left : 
   stop_makes_none (insns.Float writes reads) stops goes = cc
   stop_makes_none (insns.ShiftAdd shift zero_extended rd rs1 rs2) stops goes = cc
   stop_makes_none (insns.Extend kind rd rs1) stops goes = cc
+  stop_makes_none (insns.Unary kind rd rs1) stops goes = cc
   stop_makes_none (insns.Extension reads writes) stops goes = cc
   stop_makes_none (insns.Vendor kind shift rd rs1 rs2) stops goes = cc
 

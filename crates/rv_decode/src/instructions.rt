@@ -50,30 +50,33 @@ pub enum Insn {
         rs2: u8,
         imm: i64,
     },
-    /// An operation on a register and an immediate; for a shift `imm` is the amount, 0 to 63
-    /// (sections 2.4.1 and 4.2.1).
+    /// An operation on a register and an immediate; for a shift, a rotation or a single bit `imm` is
+    /// the amount, 0 to 63 (sections 2.4.1 and 4.2.1, and chapter "B" Extension for Bit
+    /// Manipulation, "Zbb" and "Zbs").
     Imm {
         kind: ImmKind,
         rd: u8,
         rs1: u8,
         imm: i64,
     },
-    /// An operation on the low 32 bits of a register and an immediate; for a shift `imm` is the
-    /// amount, 0 to 31 (section 4.2.1).
+    /// An operation on the low 32 bits of a register and an immediate; for a shift or a rotation
+    /// `imm` is the amount, 0 to 31 (section 4.2.1, and "Zbb").
     ImmW {
         kind: ImmWKind,
         rd: u8,
         rs1: u8,
         imm: i64,
     },
-    /// An operation on two registers (sections 2.4.2, 4.2.2 and chapter 13, "M").
+    /// An operation on two registers (sections 2.4.2, 4.2.2, chapter 13, "M", and by name "Zbb",
+    /// "Zbs" and "Zicond").
     Reg {
         kind: RegKind,
         rd: u8,
         rs1: u8,
         rs2: u8,
     },
-    /// An operation on the low 32 bits of two registers (section 4.2.2 and chapter 13, "M").
+    /// An operation on the low 32 bits of two registers (section 4.2.2, chapter 13, "M", and by name
+    /// "Zbb").
     RegW {
         kind: RegWKind,
         rd: u8,
@@ -126,6 +129,13 @@ pub enum Insn {
     /// The low 8 or 16 bits of `rs1`, extended (chapter "B" Extension for Bit Manipulation, "Zbb").
     Extend {
         kind: ExtendKind,
+        rd: u8,
+        rs1: u8,
+    },
+    /// A count, or a move of bits or bytes within `rs1` (chapter "B" Extension for Bit Manipulation,
+    /// "Zbb"). No word is this without the extension.
+    Unary {
+        kind: UnaryKind,
         rd: u8,
         rs1: u8,
     },
@@ -191,6 +201,21 @@ pub enum ExtendKind {
     ZextH,
 }
 
+/// Counts of zeros at the high and at the low end and of ones, of 64 and of 32 bits; each byte that
+/// is not zero as all ones; the bytes in reverse order (chapter "B" Extension for Bit Manipulation,
+/// "Zbb").
+#[derive(Clone, Copy, Debug, PartialEq, Eq)]
+pub enum UnaryKind {
+    Clz,
+    Ctz,
+    Cpop,
+    Clzw,
+    Ctzw,
+    Cpopw,
+    OrcB,
+    Rev8,
+}
+
 /// The conditional branches (section 2.5.2).
 #[derive(Clone, Copy, Debug, PartialEq, Eq)]
 pub enum BranchKind {
@@ -223,7 +248,8 @@ pub enum StoreKind {
     Sd,
 }
 
-/// The operations on a register and an immediate (sections 2.4.1 and 4.2.1).
+/// The operations on a register and an immediate (sections 2.4.1 and 4.2.1); from RORI on those of
+/// Zbb and Zbs.
 #[derive(Clone, Copy, Debug, PartialEq, Eq)]
 pub enum ImmKind {
     Addi,
@@ -235,18 +261,26 @@ pub enum ImmKind {
     Slli,
     Srli,
     Srai,
+    Rori,
+    Bclri,
+    Bexti,
+    Binvi,
+    Bseti,
 }
 
-/// The operations on the low 32 bits of a register and an immediate (section 4.2.1).
+/// The operations on the low 32 bits of a register and an immediate (section 4.2.1); RORIW is one of
+/// Zbb.
 #[derive(Clone, Copy, Debug, PartialEq, Eq)]
 pub enum ImmWKind {
     Addiw,
     Slliw,
     Srliw,
     Sraiw,
+    Roriw,
 }
 
-/// The operations on two registers (sections 2.4.2, 4.2.2 and chapter 13, "M").
+/// The operations on two registers (sections 2.4.2, 4.2.2 and chapter 13, "M"); from ANDN on those of
+/// Zbb, Zbs and Zicond.
 #[derive(Clone, Copy, Debug, PartialEq, Eq)]
 pub enum RegKind {
     Add,
@@ -267,9 +301,25 @@ pub enum RegKind {
     Divu,
     Rem,
     Remu,
+    Andn,
+    Orn,
+    Xnor,
+    Max,
+    Maxu,
+    Min,
+    Minu,
+    Rol,
+    Ror,
+    Bclr,
+    Bext,
+    Binv,
+    Bset,
+    CzeroEqz,
+    CzeroNez,
 }
 
-/// The operations on the low 32 bits of two registers (section 4.2.2 and chapter 13, "M").
+/// The operations on the low 32 bits of two registers (section 4.2.2 and chapter 13, "M"); ROLW and
+/// RORW are those of Zbb.
 #[derive(Clone, Copy, Debug, PartialEq, Eq)]
 pub enum RegWKind {
     Addw,
@@ -282,6 +332,8 @@ pub enum RegWKind {
     Divuw,
     Remw,
     Remuw,
+    Rolw,
+    Rorw,
 }
 
 /// The atomic operations: LR, SC, and the AMOs by the operation that they do (chapter 14, "A").

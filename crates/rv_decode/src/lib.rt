@@ -10,7 +10,7 @@ mod opcodes;
 pub use decoder::decode;
 pub use instructions::{
     AtomicKind, AwayKind, BranchKind, CsrKind, ExtendKind, ImmKind, ImmWKind, Insn, LoadKind,
-    RegKind, RegWKind, StoreKind, VendorKind,
+    RegKind, RegWKind, StoreKind, UnaryKind, VendorKind,
 };
 pub use laws::{
     a_row_decides, at_most_one_row_holds, each_comes_from_a_row, each_has_32_bits,

@@ -5,10 +5,16 @@ use Rattle.elf_image.specs.declared.extensions.Extensions.{Extensions}
 use Rattle.rv_decode.specs.Fields.{opcode, field, rd, rs1, rs2, funct3, funct5, funct6, funct7, csr}
 use Rattle.rv_decode.specs.declared.instructions.Insn.{Insn}
 use Rattle.rv_decode.specs.declared.instructions.ExtendKind.TheVariants.{SextB, SextH, ZextH}
+use Rattle.rv_decode.specs.declared.instructions.UnaryKind.TheVariants as unaries
+use Rattle.rv_decode.specs.declared.instructions.ImmKind.TheVariants as imms
+use Rattle.rv_decode.specs.declared.instructions.ImmWKind.TheVariants as imm_ws
+use Rattle.rv_decode.specs.declared.instructions.RegKind.TheVariants as regs
+use Rattle.rv_decode.specs.declared.instructions.RegWKind.TheVariants as reg_ws
+use Rattle.rv_decode.specs.Table.{reg, reg_w, shift, shift_w}
 use Rattle.rv_float.specs.Table.{is_among}
 use Rattle.rv_extensions.specs.Rows.{meets}
 use Rattle.rv_extensions.specs.Registers.{without, to_rd, from_rs1, unary, binary, ternary, ternary_pairs, vector_memory, vector_result}
-use Rattle.rv_extensions.specs.Table.{rotates, moves_halves, converts_halves, adds_to_halves, shift_add, shift_word, extend, counted, not_x0, rounds, fetched_operations, extension_rows, extension_instruction, load_rows, store_rows, block_rows, imm_rows, imm_w_rows, reg_rows, reg_w_rows, amo_rows, system_rows, fused_rows, half_rows, additional_rows, vector_rows, vector_crypto_rows, vendor_rows, multiplies, schedules, vendor_word}
+use Rattle.rv_extensions.specs.Table.{rotates, moves_halves, converts_halves, adds_to_halves, shift_add, shift_word, extend, unary_of, counted, not_x0, rounds, fetched_operations, extension_rows, extension_instruction, load_rows, store_rows, block_rows, imm_rows, imm_w_rows, reg_rows, reg_w_rows, amo_rows, system_rows, fused_rows, half_rows, additional_rows, vector_rows, vector_crypto_rows, vendor_rows, multiplies, schedules, vendor_word}
 
 and_true : (b : Bool) → (b && true) ≡ b
 and_true true = refl
@@ -177,28 +183,30 @@ unfolding extension_instruction extension_rows load_rows store_rows block_rows i
 float_cases_none e w is a0 a1 a2 a3 a4 a5 a6 a7 a8 a9 a10 a11 a12 a13 a14 a15 a16 a17 a18 a19 a20 a21 = rw (is, ne_eqb _ _ a0, ne_eqb _ _ a1, ne_eqb _ _ a2, ne_eqb _ _ a3, ne_eqb _ _ a4, ne_eqb _ _ a5, ne_eqb _ _ a6, ne_eqb _ _ a7, ne_eqb _ _ a8, ne_eqb _ _ a9, ne_eqb _ _ a10, ne_eqb _ _ a11, ne_eqb _ _ a12, ne_eqb _ _ a13, ne_eqb _ _ a14, ne_eqb _ _ a15, ne_eqb _ _ a16, ne_eqb _ _ a17, ne_eqb _ _ a18, ne_eqb _ _ a19, ne_eqb _ _ a20, ne_eqb _ _ a21) refl
 
 pub imm_cases_0a : (e : Extensions) (w : ℕ) → opcode w ≡ 0x13 → funct6 w ≡ 0x0A → extension_instruction e w ≡
-    (if ((funct3 w == 1)) && e.zbs then Some (unary w) else
-    (if ((funct3 w == 5) && ((field w 25 20 == 7))) && e.zbb then Some (unary w) else None))
+    (if ((funct3 w == 1)) && e.zbs then Some (shift imms.Bseti w) else
+    (if ((funct3 w == 5) && ((field w 25 20 == 7))) && e.zbb then Some (unary_of unaries.OrcB w) else None))
 unfolding extension_instruction extension_rows load_rows store_rows block_rows imm_rows imm_w_rows reg_rows reg_w_rows amo_rows system_rows fused_rows half_rows additional_rows vector_rows vector_crypto_rows vendor_rows
 imm_cases_0a e w is function = rw (is, function) (simp (and_true, or_false))
 
 pub imm_cases_12 : (e : Extensions) (w : ℕ) → opcode w ≡ 0x13 → funct6 w ≡ 0x12 → extension_instruction e w ≡
-    (if ((funct3 w == 1)) && e.zbs then Some (unary w) else
-    (if ((funct3 w == 5)) && e.zbs then Some (unary w) else None))
+    (if ((funct3 w == 1)) && e.zbs then Some (shift imms.Bclri w) else
+    (if ((funct3 w == 5)) && e.zbs then Some (shift imms.Bexti w) else None))
 unfolding extension_instruction extension_rows load_rows store_rows block_rows imm_rows imm_w_rows reg_rows reg_w_rows amo_rows system_rows fused_rows half_rows additional_rows vector_rows vector_crypto_rows vendor_rows
 imm_cases_12 e w is function = rw (is, function) (simp (and_true, or_false))
 
 pub imm_cases_18 : (e : Extensions) (w : ℕ) → opcode w ≡ 0x13 → funct6 w ≡ 0x18 → extension_instruction e w ≡
-    (if ((funct3 w == 1) && (is_among (0 ∷ 1 ∷ 2 ∷ []) (field w 25 20))) && e.zbb then Some (unary w) else
+    (if ((funct3 w == 1) && ((field w 25 20 == 0))) && e.zbb then Some (unary_of unaries.Clz w) else
+    (if ((funct3 w == 1) && ((field w 25 20 == 1))) && e.zbb then Some (unary_of unaries.Ctz w) else
+    (if ((funct3 w == 1) && ((field w 25 20 == 2))) && e.zbb then Some (unary_of unaries.Cpop w) else
     (if ((funct3 w == 1) && ((field w 25 20 == 4))) && e.zbb then Some (extend SextB w) else
     (if ((funct3 w == 1) && ((field w 25 20 == 5))) && e.zbb then Some (extend SextH w) else
-    (if ((funct3 w == 5)) && rotates e then Some (unary w) else None))))
+    (if ((funct3 w == 5)) && rotates e then Some (shift imms.Rori w) else None))))))
 unfolding extension_instruction extension_rows load_rows store_rows block_rows imm_rows imm_w_rows reg_rows reg_w_rows amo_rows system_rows fused_rows half_rows additional_rows vector_rows vector_crypto_rows vendor_rows
 imm_cases_18 e w is function = rw (is, function) (simp (and_true, or_false))
 
 pub imm_cases_1a : (e : Extensions) (w : ℕ) → opcode w ≡ 0x13 → funct6 w ≡ 0x1A → extension_instruction e w ≡
-    (if ((funct3 w == 1)) && e.zbs then Some (unary w) else
-    (if ((funct3 w == 5) && ((field w 25 20 == 0x38))) && rotates e then Some (unary w) else
+    (if ((funct3 w == 1)) && e.zbs then Some (shift imms.Binvi w) else
+    (if ((funct3 w == 5) && ((field w 25 20 == 0x38))) && rotates e then Some (unary_of unaries.Rev8 w) else
     (if ((funct3 w == 5) && ((field w 25 20 == 7))) && e.zbkb then Some (unary w) else None)))
 unfolding extension_instruction extension_rows load_rows store_rows block_rows imm_rows imm_w_rows reg_rows reg_w_rows amo_rows system_rows fused_rows half_rows additional_rows vector_rows vector_crypto_rows vendor_rows
 imm_cases_1a e w is function = rw (is, function) (simp (and_true, or_false))
@@ -230,8 +238,10 @@ unfolding extension_instruction extension_rows load_rows store_rows block_rows i
 imm_w_cases_05 e w is function = rw (is, function) (simp (and_true, or_false))
 
 pub imm_w_cases_30 : (e : Extensions) (w : ℕ) → opcode w ≡ 0x1B → funct7 w ≡ 0x30 → extension_instruction e w ≡
-    (if ((funct3 w == 1) && (is_among (0 ∷ 1 ∷ 2 ∷ []) (rs2 w))) && e.zbb then Some (unary w) else
-    (if ((funct3 w == 5)) && rotates e then Some (unary w) else None))
+    (if ((funct3 w == 1) && ((rs2 w == 0))) && e.zbb then Some (unary_of unaries.Clzw w) else
+    (if ((funct3 w == 1) && ((rs2 w == 1))) && e.zbb then Some (unary_of unaries.Ctzw w) else
+    (if ((funct3 w == 1) && ((rs2 w == 2))) && e.zbb then Some (unary_of unaries.Cpopw w) else
+    (if ((funct3 w == 5)) && rotates e then Some (shift_w imm_ws.Roriw w) else None))))
 unfolding extension_instruction extension_rows load_rows store_rows block_rows imm_rows imm_w_rows reg_rows reg_w_rows amo_rows system_rows fused_rows half_rows additional_rows vector_rows vector_crypto_rows vendor_rows
 imm_w_cases_30 e w is function = rw (is, function) (simp (and_true, or_false))
 
@@ -245,14 +255,18 @@ unfolding extension_instruction extension_rows load_rows store_rows block_rows i
 reg_cases_04 e w is function = rw (is, function) (simp (and_true, or_false))
 
 pub reg_cases_05 : (e : Extensions) (w : ℕ) → opcode w ≡ 0x33 → funct7 w ≡ 0x05 → extension_instruction e w ≡
-    (if (is_among (4 ∷ 5 ∷ 6 ∷ 7 ∷ []) (funct3 w)) && e.zbb then Some (binary w) else
+    (if ((funct3 w == 4)) && e.zbb then Some (reg regs.Min w) else
+    (if ((funct3 w == 5)) && e.zbb then Some (reg regs.Minu w) else
+    (if ((funct3 w == 6)) && e.zbb then Some (reg regs.Max w) else
+    (if ((funct3 w == 7)) && e.zbb then Some (reg regs.Maxu w) else
     (if (is_among (1 ∷ 3 ∷ []) (funct3 w)) && multiplies e then Some (binary w) else
-    (if ((funct3 w == 2)) && e.zbc then Some (binary w) else None)))
+    (if ((funct3 w == 2)) && e.zbc then Some (binary w) else None))))))
 unfolding extension_instruction extension_rows load_rows store_rows block_rows imm_rows imm_w_rows reg_rows reg_w_rows amo_rows system_rows fused_rows half_rows additional_rows vector_rows vector_crypto_rows vendor_rows
 reg_cases_05 e w is function = rw (is, function) (simp (and_true, or_false))
 
 pub reg_cases_07 : (e : Extensions) (w : ℕ) → opcode w ≡ 0x33 → funct7 w ≡ 0x07 → extension_instruction e w ≡
-    (if (is_among (5 ∷ 7 ∷ []) (funct3 w)) && e.zicond then Some (binary w) else None)
+    (if ((funct3 w == 5)) && e.zicond then Some (reg regs.CzeroEqz w) else
+    (if ((funct3 w == 7)) && e.zicond then Some (reg regs.CzeroNez w) else None))
 unfolding extension_instruction extension_rows load_rows store_rows block_rows imm_rows imm_w_rows reg_rows reg_w_rows amo_rows system_rows fused_rows half_rows additional_rows vector_rows vector_crypto_rows vendor_rows
 reg_cases_07 e w is function = rw (is, function) (simp (and_true, or_false))
 
@@ -264,28 +278,32 @@ unfolding extension_instruction extension_rows load_rows store_rows block_rows i
 reg_cases_10 e w is function = rw (is, function) (simp (and_true, or_false))
 
 pub reg_cases_14 : (e : Extensions) (w : ℕ) → opcode w ≡ 0x33 → funct7 w ≡ 0x14 → extension_instruction e w ≡
-    (if ((funct3 w == 1)) && e.zbs then Some (binary w) else
+    (if ((funct3 w == 1)) && e.zbs then Some (reg regs.Bset w) else
     (if (is_among (2 ∷ 4 ∷ []) (funct3 w)) && e.zbkx then Some (binary w) else None))
 unfolding extension_instruction extension_rows load_rows store_rows block_rows imm_rows imm_w_rows reg_rows reg_w_rows amo_rows system_rows fused_rows half_rows additional_rows vector_rows vector_crypto_rows vendor_rows
 reg_cases_14 e w is function = rw (is, function) (simp (and_true, or_false))
 
 pub reg_cases_20 : (e : Extensions) (w : ℕ) → opcode w ≡ 0x33 → funct7 w ≡ 0x20 → extension_instruction e w ≡
-    (if (is_among (4 ∷ 6 ∷ 7 ∷ []) (funct3 w)) && rotates e then Some (binary w) else None)
+    (if ((funct3 w == 4)) && rotates e then Some (reg regs.Xnor w) else
+    (if ((funct3 w == 6)) && rotates e then Some (reg regs.Orn w) else
+    (if ((funct3 w == 7)) && rotates e then Some (reg regs.Andn w) else None)))
 unfolding extension_instruction extension_rows load_rows store_rows block_rows imm_rows imm_w_rows reg_rows reg_w_rows amo_rows system_rows fused_rows half_rows additional_rows vector_rows vector_crypto_rows vendor_rows
 reg_cases_20 e w is function = rw (is, function) (simp (and_true, or_false))
 
 pub reg_cases_24 : (e : Extensions) (w : ℕ) → opcode w ≡ 0x33 → funct7 w ≡ 0x24 → extension_instruction e w ≡
-    (if (is_among (1 ∷ 5 ∷ []) (funct3 w)) && e.zbs then Some (binary w) else None)
+    (if ((funct3 w == 1)) && e.zbs then Some (reg regs.Bclr w) else
+    (if ((funct3 w == 5)) && e.zbs then Some (reg regs.Bext w) else None))
 unfolding extension_instruction extension_rows load_rows store_rows block_rows imm_rows imm_w_rows reg_rows reg_w_rows amo_rows system_rows fused_rows half_rows additional_rows vector_rows vector_crypto_rows vendor_rows
 reg_cases_24 e w is function = rw (is, function) (simp (and_true, or_false))
 
 pub reg_cases_30 : (e : Extensions) (w : ℕ) → opcode w ≡ 0x33 → funct7 w ≡ 0x30 → extension_instruction e w ≡
-    (if (is_among (1 ∷ 5 ∷ []) (funct3 w)) && rotates e then Some (binary w) else None)
+    (if ((funct3 w == 1)) && rotates e then Some (reg regs.Rol w) else
+    (if ((funct3 w == 5)) && rotates e then Some (reg regs.Ror w) else None))
 unfolding extension_instruction extension_rows load_rows store_rows block_rows imm_rows imm_w_rows reg_rows reg_w_rows amo_rows system_rows fused_rows half_rows additional_rows vector_rows vector_crypto_rows vendor_rows
 reg_cases_30 e w is function = rw (is, function) (simp (and_true, or_false))
 
 pub reg_cases_34 : (e : Extensions) (w : ℕ) → opcode w ≡ 0x33 → funct7 w ≡ 0x34 → extension_instruction e w ≡
-    (if ((funct3 w == 1)) && e.zbs then Some (binary w) else None)
+    (if ((funct3 w == 1)) && e.zbs then Some (reg regs.Binv w) else None)
 unfolding extension_instruction extension_rows load_rows store_rows block_rows imm_rows imm_w_rows reg_rows reg_w_rows amo_rows system_rows fused_rows half_rows additional_rows vector_rows vector_crypto_rows vendor_rows
 reg_cases_34 e w is function = rw (is, function) (simp (and_true, or_false))
 
@@ -373,7 +391,8 @@ unfolding extension_instruction extension_rows load_rows store_rows block_rows i
 reg_w_cases_10 e w is function = rw (is, function) (simp (and_true, or_false))
 
 pub reg_w_cases_30 : (e : Extensions) (w : ℕ) → opcode w ≡ 0x3B → funct7 w ≡ 0x30 → extension_instruction e w ≡
-    (if (is_among (1 ∷ 5 ∷ []) (funct3 w)) && rotates e then Some (binary w) else None)
+    (if ((funct3 w == 1)) && rotates e then Some (reg_w reg_ws.Rolw w) else
+    (if ((funct3 w == 5)) && rotates e then Some (reg_w reg_ws.Rorw w) else None))
 unfolding extension_instruction extension_rows load_rows store_rows block_rows imm_rows imm_w_rows reg_rows reg_w_rows amo_rows system_rows fused_rows half_rows additional_rows vector_rows vector_crypto_rows vendor_rows
 reg_w_cases_30 e w is function = rw (is, function) (simp (and_true, or_false))
 
@@ -645,12 +664,8 @@ counted_is first (suc count) x = counted_step first x count (is_among (counted (
 
 pub digest_is : (e : Extensions) (w : ℕ) → opcode w ≡ 0x13 → funct6 w ≡ 0x04 → funct3 w ≡ 1 → extension_instruction e w ≡
     (if (is_among (counted 0 8) (field w 25 20) && e.zknh) || (is_among (8 ∷ 9 ∷ []) (field w 25 20) && e.zksh) then Some (unary w) else None)
-digest_is e w code shift is = imm_cases_04 e w code shift ∙ rw is (merged_two (Some (unary w)) (is_among (counted 0 8) (field w 25 20) && e.zknh) (is_among (8 ∷ 9 ∷ []) (field w 25 20) && e.zksh))
+digest_is e w code function is = imm_cases_04 e w code function ∙ rw is (merged_two (Some (unary w)) (is_among (counted 0 8) (field w 25 20) && e.zknh) (is_among (8 ∷ 9 ∷ []) (field w 25 20) && e.zksh))
 
 pub key_is : (e : Extensions) (w : ℕ) → opcode w ≡ 0x13 → funct6 w ≡ 0x0C → funct3 w ≡ 1 → extension_instruction e w ≡
     (if ((field w 25 20 == 0) && e.zknd) || (is_among (counted 16 11) (field w 25 20) && schedules e) then Some (unary w) else None)
-key_is e w code shift is = imm_cases_0c e w code shift ∙ rw is (merged_two (Some (unary w)) ((field w 25 20 == 0) && e.zknd) (is_among (counted 16 11) (field w 25 20) && schedules e))
-
-pub least_or_product_is : (e : Extensions) (w : ℕ) → opcode w ≡ 0x33 → funct7 w ≡ 0x05 → extension_instruction e w ≡
-    (if (is_among (4 ∷ 5 ∷ 6 ∷ 7 ∷ []) (funct3 w) && e.zbb) || ((is_among (1 ∷ 3 ∷ []) (funct3 w) && multiplies e) || ((funct3 w == 2) && e.zbc)) then Some (binary w) else None)
-least_or_product_is e w code function = reg_cases_05 e w code function ∙ merged_in_order (Some (binary w)) (is_among (4 ∷ 5 ∷ 6 ∷ 7 ∷ []) (funct3 w) && e.zbb) (is_among (1 ∷ 3 ∷ []) (funct3 w) && multiplies e) ((funct3 w == 2) && e.zbc)
+key_is e w code function is = imm_cases_0c e w code function ∙ rw is (merged_two (Some (unary w)) ((field w 25 20 == 0) && e.zknd) (is_among (counted 16 11) (field w 25 20) && schedules e))

@@ -6,7 +6,14 @@ use Rattle.std.specs.Prelude.{Option, if◌then◌else◌}
 use Rattle.elf_image.specs.declared.extensions.Extensions.{Extensions}
 use Rattle.rv_decode.specs.Fields.{field, rd, rs1, rs2}
 use Rattle.rv_decode.specs.declared.instructions.Insn.{Insn}
-use Rattle.rv_decode.specs.declared.instructions.Insn.TheVariants.{ShiftAdd, Extend, Vendor}
+use Rattle.rv_decode.specs.Table.{reg, reg_w, shift, shift_w}
+use Rattle.rv_decode.specs.declared.instructions.Insn.TheVariants.{ShiftAdd, Extend, Unary, Vendor}
+use Rattle.rv_decode.specs.declared.instructions.UnaryKind.{UnaryKind}
+use Rattle.rv_decode.specs.declared.instructions.UnaryKind.TheVariants as unaries
+use Rattle.rv_decode.specs.declared.instructions.ImmKind.TheVariants as imms
+use Rattle.rv_decode.specs.declared.instructions.ImmWKind.TheVariants as imm_ws
+use Rattle.rv_decode.specs.declared.instructions.RegKind.TheVariants as regs
+use Rattle.rv_decode.specs.declared.instructions.RegWKind.TheVariants as reg_ws
 use Rattle.rv_decode.specs.declared.instructions.ExtendKind.{ExtendKind}
 use Rattle.rv_decode.specs.declared.instructions.ExtendKind.TheVariants.{SextB, SextH, ZextH}
 use Rattle.rv_decode.specs.declared.instructions.VendorKind.{VendorKind}
@@ -42,7 +49,7 @@ schedules e = e.zknd || e.zkne
 
 -- rs2 plus rs1 shifted left; rs1 as it is, or its low 32 bits alone
 abbrev pub shift_add : ℕ → Bool → ℕ → Insn
-shift_add shift zero_extended w = ShiftAdd shift zero_extended (rd w) (rs1 w) (rs2 w)
+shift_add amount zero_extended w = ShiftAdd amount zero_extended (rd w) (rs1 w) (rs2 w)
 
 -- SLLI.UW adds nothing
 abbrev pub shift_word : ℕ → Insn
@@ -50,6 +57,9 @@ shift_word w = ShiftAdd (field w 25 20) true (rd w) (rs1 w) 0
 
 abbrev pub extend : ExtendKind → ℕ → Insn
 extend kind w = Extend kind (rd w) (rs1 w)
+
+abbrev pub unary_of : UnaryKind → ℕ → Insn
+unary_of kind w = Unary kind (rd w) (rs1 w)
 
 -- which of the words of opcode 0B one is, by bits 31 to 27 and funct3 (the vendor's chapters
 -- "XTheadBa" and "XTheadMemIdx")
@@ -128,19 +138,23 @@ imm_row named f6 f3 amount meaning =
 unfoldable pub imm_rows : List Row
 imm_rows =
     -- CLZ, CTZ, CPOP
-    imm_row (λ e. e.zbb) (0b011000 ∷ []) 1 (amount_in (0 ∷ 1 ∷ 2 ∷ []) ∷ []) unary ∷
+    imm_row (λ e. e.zbb) (0b011000 ∷ []) 1 (amount_in (0 ∷ []) ∷ []) (unary_of unaries.Clz) ∷
+    imm_row (λ e. e.zbb) (0b011000 ∷ []) 1 (amount_in (1 ∷ []) ∷ []) (unary_of unaries.Ctz) ∷
+    imm_row (λ e. e.zbb) (0b011000 ∷ []) 1 (amount_in (2 ∷ []) ∷ []) (unary_of unaries.Cpop) ∷
     -- SEXT.B, SEXT.H
     imm_row (λ e. e.zbb) (0b011000 ∷ []) 1 (amount_in (4 ∷ []) ∷ []) (extend SextB) ∷
     imm_row (λ e. e.zbb) (0b011000 ∷ []) 1 (amount_in (5 ∷ []) ∷ []) (extend SextH) ∷
     -- BSETI, BCLRI, BINVI; BEXTI
-    imm_row (λ e. e.zbs) (0b001010 ∷ 0b010010 ∷ 0b011010 ∷ []) 1 [] unary ∷
-    imm_row (λ e. e.zbs) (0b010010 ∷ []) 5 [] unary ∷
+    imm_row (λ e. e.zbs) (0b001010 ∷ []) 1 [] (shift imms.Bseti) ∷
+    imm_row (λ e. e.zbs) (0b010010 ∷ []) 1 [] (shift imms.Bclri) ∷
+    imm_row (λ e. e.zbs) (0b011010 ∷ []) 1 [] (shift imms.Binvi) ∷
+    imm_row (λ e. e.zbs) (0b010010 ∷ []) 5 [] (shift imms.Bexti) ∷
     -- RORI
-    imm_row rotates (0b011000 ∷ []) 5 [] unary ∷
+    imm_row rotates (0b011000 ∷ []) 5 [] (shift imms.Rori) ∷
     -- ORC.B
-    imm_row (λ e. e.zbb) (0b001010 ∷ []) 5 (amount_in (7 ∷ []) ∷ []) unary ∷
+    imm_row (λ e. e.zbb) (0b001010 ∷ []) 5 (amount_in (7 ∷ []) ∷ []) (unary_of unaries.OrcB) ∷
     -- REV8
-    imm_row rotates (0b011010 ∷ []) 5 (amount_in (0b111000 ∷ []) ∷ []) unary ∷
+    imm_row rotates (0b011010 ∷ []) 5 (amount_in (0b111000 ∷ []) ∷ []) (unary_of unaries.Rev8) ∷
     -- BREV8
     imm_row (λ e. e.zbkb) (0b011010 ∷ []) 5 (amount_in (7 ∷ []) ∷ []) unary ∷
     -- SHA256SUM0, SHA256SUM1, SHA256SIG0, SHA256SIG1, SHA512SUM0, SHA512SUM1, SHA512SIG0, SHA512SIG1
@@ -163,9 +177,11 @@ imm_w_rows =
     -- SLLI.UW, whose amount has six bits
     imm_w_row (λ e. e.zba) (0x04 ∷ 0x05 ∷ []) 1 [] shift_word ∷
     -- CLZW, CTZW, CPOPW
-    imm_w_row (λ e. e.zbb) (0x30 ∷ []) 1 (rs2_in (0 ∷ 1 ∷ 2 ∷ []) ∷ []) unary ∷
+    imm_w_row (λ e. e.zbb) (0x30 ∷ []) 1 (rs2_in (0 ∷ []) ∷ []) (unary_of unaries.Clzw) ∷
+    imm_w_row (λ e. e.zbb) (0x30 ∷ []) 1 (rs2_in (1 ∷ []) ∷ []) (unary_of unaries.Ctzw) ∷
+    imm_w_row (λ e. e.zbb) (0x30 ∷ []) 1 (rs2_in (2 ∷ []) ∷ []) (unary_of unaries.Cpopw) ∷
     -- RORIW
-    imm_w_row rotates (0x30 ∷ []) 5 [] unary ∷ []
+    imm_w_row rotates (0x30 ∷ []) 5 [] (shift_w imm_ws.Roriw) ∷ []
 
 -- ---- opcode 33: OP ("Zba", "Zbb", "Zbs", "Zbc", "Zbkb", "Zbkc", "Zbkx", "Zicond"; the chapter of
 -- scalar cryptography)
@@ -181,23 +197,32 @@ reg_rows =
     reg_row (λ e. e.zba) (0x10 ∷ []) (4 ∷ []) (shift_add 2 false) ∷
     reg_row (λ e. e.zba) (0x10 ∷ []) (6 ∷ []) (shift_add 3 false) ∷
     -- XNOR, ORN, ANDN
-    reg_row rotates (0x20 ∷ []) (4 ∷ 6 ∷ 7 ∷ []) binary ∷
+    reg_row rotates (0x20 ∷ []) (4 ∷ []) (reg regs.Xnor) ∷
+    reg_row rotates (0x20 ∷ []) (6 ∷ []) (reg regs.Orn) ∷
+    reg_row rotates (0x20 ∷ []) (7 ∷ []) (reg regs.Andn) ∷
     -- ROL, ROR
-    reg_row rotates (0x30 ∷ []) (1 ∷ 5 ∷ []) binary ∷
+    reg_row rotates (0x30 ∷ []) (1 ∷ []) (reg regs.Rol) ∷
+    reg_row rotates (0x30 ∷ []) (5 ∷ []) (reg regs.Ror) ∷
     -- MIN, MINU, MAX, MAXU
-    reg_row (λ e. e.zbb) (0x05 ∷ []) (4 ∷ 5 ∷ 6 ∷ 7 ∷ []) binary ∷
+    reg_row (λ e. e.zbb) (0x05 ∷ []) (4 ∷ []) (reg regs.Min) ∷
+    reg_row (λ e. e.zbb) (0x05 ∷ []) (5 ∷ []) (reg regs.Minu) ∷
+    reg_row (λ e. e.zbb) (0x05 ∷ []) (6 ∷ []) (reg regs.Max) ∷
+    reg_row (λ e. e.zbb) (0x05 ∷ []) (7 ∷ []) (reg regs.Maxu) ∷
     -- CLMUL, CLMULH; CLMULR
     reg_row multiplies (0x05 ∷ []) (1 ∷ 3 ∷ []) binary ∷
     reg_row (λ e. e.zbc) (0x05 ∷ []) (2 ∷ []) binary ∷
-    -- BSET, BINV; BCLR, BEXT
-    reg_row (λ e. e.zbs) (0x14 ∷ 0x34 ∷ []) (1 ∷ []) binary ∷
-    reg_row (λ e. e.zbs) (0x24 ∷ []) (1 ∷ 5 ∷ []) binary ∷
+    -- BSET, BINV, BCLR, BEXT
+    reg_row (λ e. e.zbs) (0x14 ∷ []) (1 ∷ []) (reg regs.Bset) ∷
+    reg_row (λ e. e.zbs) (0x34 ∷ []) (1 ∷ []) (reg regs.Binv) ∷
+    reg_row (λ e. e.zbs) (0x24 ∷ []) (1 ∷ []) (reg regs.Bclr) ∷
+    reg_row (λ e. e.zbs) (0x24 ∷ []) (5 ∷ []) (reg regs.Bext) ∷
     -- PACK, PACKH
     reg_row (λ e. e.zbkb) (0x04 ∷ []) (4 ∷ 7 ∷ []) binary ∷
     -- XPERM4, XPERM8
     reg_row (λ e. e.zbkx) (0x14 ∷ []) (2 ∷ 4 ∷ []) binary ∷
     -- CZERO.EQZ, CZERO.NEZ
-    reg_row (λ e. e.zicond) (0x07 ∷ []) (5 ∷ 7 ∷ []) binary ∷
+    reg_row (λ e. e.zicond) (0x07 ∷ []) (5 ∷ []) (reg regs.CzeroEqz) ∷
+    reg_row (λ e. e.zicond) (0x07 ∷ []) (7 ∷ []) (reg regs.CzeroNez) ∷
     -- AES64DS, AES64DSM; AES64ES, AES64ESM
     reg_row (λ e. e.zknd) (0x1D ∷ 0x1F ∷ []) (0 ∷ []) binary ∷
     reg_row (λ e. e.zkne) (0x19 ∷ 0x1B ∷ []) (0 ∷ []) binary ∷
@@ -225,7 +250,8 @@ reg_w_rows =
     reg_w_row (λ e. e.zba) 0x10 (4 ∷ []) [] (shift_add 2 true) ∷
     reg_w_row (λ e. e.zba) 0x10 (6 ∷ []) [] (shift_add 3 true) ∷
     -- ROLW, RORW
-    reg_w_row rotates 0x30 (1 ∷ 5 ∷ []) [] binary ∷
+    reg_w_row rotates 0x30 (1 ∷ []) [] (reg_w reg_ws.Rolw) ∷
+    reg_w_row rotates 0x30 (5 ∷ []) [] (reg_w reg_ws.Rorw) ∷
     -- ZEXT.H, which is PACKW with x0; PACKW
     reg_w_row rotates 0x04 (4 ∷ []) (rs2_in (0 ∷ []) ∷ []) (extend ZextH) ∷
     reg_w_row (λ e. e.zbkb) 0x04 (4 ∷ []) (rs2_in not_x0 ∷ []) binary ∷ []

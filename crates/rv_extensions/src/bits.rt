@@ -6,18 +6,21 @@ ghost use Rattle.std.specs.Prelude.{◌≡◌, ◌==◌, ◌&&◌, ◌||◌, Som
 ghost use Rattle.rv_decode.specs.Fields.{opcode};
 ghost use Rattle.rv_decode.specs.Fields;
 ghost use Rattle.rv_float.specs.Table.{is_among};
+ghost use Rattle.rv_decode.specs.Table as base;
 ghost use Rattle.rv_extensions.specs.Registers as registers;
 ghost use Rattle.rv_extensions.specs.Table as table;
 ghost use Rattle.rv_extensions.specs.Table.{extension_instruction};
 
-use crate::meaning::{binary, extend, shift_add, shift_word, unary};
+use crate::meaning::{
+    binary, extend, reg, reg_w, shift, shift_add, shift_w, shift_word, unary, unary_of,
+};
 use elf_image::Extensions;
 use rv_decode::fields::{funct3, funct6, funct7, rs2};
-use rv_decode::{ExtendKind, Insn};
+use rv_decode::{ExtendKind, ImmKind, ImmWKind, Insn, RegKind, RegWKind, UnaryKind};
 use rvc_expand::bits::field;
 
 /// Operations on two registers, by `funct7` and `funct3`.
-#[tactic(auto, using(crate::proofs::ByOpcode::reg_cases_04, crate::proofs::ByOpcode::reg_cases_07, crate::proofs::ByOpcode::reg_cases_20, crate::proofs::ByOpcode::reg_cases_24, crate::proofs::ByOpcode::reg_cases_30, crate::proofs::ByOpcode::reg_cases_34, crate::proofs::ByOpcode::reg_cases_18, crate::proofs::ByOpcode::reg_cases_19, crate::proofs::ByOpcode::reg_cases_1a, crate::proofs::ByOpcode::reg_cases_1b, crate::proofs::ByOpcode::reg_cases_1d, crate::proofs::ByOpcode::reg_cases_1f, crate::proofs::ByOpcode::reg_cases_38, crate::proofs::ByOpcode::reg_cases_3a, crate::proofs::ByOpcode::reg_cases_3f, crate::proofs::ByOpcode::reg_cases_58, crate::proofs::ByOpcode::reg_cases_5a, crate::proofs::ByOpcode::reg_cases_78, crate::proofs::ByOpcode::reg_cases_7a, crate::proofs::ByOpcode::reg_cases_none))]
+#[tactic(auto, using(crate::proofs::ByOpcode::reg_cases_04, crate::proofs::ByOpcode::reg_cases_18, crate::proofs::ByOpcode::reg_cases_19, crate::proofs::ByOpcode::reg_cases_1a, crate::proofs::ByOpcode::reg_cases_1b, crate::proofs::ByOpcode::reg_cases_1d, crate::proofs::ByOpcode::reg_cases_1f, crate::proofs::ByOpcode::reg_cases_38, crate::proofs::ByOpcode::reg_cases_3a, crate::proofs::ByOpcode::reg_cases_3f, crate::proofs::ByOpcode::reg_cases_58, crate::proofs::ByOpcode::reg_cases_5a, crate::proofs::ByOpcode::reg_cases_78, crate::proofs::ByOpcode::reg_cases_7a, crate::proofs::ByOpcode::reg_cases_none))]
 pub(crate) fn op(extensions: Extensions, word: u32) -> Option<Insn>
     requires { opcode word ≡ 0x33 }
     ensures { result ≡ extension_instruction extensions word }
@@ -26,13 +29,13 @@ pub(crate) fn op(extensions: Extensions, word: u32) -> Option<Insn>
     match funct7(word) {
         0x04 => two(word, matches!(function, 4 | 7) && extensions.zbkb),
         0x05 => least_or_product(extensions, word),
-        0x07 => two(word, matches!(function, 5 | 7) && extensions.zicond),
+        0x07 => conditional(extensions, word),
         0x10 => shifted_sum(extensions, word),
         0x14 => set_or_permute(extensions, word),
-        0x20 => two(word, is_negated(word) && rotates(extensions)),
-        0x24 => two(word, matches!(function, 1 | 5) && extensions.zbs),
-        0x30 => two(word, matches!(function, 1 | 5) && rotates(extensions)),
-        0x34 => two(word, function == 1 && extensions.zbs),
+        0x20 => negated(extensions, word),
+        0x24 => clear_or_extract(extensions, word),
+        0x30 => rotation(extensions, word),
+        0x34 => inversion(extensions, word),
         0x18 | 0x38 | 0x58 | 0x78 => two(word, function == 0 && extensions.zksed),
         0x1a | 0x3a | 0x5a | 0x7a => two(word, function == 0 && extensions.zksed),
         0x19 | 0x1b => two(word, function == 0 && extensions.zkne),
@@ -61,44 +64,100 @@ fn shifted_sum(extensions: Extensions, word: u32) -> Option<Insn>
 }
 
 /// MIN, MINU, MAX and MAXU; CLMUL, CLMULR and CLMULH.
-#[tactic(auto, using(crate::proofs::ByOpcode::least_or_product_is))]
+#[tactic(auto, using(crate::proofs::ByOpcode::reg_cases_05))]
 fn least_or_product(extensions: Extensions, word: u32) -> Option<Insn>
     requires code { opcode word ≡ 0x33 }
     requires function { Fields.funct7 word ≡ 0x05 }
     ensures { result ≡ extension_instruction extensions word }
 {
-    let least = is_least_or_greatest(word) && extensions.zbb;
-    two(word, least || multiplies_by(extensions, word))
+    match funct3(word) {
+        1 | 3 => two(word, multiplies(extensions)),
+        2 => two(word, extensions.zbc),
+        4 => extensions.zbb.then_some(reg(word, RegKind::Min)),
+        5 => extensions.zbb.then_some(reg(word, RegKind::Minu)),
+        6 => extensions.zbb.then_some(reg(word, RegKind::Max)),
+        7 => extensions.zbb.then_some(reg(word, RegKind::Maxu)),
+        _ => None,
+    }
 }
 
-/// Whether `funct3` tells a product that is named.
-fn multiplies_by(extensions: Extensions, word: u32) -> bool
-    ensures { result ≡ ((is_among (1 ∷ 3 ∷ []) (Fields.funct3 word) && table.multiplies extensions)
-        || (Fields.funct3 word == 2 && extensions.zbc)) }
+/// CZERO.EQZ and CZERO.NEZ.
+#[tactic(auto, using(crate::proofs::ByOpcode::reg_cases_07))]
+fn conditional(extensions: Extensions, word: u32) -> Option<Insn>
+    requires code { opcode word ≡ 0x33 }
+    requires function { Fields.funct7 word ≡ 0x07 }
+    ensures { result ≡ extension_instruction extensions word }
 {
-    let product = is_product(word) && multiplies(extensions);
-    product || funct3(word) == 2 && extensions.zbc
+    if !extensions.zicond {
+        return None;
+    }
+    match funct3(word) {
+        5 => Some(reg(word, RegKind::CzeroEqz)),
+        7 => Some(reg(word, RegKind::CzeroNez)),
+        _ => None,
+    }
 }
 
-/// Whether `funct3` tells MIN, MINU, MAX or MAXU.
-fn is_least_or_greatest(word: u32) -> bool
-    ensures { result ≡ is_among (4 ∷ 5 ∷ 6 ∷ 7 ∷ []) (Fields.funct3 word) }
+/// XNOR, ORN and ANDN.
+#[tactic(auto, using(crate::proofs::ByOpcode::reg_cases_20))]
+fn negated(extensions: Extensions, word: u32) -> Option<Insn>
+    requires code { opcode word ≡ 0x33 }
+    requires function { Fields.funct7 word ≡ 0x20 }
+    ensures { result ≡ extension_instruction extensions word }
 {
-    matches!(funct3(word), 4 | 5 | 6 | 7)
+    if !rotates(extensions) {
+        return None;
+    }
+    match funct3(word) {
+        4 => Some(reg(word, RegKind::Xnor)),
+        6 => Some(reg(word, RegKind::Orn)),
+        7 => Some(reg(word, RegKind::Andn)),
+        _ => None,
+    }
 }
 
-/// Whether it tells CLMUL or CLMULH.
-fn is_product(word: u32) -> bool
-    ensures { result ≡ is_among (1 ∷ 3 ∷ []) (Fields.funct3 word) }
+/// BCLR and BEXT.
+#[tactic(auto, using(crate::proofs::ByOpcode::reg_cases_24))]
+fn clear_or_extract(extensions: Extensions, word: u32) -> Option<Insn>
+    requires code { opcode word ≡ 0x33 }
+    requires function { Fields.funct7 word ≡ 0x24 }
+    ensures { result ≡ extension_instruction extensions word }
 {
-    matches!(funct3(word), 1 | 3)
+    if !extensions.zbs {
+        return None;
+    }
+    match funct3(word) {
+        1 => Some(reg(word, RegKind::Bclr)),
+        5 => Some(reg(word, RegKind::Bext)),
+        _ => None,
+    }
 }
 
-/// Whether it tells XNOR, ORN or ANDN.
-fn is_negated(word: u32) -> bool
-    ensures { result ≡ is_among (4 ∷ 6 ∷ 7 ∷ []) (Fields.funct3 word) }
+/// ROL and ROR.
+#[tactic(auto, using(crate::proofs::ByOpcode::reg_cases_30))]
+fn rotation(extensions: Extensions, word: u32) -> Option<Insn>
+    requires code { opcode word ≡ 0x33 }
+    requires function { Fields.funct7 word ≡ 0x30 }
+    ensures { result ≡ extension_instruction extensions word }
 {
-    matches!(funct3(word), 4 | 6 | 7)
+    if !rotates(extensions) {
+        return None;
+    }
+    match funct3(word) {
+        1 => Some(reg(word, RegKind::Rol)),
+        5 => Some(reg(word, RegKind::Ror)),
+        _ => None,
+    }
+}
+
+/// BINV.
+#[tactic(auto, using(crate::proofs::ByOpcode::reg_cases_34))]
+fn inversion(extensions: Extensions, word: u32) -> Option<Insn>
+    requires code { opcode word ≡ 0x33 }
+    requires function { Fields.funct7 word ≡ 0x34 }
+    ensures { result ≡ extension_instruction extensions word }
+{
+    (funct3(word) == 1 && extensions.zbs).then_some(reg(word, RegKind::Binv))
 }
 
 /// BSET; XPERM4 and XPERM8.
@@ -109,14 +168,14 @@ fn set_or_permute(extensions: Extensions, word: u32) -> Option<Insn>
     ensures { result ≡ extension_instruction extensions word }
 {
     match funct3(word) {
-        1 => two(word, extensions.zbs),
+        1 => extensions.zbs.then_some(reg(word, RegKind::Bset)),
         2 | 4 => two(word, extensions.zbkx),
         _ => None,
     }
 }
 
 /// Operations on 32 bits of two registers.
-#[tactic(auto, using(crate::proofs::ByOpcode::reg_w_cases_30, crate::proofs::ByOpcode::reg_w_cases_none))]
+#[tactic(auto, using(crate::proofs::ByOpcode::reg_w_cases_none))]
 pub(crate) fn op_32(extensions: Extensions, word: u32) -> Option<Insn>
     requires { opcode word ≡ 0x3B }
     ensures { result ≡ extension_instruction extensions word }
@@ -124,7 +183,24 @@ pub(crate) fn op_32(extensions: Extensions, word: u32) -> Option<Insn>
     match funct7(word) {
         0x04 => add_or_pack(extensions, word),
         0x10 => shifted_word_sum(extensions, word),
-        0x30 => two(word, matches!(funct3(word), 1 | 5) && rotates(extensions)),
+        0x30 => word_rotation(extensions, word),
+        _ => None,
+    }
+}
+
+/// ROLW and RORW.
+#[tactic(auto, using(crate::proofs::ByOpcode::reg_w_cases_30))]
+fn word_rotation(extensions: Extensions, word: u32) -> Option<Insn>
+    requires code { opcode word ≡ 0x3B }
+    requires function { Fields.funct7 word ≡ 0x30 }
+    ensures { result ≡ extension_instruction extensions word }
+{
+    if !rotates(extensions) {
+        return None;
+    }
+    match funct3(word) {
+        1 => Some(reg_w(word, RegWKind::Rolw)),
+        5 => Some(reg_w(word, RegWKind::Rorw)),
         _ => None,
     }
 }
@@ -169,16 +245,29 @@ pub(crate) fn op_imm(extensions: Extensions, word: u32) -> Option<Insn>
     ensures { result ≡ extension_instruction extensions word }
 {
     match (funct6(word), funct3(word)) {
-        (0b00_1010 | 0b01_0010 | 0b01_1010, 1) => one(word, extensions.zbs),
-        (0b00_1010, 5) => one(word, amount(word) == 7 && extensions.zbb),
-        (0b01_0010, 5) => one(word, extensions.zbs),
+        (0b00_1010, 1) => single_bit(word, ImmKind::Bseti, extensions.zbs),
+        (0b01_0010, 1) => single_bit(word, ImmKind::Bclri, extensions.zbs),
+        (0b01_1010, 1) => single_bit(word, ImmKind::Binvi, extensions.zbs),
+        (0b01_0010, 5) => single_bit(word, ImmKind::Bexti, extensions.zbs),
+        (0b00_1010, 5) => or_combine(extensions, word),
         (0b01_1000, 1) => count_or_extend(extensions, word),
-        (0b01_1000, 5) => one(word, rotates(extensions)),
+        (0b01_1000, 5) => rotates(extensions).then_some(shift(word, ImmKind::Rori)),
         (0b01_1010, 5) => reverse(extensions, word),
         (0b00_0100, 1) => digest(extensions, word),
         (0b00_1100, 1) => key(extensions, word),
         _ => None,
     }
+}
+
+/// ORC.B.
+#[tactic(auto, using(crate::proofs::ByOpcode::imm_cases_0a))]
+fn or_combine(extensions: Extensions, word: u32) -> Option<Insn>
+    requires code { opcode word ≡ 0x13 }
+    requires shift { Fields.funct6 word ≡ 0x0A }
+    requires function { Fields.funct3 word ≡ 5 }
+    ensures { result ≡ extension_instruction extensions word }
+{
+    (amount(word) == 7 && extensions.zbb).then_some(unary_of(word, UnaryKind::OrcB))
 }
 
 /// The functions of SHA-2 and SM3, by the amount.
@@ -240,7 +329,9 @@ fn count_or_extend(extensions: Extensions, word: u32) -> Option<Insn>
         return None;
     }
     match amount(word) {
-        0 | 1 | 2 => Some(unary(word)),
+        0 => Some(unary_of(word, UnaryKind::Clz)),
+        1 => Some(unary_of(word, UnaryKind::Ctz)),
+        2 => Some(unary_of(word, UnaryKind::Cpop)),
         4 => Some(extend(word, ExtendKind::SextB)),
         5 => Some(extend(word, ExtendKind::SextH)),
         _ => None,
@@ -256,7 +347,7 @@ fn reverse(extensions: Extensions, word: u32) -> Option<Insn>
     ensures { result ≡ extension_instruction extensions word }
 {
     match amount(word) {
-        0b11_1000 => one(word, rotates(extensions)),
+        0b11_1000 => rotates(extensions).then_some(unary_of(word, UnaryKind::Rev8)),
         7 => one(word, extensions.zbkb),
         _ => None,
     }
@@ -271,7 +362,7 @@ pub(crate) fn op_imm_32(extensions: Extensions, word: u32) -> Option<Insn>
     match (funct7(word), funct3(word)) {
         (0x04 | 0x05, 1) => extensions.zba.then_some(shift_word(word)),
         (0x30, 1) => count_word(extensions, word),
-        (0x30, 5) => one(word, rotates(extensions)),
+        (0x30, 5) => rotates(extensions).then_some(shift_w(word, ImmWKind::Roriw)),
         _ => None,
     }
 }
@@ -284,8 +375,13 @@ fn count_word(extensions: Extensions, word: u32) -> Option<Insn>
     requires function { Fields.funct3 word ≡ 1 }
     ensures { result ≡ extension_instruction extensions word }
 {
+    if !extensions.zbb {
+        return None;
+    }
     match rs2(word) {
-        0 | 1 | 2 => one(word, extensions.zbb),
+        0 => Some(unary_of(word, UnaryKind::Clzw)),
+        1 => Some(unary_of(word, UnaryKind::Ctzw)),
+        2 => Some(unary_of(word, UnaryKind::Cpopw)),
         _ => None,
     }
 }
@@ -316,6 +412,13 @@ fn amount(word: u32) -> u32
     ensures { result ≡ Fields.field word 25 20 }
 {
     field(word, 25, 20)
+}
+
+/// An operation on one bit of a register, by the amount, if it is `named`.
+fn single_bit(word: u32, kind: ImmKind, named: bool) -> Option<Insn>
+    ensures { result ≡ if named then Some (base.shift kind word) else None }
+{
+    named.then_some(shift(word, kind))
 }
 
 /// An operation on one register, if the word `fits` it.

@@ -3,11 +3,12 @@
 ghost use Rattle.std.specs.Prelude.{◌≡◌, ◌<◌, ◌^◌, ◌&&◌, if◌then◌else◌, Some, None, bit_or};
 ghost use Rattle.rv_extensions.specs.Registers.{only, both, pair};
 ghost use Rattle.rv_decode.specs.Fields;
+ghost use Rattle.rv_decode.specs.Table as base;
 ghost use Rattle.rv_extensions.specs.Registers as registers;
 ghost use Rattle.rv_extensions.specs.Table as table;
 
-use rv_decode::fields::{funct3, funct5, funct6, rd, rs1, rs2};
-use rv_decode::{ExtendKind, Insn, VendorKind};
+use rv_decode::fields::{funct3, funct5, funct6, rd, rs1, rs2, shift_amount, word_shift_amount};
+use rv_decode::{ExtendKind, ImmKind, ImmWKind, Insn, RegKind, RegWKind, UnaryKind, VendorKind};
 use rvc_expand::bits::field;
 
 /// The mask of one register; x0 is in no mask.
@@ -185,6 +186,65 @@ pub(crate) fn extend(word: u32, kind: ExtendKind) -> Insn
         kind,
         rd: rd(word),
         rs1: rs1(word),
+    }
+}
+
+/// An operation on one register.
+pub(crate) fn unary_of(word: u32, kind: UnaryKind) -> Insn
+    ensures { result ≡ table.unary_of kind word }
+{
+    Insn::Unary {
+        kind,
+        rd: rd(word),
+        rs1: rs1(word),
+    }
+}
+
+/// An operation on two registers.
+pub(crate) fn reg(word: u32, kind: RegKind) -> Insn
+    ensures { result ≡ base.reg kind word }
+{
+    Insn::Reg {
+        kind,
+        rd: rd(word),
+        rs1: rs1(word),
+        rs2: rs2(word),
+    }
+}
+
+/// One on the low 32 bits of two registers.
+pub(crate) fn reg_w(word: u32, kind: RegWKind) -> Insn
+    ensures { result ≡ base.reg_w kind word }
+{
+    Insn::RegW {
+        kind,
+        rd: rd(word),
+        rs1: rs1(word),
+        rs2: rs2(word),
+    }
+}
+
+/// One on a register and an amount of six bits.
+pub(crate) fn shift(word: u32, kind: ImmKind) -> Insn
+    ensures { result ≡ base.shift kind word }
+{
+    Insn::Imm {
+        kind,
+        rd: rd(word),
+        rs1: rs1(word),
+        imm: shift_amount(word),
+    }
+}
+
+/// One on the low 32 bits of a register and an amount of five bits.
+pub(crate) fn shift_w(word: u32, kind: ImmWKind) -> Insn
+    ensures { result ≡ base.shift_w kind word }
+{
+    Insn::ImmW {
+        kind,
+        rd: rd(word),
+        rs1: rs1(word),
+        imm: word_shift_amount(word),
     }
 }
 

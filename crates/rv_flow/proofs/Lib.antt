@@ -4,6 +4,8 @@ mod Uppers
 pub mod Told
 pub mod Extended
 pub mod EndsTold
+pub mod Rv64gc
 pub mod Stands
+pub mod Beyond
 pub mod Kept
 mod Lengths

@@ -9,7 +9,7 @@ use Rattle.rv_extensions.specs.IntegerFloats.{named_instruction}
 use Rattle.rv_extensions.specs.Forms.{extension_form}
 use Rattle.rv_flow.specs.declared.placed.Placed.{Placed}
 use Rattle.rv_flow.specs.Placed.{rv64gc_insn, whole_insn, compressed_insn, expanded, whole, bad, placed_by, placed_at}
-use Rattle.rv_flow.specs.Rv64gc.{rv64gc_half, rv64gc_placed_by, rv64gc_placed_at}
+use Rattle.rv_flow.proofs.Rv64gc.{rv64gc_half, rv64gc_placed_by, rv64gc_placed_at}
 
 module _ (e : Extensions) (bytes : List ℕ) (a : ℕ) (insn : Insn) where
   -- these two are the same if the first is an instruction

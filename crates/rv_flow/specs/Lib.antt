@@ -1,5 +1,4 @@
 pub mod Placed
-pub mod Rv64gc
 pub mod Raw
 pub mod Straight
 pub mod InsnBytes

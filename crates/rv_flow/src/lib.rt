@@ -15,5 +15,5 @@ pub use insn_bytes::{InsnBytes, PlacedFlow, flow_of_bytes};
 pub use laws::{each_word_is_its_instruction, every_expansion_decodes};
 pub use placed::{Placed, insn_at, rv64gc_insn};
 pub use raw::{RawFlow, flow_of, raw_flow};
-pub use rv64gc::{rv64gc_insn_at, rv64gc_word};
+pub use rv64gc::rv64gc_word;
 pub use straight::StraightForms;

@@ -1,5 +1,5 @@
--- The instruction of RV64GC at a code address writes one of 32 registers.
-use Rattle.std.proofs.Common.{ℕ, ◌%◌, ◌/◌, ◌<◌, ◌==◌, Bool, true, false, List, [], ◌∷◌, ◌++◌, Option, Some, None, arith}
+-- The instruction at a code address writes one of 32 registers.
+use Rattle.std.proofs.Common.{◌≡◌, ℕ, ◌%◌, ◌/◌, ◌<◌, ◌==◌, ◌⊎◌, inl, inr, Bool, true, false, List, [], ◌∷◌, ◌++◌, Option, Some, None, ap, ◌∙◌, subst, arith}
 use Rattle.std.specs.Prelude.{IfSome}
 use Rattle.std.specs.Option.{option_and_then, option_or, option_map_or}
 use Rattle.std.proofs.lemmas.Bool.{cond_both}
@@ -11,8 +11,11 @@ use Rattle.rv_float.specs.Table as float
 use Rattle.rv_flow.specs.declared.placed.Placed.{Placed}
 use Rattle.elf_image.specs.declared.extensions.Extensions.{Extensions}
 use Rattle.elf_image.specs.Architecture.{extensions_of}
-use Rattle.rv_flow.specs.Placed.{expanded, whole, bad, float_insn, rv64gc_insn}
-use Rattle.rv_flow.specs.Rv64gc.{rv64gc_placed_by, rv64gc_placed_at}
+use Rattle.rv_flow.specs.Placed.{expanded, whole, bad, float_insn, rv64gc_insn, placed_at}
+use Rattle.rv_flow.proofs.Beyond.{IsBeyond, placed_either}
+use Rattle.rv_decode.specs.declared.instructions.Insn.TheVariants as insns
+use Rattle.rv_decode.specs.declared.instructions.ImmKind.TheVariants as imms
+use Rattle.rv_flow.proofs.Rv64gc.{rv64gc_placed_by, rv64gc_placed_at}
 use Rattle.rv_machine.specs.Inner.Operands.{WritesRegister}
 
 -- each row of a list means an instruction that writes a register
@@ -144,6 +147,22 @@ whole_writes : (insn : Option Insn) → IfSome insn WritesRegister → IfSome (w
 whole_writes None h = tt
 whole_writes (Some insn) h = h
 
+beyond-writes : (insn : Insn) → IsBeyond insn → WritesRegister insn
+beyond-writes (insns.Load kind rd rs1 imm) beyond = beyond.0
+beyond-writes (insns.Store kind rs1 rs2 imm) beyond = tt
+beyond-writes (insns.Imm imms.Addi rd rs1 imm) beyond = absurd beyond
+beyond-writes (insns.Imm kind rd rs1 imm) beyond = beyond.0
+beyond-writes (insns.ImmW kind rd rs1 imm) beyond = beyond.0
+beyond-writes (insns.Reg kind rd rs1 rs2) beyond = beyond.0
+beyond-writes (insns.RegW kind rd rs1 rs2) beyond = beyond.0
+beyond-writes (insns.ShiftAdd shift zero_extended rd rs1 rs2) beyond = beyond.0
+beyond-writes (insns.Extend kind rd rs1) beyond = beyond.0
+beyond-writes (insns.Unary kind rd rs1) beyond = beyond.0
+beyond-writes (insns.Extension reads writes) beyond = tt
+beyond-writes (insns.Away kind reads writes) beyond = tt
+beyond-writes (insns.Vendor kind shift rd rs1 rs2) beyond = tt
+beyond-writes insn beyond = absurd beyond
+
 module _ (bytes : List ℕ) (a : ℕ) where
   whole-word : (word : Option ℕ) → IfSome (whole (option_and_then (rv64gc_insn (extensions_of bytes)) word)).insn WritesRegister
   whole-word word = whole_writes (option_and_then (rv64gc_insn (extensions_of bytes)) word) (word_writes (extensions_of bytes) word)
@@ -155,6 +174,9 @@ module _ (bytes : List ℕ) (a : ℕ) where
       (λ _. cond_both (half / 4 % 8 == 7) _ _ (λ (p : Placed). IfSome p.insn WritesRegister) (λ _. tt) (λ _. whole-word (word_at bytes a)))
       (λ _. word_writes (extensions_of bytes) (expanded (extensions_of bytes) half))
 
-  -- the instruction of RV64GC at an address writes one of 32 registers
-  pub placed-writes : IfSome (rv64gc_placed_at bytes a).insn WritesRegister
-  placed-writes = by-half (half_at bytes a)
+  -- the instruction at an address writes one of 32 registers
+  pub placed-writes : (insn : Insn) → (placed_at bytes a).insn ≡ Some insn → WritesRegister insn
+  placed-writes insn is = elim (placed_either bytes a insn is) [
+    | inl same ↦ subst (λ (o : Option Insn). IfSome o WritesRegister) (ap (λ (p : Placed). p.insn) same ∙ is) (by-half (half_at bytes a))
+    | inr beyond ↦ beyond-writes insn beyond
+  ]

@@ -1,5 +1,5 @@
 -- One step of the machine: what the instruction at the program counter does (RISC-V Unprivileged ISA
--- 20240411, chapters 2, 4, 13 and 14).
+-- 20240411, chapters 2, 4, 13 and 14; and where the file names them Zba, Zbb, Zbs, Zicond and Zcb).
 use Rattle.std.specs.Prelude.{ℕ, ◌+◌, ◌*◌, ◌/◌, ◌%◌, ◌^◌, ◌==◌, ◌&&◌, not, Bool, true, false, List}
 use Rattle.std.specs.Prelude.{ℤ, Option, Some, None, if◌then◌else◌}
 use Rattle.std.specs.Int.{Width, w32, w64, cast_unsigned}
@@ -12,12 +12,12 @@ use Rattle.rv_decode.specs.declared.instructions.LoadKind.{LoadKind}
 use Rattle.rv_decode.specs.declared.instructions.StoreKind.{StoreKind}
 use Rattle.rv_operations.specs.Arithmetic.{low_word, sign_extended}
 use Rattle.rv_operations.specs.Operations.{imm_result, imm_w_result, reg_result, reg_w_result}
-use Rattle.rv_operations.specs.Operations.{is_taken}
+use Rattle.rv_operations.specs.Operations.{extend_result, unary_result, is_taken}
+use Rattle.rv_operations.specs.Bits.{shift_add_result}
 use Rattle.rv_operations.specs.Atomics.{atomic_result}
 use Rattle.rv_operations.specs.Loads.{load_size, store_size, load_result}
 use Rattle.rv_flow.specs.declared.placed.Placed.{Placed}
 use Rattle.rv_flow.specs.Placed.{placed_at}
-use Rattle.rv_flow.specs.Rv64gc.{rv64gc_placed_at}
 use Rattle.rv_flow.specs.Raw.{address_plus}
 use Rattle.rv_machine.specs.declared.cpu.Reserved.{Reserved}
 use Rattle.rv_machine.specs.declared.trap.Stepped.{Stepped}
@@ -205,28 +205,27 @@ insn_step file length insns.Ebreak state memory = Traps traps.Breakpoint  -- 2.8
 insn_step file length (insns.Csr kind rd source csr) state memory = Traps traps.Csr  -- chapter 7
 insn_step file length (insns.Float writes reads) state memory = Traps traps.Float  -- chapters 21, 22
 insn_step file length (insns.ShiftAdd shift zero_extended rd rs1 rs2) state memory =
-    Traps traps.Unsupported
-insn_step file length (insns.Extend kind rd rs1) state memory = Traps traps.Unsupported
+    Goes
+    (gives length state rd
+    (shift_add_result shift zero_extended (held state.registers rs1) (held state.registers rs2)))
+    memory
+insn_step file length (insns.Extend kind rd rs1) state memory =
+    Goes (gives length state rd (extend_result kind (held state.registers rs1))) memory
+insn_step file length (insns.Unary kind rd rs1) state memory =
+    Goes (gives length state rd (unary_result kind (held state.registers rs1))) memory
 insn_step file length (insns.Extension reads writes) state memory = Traps traps.Unsupported
 insn_step file length (insns.Away kind reads writes) state memory = Traps traps.Unsupported
 insn_step file length (insns.Vendor kind shift rd rs1 rs2) state memory = Traps traps.Unsupported
 
--- the trap where no instruction of RV64GC stands: whether one of another extension does, by the
--- names in the file
-abbrev pub other_trap : Option Insn → Trap
-other_trap None = traps.Illegal
-other_trap (Some insn) = traps.Unsupported
-
-abbrev pub placed_step : List ℕ → Placed → Trap → State → Bytes → Outcome
-placed_step file placed otherwise state memory = elim placed.insn [
-  | None ↦ Traps otherwise
+abbrev pub placed_step : List ℕ → Placed → State → Bytes → Outcome
+placed_step file placed state memory = elim placed.insn [
+  | None ↦ Traps traps.Illegal
   | Some insn ↦ insn_step file placed.length insn state memory
 ]
 
--- the step from a state: the instruction is the one of RV64GC at the program counter, a code address
+-- the step from a state: the instruction is the one at the program counter, a code address
 abbrev pub step_of : List ℕ → State → Bytes → Outcome
 step_of file state memory =
     if is_code file state.pc
-    then placed_step file (rv64gc_placed_at file state.pc) (other_trap (placed_at file state.pc).insn)
-    state memory
+    then placed_step file (placed_at file state.pc) state memory
     else Traps traps.Fetch

@@ -1,4 +1,5 @@
-//! A written machine of RV64IMAC: what one step of it does, and a function that makes that step.
+//! A written machine of RV64IMAC, and where the file names them of Zba, Zbb, Zbs, Zicond and Zcb:
+//! what one step of it does, and a function that makes that step.
 //!
 //! [`step`] takes the instruction at the program counter of an [`Image`](elf_image::Image), and
 //! changes a [`Cpu`] and a [`Ram`] exactly as `specs/Step.antt` says. [`Regions`] is the memory of a

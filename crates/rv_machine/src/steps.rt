@@ -2,10 +2,10 @@
 
 ghost use Rattle.std.specs.Prelude.{◌≡◌, ◌<◌, IsTrue};
 ghost use Rattle.elf_image.specs.Code.{is_code};
-ghost use Rattle.rv_flow.specs.Rv64gc.{rv64gc_placed_at};
+ghost use Rattle.rv_flow.specs.Placed.{placed_at};
 ghost use Rattle.rv_machine.specs.State.{state_of};
 ghost use Rattle.rv_machine.specs.Step.{answer_of, state_after, memory_after, insn_step, step_of};
-ghost use Rattle.rv_machine.specs.Step.{load_step, store_step, other_trap};
+ghost use Rattle.rv_machine.specs.Step.{load_step, store_step};
 ghost use Rattle.rv_machine.specs.Inner.Operands.{WritesRegister};
 
 use crate::access::{read_at, write_at};
@@ -15,10 +15,10 @@ use crate::ram::Ram;
 use crate::trap::{Stepped, Trap};
 use elf_image::Image;
 use rv_decode::{Insn, LoadKind, StoreKind};
-use rv_flow::{Placed, insn_at, rv64gc_insn_at};
+use rv_flow::{Placed, insn_at};
 use rv_operations::{
-    imm_result, imm_w_result, is_taken, load_result, load_size, reg_result, reg_w_result,
-    store_size,
+    extend_result, imm_result, imm_w_result, is_taken, load_result, load_size, reg_result,
+    reg_w_result, shift_add_result, store_size, unary_result,
 };
 
 /// Makes the step of the instruction at the program counter. After a trap nothing has changed.
@@ -33,15 +33,15 @@ pub fn step<R: Ram>(image: &Image, cpu: &mut Cpu, ram: &mut R) -> Stepped
     if !image.is_code(cpu.pc) {
         return Stepped::Trap(Trap::Fetch);
     }
-    let placed = rv64gc_insn_at(image, cpu.pc);
+    let placed = insn_at(image, cpu.pc);
     step_placed(image, cpu, ram, placed)
 }
 
 /// The same, if the instruction at the program counter is known: `placed` is what
-/// [`rv64gc_insn_at`] gives there.
+/// [`insn_at`] gives there.
 pub fn step_placed<R: Ram>(image: &Image, cpu: &mut Cpu, ram: &mut R, placed: Placed) -> Stepped
     requires code { IsTrue (is_code image.now cpu.old.pc) }
-    requires placed { placed ≡ rv64gc_placed_at image.now cpu.old.pc }
+    requires placed { placed ≡ placed_at image.now cpu.old.pc }
     ensures answer { result ≡ answer_of (step_of image.now (state_of cpu.old) (R.bytes ram.old)) }
     ensures state { state_of cpu.new ≡ state_after
         (step_of image.now (state_of cpu.old) (R.bytes ram.old)) (state_of cpu.old) }
@@ -49,18 +49,8 @@ pub fn step_placed<R: Ram>(image: &Image, cpu: &mut Cpu, ram: &mut R, placed: Pl
         ≡ memory_after (step_of image.now (state_of cpu.old) (R.bytes ram.old)) (R.bytes ram.old) }
 {
     match placed.insn {
-        None => Stepped::Trap(other_trap(insn_at(image, cpu.pc).insn)),
+        None => Stepped::Trap(Trap::Illegal),
         Some(insn) => insn_step(image, cpu, ram, placed.length, insn),
-    }
-}
-
-/// The trap where no instruction of RV64GC stands, but perhaps one of another extension.
-fn other_trap(other: Option<Insn>) -> Trap
-    ensures { result ≡ other_trap other }
-{
-    match other {
-        None => Trap::Illegal,
-        Some(_) => Trap::Unsupported,
     }
 }
 
@@ -151,11 +141,27 @@ fn insn_step<R: Ram>(image: &Image, cpu: &mut Cpu, ram: &mut R, length: u8, insn
         Insn::Ebreak => Stepped::Trap(Trap::Breakpoint),
         Insn::Csr { .. } => Stepped::Trap(Trap::Csr),
         Insn::Float { .. } => Stepped::Trap(Trap::Float),
-        Insn::ShiftAdd { .. }
-        | Insn::Extend { .. }
-        | Insn::Extension { .. }
-        | Insn::Away { .. }
-        | Insn::Vendor { .. } => Stepped::Trap(Trap::Unsupported),
+        Insn::ShiftAdd {
+            shift,
+            zero_extended,
+            rd,
+            rs1,
+            rs2,
+        } => {
+            let value = shift_add_result(shift, zero_extended, cpu.read(rs1), cpu.read(rs2));
+            cpu.give(length, rd, value)
+        }
+        Insn::Extend { kind, rd, rs1 } => {
+            let value = extend_result(kind, cpu.read(rs1));
+            cpu.give(length, rd, value)
+        }
+        Insn::Unary { kind, rd, rs1 } => {
+            let value = unary_result(kind, cpu.read(rs1));
+            cpu.give(length, rd, value)
+        }
+        Insn::Extension { .. } | Insn::Away { .. } | Insn::Vendor { .. } => {
+            Stepped::Trap(Trap::Unsupported)
+        }
     }
 }
 

@@ -24,7 +24,7 @@ pub enum Trap {
     Csr,
     /// An instruction of the F or D extension.
     Float,
-    /// An instruction of another extension beyond RV64GC that the file names.
+    /// Any other instruction of an extension that the file names.
     Unsupported,
     /// A byte to be read is not in memory.
     LoadFault,

@@ -5,10 +5,13 @@ use Rattle.rv_decode.specs.declared.instructions.ImmKind.TheVariants as imms
 use Rattle.rv_decode.specs.declared.instructions.ImmWKind.TheVariants as imm_ws
 use Rattle.rv_decode.specs.declared.instructions.RegKind.TheVariants as regs
 use Rattle.rv_decode.specs.declared.instructions.RegWKind.TheVariants as reg_ws
+use Rattle.rv_decode.specs.declared.instructions.ExtendKind.TheVariants as extends
+use Rattle.rv_decode.specs.declared.instructions.UnaryKind.TheVariants as unaries
 use Rattle.rv_decode.specs.declared.instructions.BranchKind.TheVariants as branches
 use Rattle.rv_decode.specs.declared.instructions.AtomicKind.TheVariants as atomics
 use Rattle.rv_decode.specs.declared.instructions.LoadKind.TheVariants as loads
-use Rattle.rv_operations.specs.Operations.{imm_result, imm_w_result, reg_result, reg_w_result, is_taken}
+use Rattle.rv_operations.specs.Operations.{imm_result, imm_w_result, reg_result, reg_w_result, extend_result, unary_result, is_taken}
+use Rattle.rv_operations.specs.Bits.{shift_add_result}
 use Rattle.rv_operations.specs.Atomics.{atomic_result}
 use Rattle.rv_operations.specs.Loads.{load_result}
 
@@ -93,6 +96,53 @@ unsigned-immediate = refl
 word-shift_signed : imm_w_result imm_ws.Sraiw (2 ^ 31) 31 ≡ 2 ^ 64 - 1
 unfolding imm_w_result
 word-shift_signed = refl
+
+rotate-six_bits : reg_result regs.Ror 1 65 ≡ 2 ^ 63
+unfolding reg_result
+rotate-six_bits = refl
+
+rotate-five_bits : reg_w_result reg_ws.Rolw 0x80000001 33 ≡ 3
+unfolding reg_w_result
+rotate-five_bits = refl
+
+bit-alone : reg_result regs.Bext (2 ^ 63) 127 ≡ 1
+unfolding reg_result
+bit-alone = refl
+
+least-signed : reg_result regs.Min (2 ^ 64 - 1) 1 ≡ 2 ^ 64 - 1
+unfolding reg_result
+least-signed = refl
+
+zero-if_zero : reg_result regs.CzeroEqz 7 0 ≡ 0
+unfolding reg_result
+zero-if_zero = refl
+
+zero-if_not : reg_result regs.CzeroNez 7 0 ≡ 7
+unfolding reg_result
+zero-if_not = refl
+
+no_bit-counted : unary_result unaries.Clz 0 ≡ 64
+unfolding unary_result
+no_bit-counted = refl
+
+word-counted : unary_result unaries.Ctzw (2 ^ 32) ≡ 32
+unfolding unary_result
+word-counted = refl
+
+bytes-spread : unary_result unaries.OrcB 0x01000080 ≡ 0xFF0000FF
+unfolding unary_result
+bytes-spread = refl
+
+bytes-reversed : unary_result unaries.Rev8 0x0102030405060708 ≡ 0x0807060504030201
+unfolding unary_result
+bytes-reversed = refl
+
+half-extended : extend_result extends.SextH 0x18000 ≡ 2 ^ 64 - 2 ^ 15
+unfolding extend_result
+half-extended = refl
+
+word-shifted : shift_add_result 2 true (2 ^ 32 + 1) 1 ≡ 5
+word-shifted = refl
 
 branch-signed : is_taken branches.Blt (2 ^ 64 - 1) 0 ≡ true
 unfolding is_taken

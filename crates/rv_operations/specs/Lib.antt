@@ -1,4 +1,5 @@
 pub mod Arithmetic
+pub mod Bits
 pub mod Operations
 pub mod Atomics
 pub mod Loads

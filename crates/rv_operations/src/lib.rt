@@ -1,4 +1,4 @@
-//! What the operations of RV64IMA compute from the numbers in registers.
+//! What the operations of RV64IMA, Zba, Zbb, Zbs and Zicond compute from the numbers in registers.
 //!
 //! `specs/` has a line for each mnemonic. Here is one function for each kind of instruction, which
 //! gives exactly that number. Registers, memory and the program counter belong to the crate above.
@@ -6,6 +6,7 @@
 
 mod arithmetic;
 mod atomics;
+mod bits;
 mod loads;
 mod multiply;
 mod operations;
@@ -13,5 +14,8 @@ mod word_arithmetic;
 
 pub use arithmetic::sign_extended_word;
 pub use atomics::{atomic_double, atomic_word};
+pub use bits::shift_add_result;
 pub use loads::{load_result, load_size, store_size};
-pub use operations::{imm_result, imm_w_result, is_taken, reg_result, reg_w_result};
+pub use operations::{
+    extend_result, imm_result, imm_w_result, is_taken, reg_result, reg_w_result, unary_result,
+};

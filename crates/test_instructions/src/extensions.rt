@@ -2,7 +2,9 @@
 //! instruction of each row, and which name each of them asks for.
 
 use elf_image::Extensions;
-use rv_decode::{ExtendKind, ImmKind, Insn, LoadKind, RegKind, StoreKind};
+use rv_decode::{
+    ExtendKind, ImmKind, ImmWKind, Insn, LoadKind, RegKind, RegWKind, StoreKind, UnaryKind,
+};
 use rv_extensions::{decode_extension, expand_extension};
 use std::process::Abort;
 use std::test::Fail;
@@ -135,50 +137,65 @@ const COMPUTED: [(u32, Insn); 13] = [
     ), // zext.h x10,x11
 ];
 
+/// A word of each operation on two registers, x11 and x12 to x10.
+static REGS: [(u32, RegKind); 15] = [
+    (0x40c5f533, RegKind::Andn), // andn x10,x11,x12
+    (0x40c5e533, RegKind::Orn), // orn x10,x11,x12
+    (0x40c5c533, RegKind::Xnor), // xnor x10,x11,x12
+    (0x60c59533, RegKind::Rol), // rol x10,x11,x12
+    (0x60c5d533, RegKind::Ror), // ror x10,x11,x12
+    (0x0ac5c533, RegKind::Min), // min x10,x11,x12
+    (0x0ac5d533, RegKind::Minu), // minu x10,x11,x12
+    (0x0ac5e533, RegKind::Max), // max x10,x11,x12
+    (0x0ac5f533, RegKind::Maxu), // maxu x10,x11,x12
+    (0x28c59533, RegKind::Bset), // bset x10,x11,x12
+    (0x48c59533, RegKind::Bclr), // bclr x10,x11,x12
+    (0x68c59533, RegKind::Binv), // binv x10,x11,x12
+    (0x48c5d533, RegKind::Bext), // bext x10,x11,x12
+    (0x0ec5d533, RegKind::CzeroEqz), // czero.eqz x10,x11,x12
+    (0x0ec5f533, RegKind::CzeroNez), // czero.nez x10,x11,x12
+];
+
+/// The same on the low 32 bits.
+static WORDS: [(u32, RegWKind); 2] = [
+    (0x60c5953b, RegWKind::Rolw), // rolw x10,x11,x12
+    (0x60c5d53b, RegWKind::Rorw), // rorw x10,x11,x12
+];
+
+/// A word of each operation on one register, x31 to x10.
+static UNARIES: [(u32, UnaryKind); 8] = [
+    (0x600f9513, UnaryKind::Clz), // clz x10,x31
+    (0x601f9513, UnaryKind::Ctz), // ctz x10,x31
+    (0x602f9513, UnaryKind::Cpop), // cpop x10,x31
+    (0x600f951b, UnaryKind::Clzw), // clzw x10,x31
+    (0x601f951b, UnaryKind::Ctzw), // ctzw x10,x31
+    (0x602f951b, UnaryKind::Cpopw), // cpopw x10,x31
+    (0x287fd513, UnaryKind::OrcB), // orc.b x10,x31
+    (0x6b8fd513, UnaryKind::Rev8), // rev8 x10,x31
+];
+
+/// A word of each operation on x11 and the amount 63, to x10.
+static AMOUNTS: [(u32, ImmKind); 5] = [
+    (0x63f5d513, ImmKind::Rori), // rori x10,x11,63
+    (0x2bf59513, ImmKind::Bseti), // bseti x10,x11,63
+    (0x4bf59513, ImmKind::Bclri), // bclri x10,x11,63
+    (0x6bf59513, ImmKind::Binvi), // binvi x10,x11,63
+    (0x4bf5d513, ImmKind::Bexti), // bexti x10,x11,63
+];
+
 /// A word of each row of the others, and the masks of the integer registers that it reads and writes.
-static OTHERS: [(u32, u32, u32); 130] = [
-    (0x40c5f533, 0x1800, 0x400), // andn x10,x11,x12
-    (0x40c5e533, 0x1800, 0x400), // orn x10,x11,x12
-    (0x40c5c533, 0x1800, 0x400), // xnor x10,x11,x12
-    (0x60c59533, 0x1800, 0x400), // rol x10,x11,x12
-    (0x60c5d533, 0x1800, 0x400), // ror x10,x11,x12
-    (0x0ac5c533, 0x1800, 0x400), // min x10,x11,x12
-    (0x0ac5d533, 0x1800, 0x400), // minu x10,x11,x12
-    (0x0ac5e533, 0x1800, 0x400), // max x10,x11,x12
-    (0x0ac5f533, 0x1800, 0x400), // maxu x10,x11,x12
+static OTHERS: [(u32, u32, u32); 99] = [
     (0x0ac59533, 0x1800, 0x400), // clmul x10,x11,x12
     (0x0ac5b533, 0x1800, 0x400), // clmulh x10,x11,x12
     (0x0ac5a533, 0x1800, 0x400), // clmulr x10,x11,x12
-    (0x28c59533, 0x1800, 0x400), // bset x10,x11,x12
-    (0x48c59533, 0x1800, 0x400), // bclr x10,x11,x12
-    (0x68c59533, 0x1800, 0x400), // binv x10,x11,x12
-    (0x48c5d533, 0x1800, 0x400), // bext x10,x11,x12
     (0x08c5c533, 0x1800, 0x400), // pack x10,x11,x12
     (0x08c5f533, 0x1800, 0x400), // packh x10,x11,x12
     (0x28c5a533, 0x1800, 0x400), // xperm4 x10,x11,x12
     (0x28c5c533, 0x1800, 0x400), // xperm8 x10,x11,x12
-    (0x0ec5d533, 0x1800, 0x400), // czero.eqz x10,x11,x12
-    (0x0ec5f533, 0x1800, 0x400), // czero.nez x10,x11,x12
-    (0x60c5953b, 0x1800, 0x400), // rolw x10,x11,x12
-    (0x60c5d53b, 0x1800, 0x400), // rorw x10,x11,x12
     (0x08c5c53b, 0x1800, 0x400), // packw x10,x11,x12
     (0xcec5c573, 0x1800, 0x400), // mop.rr.7 x10,x11,x12
-    (0x600f9513, 0x80000000, 0x400), // clz x10,x31
-    (0x601f9513, 0x80000000, 0x400), // ctz x10,x31
-    (0x602f9513, 0x80000000, 0x400), // cpop x10,x31
-    (0x600f951b, 0x80000000, 0x400), // clzw x10,x31
-    (0x601f951b, 0x80000000, 0x400), // ctzw x10,x31
-    (0x602f951b, 0x80000000, 0x400), // cpopw x10,x31
-    (0x287fd513, 0x80000000, 0x400), // orc.b x10,x31
-    (0x6b8fd513, 0x80000000, 0x400), // rev8 x10,x31
     (0x687fd513, 0x80000000, 0x400), // brev8 x10,x31
     (0xcdffc573, 0x80000000, 0x400), // mop.r.31 x10,x31
-    (0x63f5d513, 0x800, 0x400), // rori x10,x11,63
-    (0x2bf59513, 0x800, 0x400), // bseti x10,x11,63
-    (0x4bf59513, 0x800, 0x400), // bclri x10,x11,63
-    (0x6bf59513, 0x800, 0x400), // binvi x10,x11,63
-    (0x4bf5d513, 0x800, 0x400), // bexti x10,x11,63
-    (0x61f5d51b, 0x800, 0x400), // roriw x10,x11,31
     (0x08b6052f, 0x1800, 0x400), // amoswap.b x10,x11,(x12)
     (0x00b6052f, 0x1800, 0x400), // amoadd.b x10,x11,(x12)
     (0x20b6052f, 0x1800, 0x400), // amoxor.b x10,x11,(x12)
@@ -500,6 +517,29 @@ fn words_of_each_row(rt: HostRuntime) -> Result<(), Fail> {
     for word in REFUSED {
         expect_word(&rt, word, None);
     }
+    Ok(())
+}
+
+#[test]
+fn words_of_operations(rt: HostRuntime) -> Result<(), Fail> {
+    let (rd, rs1, rs2) = (10, 11, 12);
+    for (word, kind) in REGS {
+        expect_word(&rt, word, Some(Insn::Reg { kind, rd, rs1, rs2 }));
+    }
+    for (word, kind) in WORDS {
+        expect_word(&rt, word, Some(Insn::RegW { kind, rd, rs1, rs2 }));
+    }
+    for (word, kind) in UNARIES {
+        let rs1 = 31;
+        expect_word(&rt, word, Some(Insn::Unary { kind, rd, rs1 }));
+    }
+    for (word, kind) in AMOUNTS {
+        let imm = 63;
+        expect_word(&rt, word, Some(Insn::Imm { kind, rd, rs1, imm }));
+    }
+    // roriw x10,x11,31
+    let (kind, imm) = (ImmWKind::Roriw, 31);
+    expect_word(&rt, 0x61f5d51b, Some(Insn::ImmW { kind, rd, rs1, imm }));
     Ok(())
 }
 

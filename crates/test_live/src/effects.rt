@@ -2,7 +2,7 @@
 
 use crate::asserts::{same, same_at};
 use live_regs::effects_of;
-use rv_decode::{ExtendKind, Insn, decode};
+use rv_decode::{ExtendKind, Insn, UnaryKind, decode};
 use std::test::Fail;
 
 /// Words with the masks of what they read and write, by the operands of their formats.
@@ -43,7 +43,7 @@ fn effects_of_words(rt: HostRuntime) -> Result<(), Fail> {
 }
 
 /// Instructions of extensions, with the masks of what they read and write.
-const EXTENDED: [(Insn, u32, u32); 4] = [
+const EXTENDED: [(Insn, u32, u32); 5] = [
     // sh2add x10, x11, x12
     (
         Insn::ShiftAdd {
@@ -77,6 +77,16 @@ const EXTENDED: [(Insn, u32, u32); 4] = [
         },
         1 << 6,
         1 << 5,
+    ),
+    // rev8 x0, x31
+    (
+        Insn::Unary {
+            kind: UnaryKind::Rev8,
+            rd: 0,
+            rs1: 31,
+        },
+        1 << 31,
+        0,
     ),
     // amocas.q x6, x8, (x10) with x0 in both masks
     (

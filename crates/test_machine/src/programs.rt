@@ -3,7 +3,7 @@
 use crate::asserts::holds;
 use crate::small_file::FILE;
 use elf_image::Image;
-use rv_flow::rv64gc_insn_at;
+use rv_flow::insn_at;
 use rv_machine::{Cpu, Regions, Stepped, Trap, step, step_placed};
 use std::alloc::Global;
 use std::test::Fail;
@@ -67,7 +67,7 @@ fn a_decoded_instruction(rt: HostRuntime) -> Result<(), Fail> {
     let image = Image::parse(alloc, Vec::from_slice(alloc, &FILE)?)?;
     let mut ram = Regions::new(alloc, &image).ok().ok_or("no memory")?;
     let mut cpu = Cpu::start(image.entry(), 0x7FFF_0000);
-    let placed = rv64gc_insn_at(&image, cpu.pc);
+    let placed = insn_at(&image, cpu.pc);
     holds(
         &rt,
         step_placed(&image, &mut cpu, &mut ram, placed) == Stepped::Next,
@@ -76,8 +76,8 @@ fn a_decoded_instruction(rt: HostRuntime) -> Result<(), Fail> {
     Ok(())
 }
 
-/// What `.riscv.attributes` holds if the architecture is `rv64izba_zcb`.
-const ATTRIBUTES: [u8; 30] = *b"A\x1D\0\0\0riscv\0\x01\x13\0\0\0\x05rv64izba_zcb\0";
+/// What `.riscv.attributes` holds if the architecture is `rv64izbc_zcb`.
+const ATTRIBUTES: [u8; 30] = *b"A\x1D\0\0\0riscv\0\x01\x13\0\0\0\x05rv64izbc_zcb\0";
 
 /// Where the file keeps the instruction at 100B0, the names of its sections, and the section header
 /// of these names.
@@ -87,8 +87,12 @@ const NAMES: usize = 0x260;
 
 const NAMES_HEADER: usize = 0x3C8;
 
-/// `sh1add x5, x6, x7`, and `c.lbu x8, 0(x8)` with zeros after it.
-const EXTENDED: [[u8; 4]; 2] = [[0xB3, 0x22, 0x73, 0x20], [0x00, 0x80, 0, 0]];
+/// `clmul x1, x2, x3`, which the machine does not make, and `c.lbu x8, 0(x8)` with zeros after it,
+/// which finds no byte there.
+const EXTENDED: [([u8; 4], Trap); 2] = [
+    ([0xB3, 0x10, 0x31, 0x0A], Trap::Unsupported),
+    ([0x00, 0x80, 0, 0], Trap::LoadFault),
+];
 
 /// Puts these bytes into a file, from the offset `at` on, as far as it goes.
 fn put(file: &mut [u8], at: usize, bytes: &[u8]) {
@@ -103,7 +107,7 @@ fn put(file: &mut [u8], at: usize, bytes: &[u8]) {
 #[test]
 fn instructions_of_extensions(rt: HostRuntime) -> Result<(), Fail> {
     let alloc = rt.alloc();
-    for word in EXTENDED {
+    for (word, trap) in EXTENDED {
         let mut file = Vec::from_slice(alloc, &FILE)?;
         put(&mut file, INSTRUCTION, &word);
         let image = Image::parse(alloc, Vec::from_slice(alloc, &file)?)?;
@@ -114,10 +118,7 @@ fn instructions_of_extensions(rt: HostRuntime) -> Result<(), Fail> {
         put(&mut file, NAMES, &ATTRIBUTES);
         put(&mut file, NAMES_HEADER + 4, &0x7000_0003_u32.to_le_bytes());
         let image = Image::parse(alloc, file)?;
-        holds(
-            &rt,
-            ends_so(alloc, &image, (0x100B0, Trap::Unsupported, 2, 0x7FFF_0000)),
-        );
+        holds(&rt, ends_so(alloc, &image, (0x100B0, trap, 2, 0x7FFF_0000)));
     }
     Ok(())
 }

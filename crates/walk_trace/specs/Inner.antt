@@ -2,7 +2,7 @@
 use Rattle.std.specs.Prelude.{◌≡◌, ℕ, Bool, IsTrue, IfSome, List, Option, Some, None, if◌then◌else◌}
 use Rattle.std.specs.List.{All}
 use Rattle.elf_image.specs.Code.{is_code}
-use Rattle.rv_flow.specs.Rv64gc.{rv64gc_placed_at}
+use Rattle.rv_flow.specs.Placed.{placed_at}
 use Rattle.rv_machine.specs.State.{state_of}
 use Rattle.rv_machine.specs.Regions.{bytes_of}
 use Rattle.walk_trace.specs.declared.decoded.Decoded.{Decoded}
@@ -10,10 +10,10 @@ use Rattle.walk_trace.specs.declared.decoded.Kept.{Kept}
 use Rattle.walk_trace.specs.declared.walker.Walker.{Walker}
 use Rattle.walk_trace.specs.Trace.{Walk}
 
--- A kept instruction is the one of RV64GC at its address in the file.
+-- A kept instruction is the one at its address in the file.
 pub record IsDecoded (bytes : List ℕ) (kept : Kept) : Type 0 where
   pub code : IsTrue (is_code bytes kept.at)
-  pub placed : kept.placed ≡ rv64gc_placed_at bytes kept.at
+  pub placed : kept.placed ≡ placed_at bytes kept.at
 
 -- All kept instructions are those of the file.
 abbrev pub AreDecoded : List ℕ → Decoded → Type 0

@@ -4,7 +4,7 @@ use Rattle.std.specs.Prelude.{ℕ, zero, suc, ◌==◌, List, [], ◌++◌, Opti
 use Rattle.std.specs.List.{find}
 use Rattle.std.specs.Option.{option_map}
 use Rattle.elf_image.specs.Header.{entry}
-use Rattle.rv_flow.specs.Rv64gc.{rv64gc_placed_at}
+use Rattle.rv_flow.specs.Placed.{placed_at}
 use Rattle.cfg_model.specs.declared.graph.Block.{Block}
 use Rattle.cfg_model.specs.declared.graph.Edge.{Edge}
 use Rattle.cfg_model.specs.declared.graph.Graph.{Graph}
@@ -53,9 +53,9 @@ moved blocks (Out kind) walk =
     let after = entered blocks walk.state walk.memory in
     record after { text = out_line kind ++ after.text }
 
--- The address after the instruction of RV64GC at the program counter: the machine makes no other.
+-- The address after the instruction at the program counter.
 abbrev pub next_of : List ℕ → State → ℕ
-next_of bytes state = advanced (rv64gc_placed_at bytes state.pc).length state
+next_of bytes state = advanced (placed_at bytes state.pc).length state
 
 -- One step of a walk.
 abbrev pub stepped : List ℕ → List Block → List Edge → Walk → Printed

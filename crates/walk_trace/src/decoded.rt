@@ -1,11 +1,11 @@
-//! Instructions of RV64GC that were decoded before.
+//! Instructions that were decoded before.
 
 ghost use Rattle.std.specs.Prelude.{◌≡◌, length, IsTrue, Some, None, if◌then◌else◌};
 ghost use Rattle.elf_image.specs.Code.{is_code};
-ghost use Rattle.rv_flow.specs.Rv64gc.{rv64gc_placed_at};
+ghost use Rattle.rv_flow.specs.Placed.{placed_at};
 
 use elf_image::Image;
-use rv_flow::{Placed, rv64gc_insn_at};
+use rv_flow::{Placed, insn_at};
 use std::alloc::{AllocError, Global};
 
 /// How many instructions are kept.
@@ -38,12 +38,12 @@ impl Decoded {
         })
     }
 
-    /// The instruction of RV64GC at `a`; `None` if that is no code address. Decodes it if it is not
+    /// The instruction at `a`; `None` if that is no code address. Decodes it if it is not
     /// kept, and keeps it in place of another one.
     pub(crate) fn at(&mut self, image: &Image, a: u64) -> Option<Placed>
         requires { AreDecoded image.now self.old }
         ensures answer { result
-            ≡ (if is_code image.now a then Some (rv64gc_placed_at image.now a) else None) }
+            ≡ (if is_code image.now a then Some (placed_at image.now a) else None) }
         ensures decoded { AreDecoded image.now self.new }
     {
         let place = (a / 2) as usize % PLACES;
@@ -58,12 +58,12 @@ impl Decoded {
     }
 }
 
-/// The instruction of RV64GC at `a`; `None` if that is no code address.
+/// The instruction at `a`; `None` if that is no code address.
 fn decode(image: &Image, a: u64) -> Option<Placed>
-    ensures { result ≡ (if is_code image.now a then Some (rv64gc_placed_at image.now a) else None) }
+    ensures { result ≡ (if is_code image.now a then Some (placed_at image.now a) else None) }
 {
     if image.is_code(a) {
-        Some(rv64gc_insn_at(image, a))
+        Some(insn_at(image, a))
     } else {
         None
     }

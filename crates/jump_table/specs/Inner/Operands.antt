@@ -31,6 +31,7 @@ HasOperands (insns.Float writes reads) = IsRegister writes
 HasOperands (insns.ShiftAdd shift zero_extended rd rs1 rs2) =
     IsRegister rd × IsRegister rs1 × IsRegister rs2
 HasOperands (insns.Extend kind rd rs1) = IsRegister rd × IsRegister rs1
+HasOperands (insns.Unary kind rd rs1) = IsRegister rd
 HasOperands (insns.Vendor kind shift rd rs1 rs2) =
     IsRegister rd × IsRegister rs1 × IsRegister rs2
 HasOperands _ = Unit {0}

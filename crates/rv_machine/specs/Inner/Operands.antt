@@ -15,4 +15,7 @@ WritesRegister (insns.ImmW kind rd rs1 imm) = rd < 32
 WritesRegister (insns.Reg kind rd rs1 rs2) = rd < 32
 WritesRegister (insns.RegW kind rd rs1 rs2) = rd < 32
 WritesRegister (insns.Atomic kind wide acquire release rd rs1 rs2) = rd < 32
+WritesRegister (insns.ShiftAdd shift zero_extended rd rs1 rs2) = rd < 32
+WritesRegister (insns.Extend kind rd rs1) = rd < 32
+WritesRegister (insns.Unary kind rd rs1) = rd < 32
 WritesRegister _ = Unit {0}
