@@ -10,3 +10,5 @@ mod Jumps
 pub mod Targets
 mod Listed
 mod Worked
+mod Looks
+mod Counts

@@ -4,3 +4,5 @@ pub mod Straight
 pub mod Steps
 pub mod Held
 pub mod Near
+pub mod Gaps
+pub mod Counts

@@ -162,6 +162,17 @@ table_at_place bytes place =
     (count_of (targets_from bytes place.base (bytes_of place.width) place.add 0 place.bound))
     else None
 
+-- The same table, of whose entries at most this many are counted.
+abbrev pub counted_to : ℕ → Table → Table
+counted_to most table = record {
+  base = table.base;
+  width = table.width;
+  count = min table.count most;
+  bound = table.bound;
+  add = table.add;
+  is_open = table.is_open;
+}
+
 -- The register of a jump through one alone: the offset is 0, and x0 holds no target.
 abbrev pub jump_register : RawFlow → Option ℕ
 jump_register (raw.RegisterJump r (pos zero)) = if r == 0 then None else Some r

@@ -9,6 +9,7 @@ mod approach;
 mod bound;
 mod entries;
 mod find;
+mod look_back;
 mod pair;
 mod place;
 mod run;
@@ -20,7 +21,8 @@ mod words;
 
 pub use bound::{BoundTest, Comparison};
 pub use entries::entry_target;
-pub use find::{find_table, target_of};
+pub use find::{find_place, find_table, find_table_by, table_counted, target_of};
+pub use look_back::LookBack;
 pub use pair::Origin;
 pub use place::Place;
 pub use table::Table;

@@ -2,24 +2,21 @@
 
 ghost use Rattle.std.specs.Prelude.{◌≡◌, ◌+◌, ◌<◌, ◌↔◌, IsTrue};
 ghost use Rattle.jump_table.specs.Pair.{upper_by, upper_at, upper_before, pair_by, pair_at};
-ghost use Rattle.jump_table.specs.Pair.{pair_before, pair_near, register_spilled, spill_at};
-ghost use Rattle.jump_table.specs.Pair.{spilled_before, origin_value};
+ghost use Rattle.jump_table.specs.Pair.{pair_near, register_spilled, spill_at};
+ghost use Rattle.jump_table.specs.Inner.Gaps.{origin_at, stored_at, stored_at_run};
 
-use crate::step::{insn_before, whole_insn_at};
+use crate::step::{insn_before, insn_of, whole_insn_at};
 use elf_image::Image;
 use rv_decode::{ImmKind, Insn, StoreKind};
 
 /// How far before its second half the first half of a pair may begin, in parcels of two bytes.
 const MOST_BETWEEN_HALVES: u64 = 32;
 
-/// How far before a run the pair of a register, or the store to a slot, may begin, in parcels.
-const MOST_BEFORE_RUN: u64 = 2048;
-
 /// How far before the store to a slot the pair of its register may begin, in parcels.
 const MOST_BEFORE_STORE: u64 = 32;
 
 /// Where a value comes from that was set far before a run.
-#[derive(Clone, Copy)]
+#[derive(Clone, Copy, PartialEq, Eq)]
 pub enum Origin {
     /// The register of this number.
     Register(u8),
@@ -27,17 +24,25 @@ pub enum Origin {
     Slot(u64),
 }
 
-/// What a register or a slot holds at `q` by the nearest pair or store, in the code section that
-/// starts at `start`.
-///
-/// Time: at most 2,048 addresses are looked at for a register, and at each that has an ADDI of it,
-/// or a store to the slot, some 60 more.
-pub(crate) fn origin_value(image: &Image, start: u64, q: u64, origin: Origin) -> Option<u64>
-    ensures { result ≡ origin_value image.now start q origin }
+/// The value that the pair of a register at `a` gives, or the store to a slot there.
+pub(crate) fn origin_at(image: &Image, start: u64, origin: Origin, a: u64) -> Option<u64>
+    ensures { result ≡ origin_at image.now start origin a }
 {
     match origin {
-        Origin::Register(register) => pair_before(image, start, q, register),
-        Origin::Slot(slot) => spilled_before(image, start, q, slot),
+        Origin::Register(register) => pair_at(image, start, register, a),
+        Origin::Slot(slot) => stored_at(image, start, slot, a),
+    }
+}
+
+/// The value that a store just before `q`, of two bytes, puts into a slot.
+pub(crate) fn stored_at_run(image: &Image, start: u64, q: u64, origin: Origin) -> Option<u64>
+    ensures { result ≡ stored_at_run image.now start q origin }
+{
+    match origin {
+        Origin::Slot(slot) if !is_before_section(start, q, 2) => {
+            spill_at(image, start, q, slot, q - 2)
+        }
+        _ => None,
     }
 }
 
@@ -46,21 +51,6 @@ fn is_before_section(start: u64, end: u64, back: u64) -> bool
     ensures { IsTrue result ↔ end < start + back }
 {
     end < start || end - start < back
-}
-
-// The value of the pair of `register` that is the nearest to `q`.
-fn pair_before(image: &Image, start: u64, q: u64, register: u8) -> Option<u64>
-    ensures { result ≡ pair_before image.now start q register }
-{
-    for parcels in 2..=MOST_BEFORE_RUN {
-        if is_before_section(start, q, 2 * parcels) {
-            return None;
-        }
-        if let Some(value) = pair_at(image, start, register, q - 2 * parcels) {
-            return Some(value);
-        }
-    }
-    None
 }
 
 // The value of the pair of `register` that is the nearest to a store of it at `a`.
@@ -136,23 +126,16 @@ fn upper_by(register: u8, h: u64, insn: Insn) -> Option<u64>
     }
 }
 
-// The value that the store to `slot` puts there that is the nearest to `q`, of those that a pair
-// sets.
-fn spilled_before(image: &Image, start: u64, q: u64, slot: u64) -> Option<u64>
-    ensures { result ≡ spilled_before image.now start q slot }
+// The value that the store at `a` puts into `slot`, if a pair sets it, wherever the store ends.
+fn stored_at(image: &Image, start: u64, slot: u64, a: u64) -> Option<u64>
+    ensures { result ≡ stored_at image.now start slot a }
 {
-    for parcels in 1..=MOST_BEFORE_RUN {
-        if is_before_section(start, q, 2 * parcels) {
-            return None;
-        }
-        if let Some(value) = spill_at(image, start, q, slot, q - 2 * parcels) {
-            return Some(value);
-        }
-    }
-    None
+    let insn = insn_of(image, start, a)?;
+    pair_near(image, start, a, register_spilled(slot, insn)?)
 }
 
-// The value that the store at `a` puts into `slot`, if a pair sets it.
+// The value that the store at `a` puts into `slot`, if a pair sets it and the
+// store ends at or before `q`.
 fn spill_at(image: &Image, start: u64, q: u64, slot: u64, a: u64) -> Option<u64>
     ensures { result ≡ spill_at image.now start q slot a }
 {

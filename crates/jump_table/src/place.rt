@@ -9,6 +9,7 @@ ghost use Rattle.jump_table.specs.Table.{hoisted_place};
 
 use crate::approach::{Approach, MOST_PARCELS};
 use crate::bound::{BoundTest, bound_test};
+use crate::look_back::LookBack;
 use crate::run::value_behind;
 use crate::values::{Form, Registers, Value};
 use crate::width::Width;
@@ -36,24 +37,33 @@ pub struct Place {
 }
 
 /// Where the table of the jump through `register` would stand by its bound test.
-pub(crate) fn bounded_place(way: &Approach, register: u8) -> Option<Place>
-    requires { IsRegister register }
-    ensures { result ≡ bounded_place way.now.image.now way.now.start way.now.jump register }
+pub(crate) fn bounded_place(way: &Approach, looks: &mut LookBack<'_>, register: u8) -> Option<Place>
+    requires register { IsRegister register }
+    requires looks { looks.old ≡ way.now.image.now }
+    ensures same { looks.new ≡ looks.old }
+    ensures value { result ≡ bounded_place way.now.image.now way.now.start way.now.jump register }
 {
-    place_by_test(way, bound_test(way)?, register)
+    place_by_test(way, looks, bound_test(way)?, register)
 }
 
 // Where the table would stand by this bound test of the jump.
-fn place_by_test(way: &Approach, test: BoundTest, register: u8) -> Option<Place>
+fn place_by_test(
+    way: &Approach,
+    looks: &mut LookBack<'_>,
+    test: BoundTest,
+    register: u8,
+) -> Option<Place>
     requires near { IsNear way.now.start way.now.jump test.at }
     requires index { IsRegister test.index }
     requires register { IsRegister register }
-    ensures { result ≡ place_by_test way.now.image.now way.now.start way.now.jump register test }
+    requires looks { looks.old ≡ way.now.image.now }
+    ensures same { looks.new ≡ looks.old }
+    ensures value { result ≡ place_by_test way.now.image.now way.now.start way.now.jump register test }
 {
     let bound = test.bound?;
     let parcels = (way.jump - (test.at + 4)) as usize / 2;
     let before = Registers::at_test(test.index);
-    let value = value_behind(way, parcels, before, Form::Bounded(bound), register)?;
+    let value = value_behind(way, looks, parcels, before, Form::Bounded(bound), register)?;
     place_of(false, bound, value)
 }
 
@@ -79,15 +89,17 @@ pub(crate) fn declared_place(image: &Image, j: u64) -> Option<Place>
 
 /// Where the table of the jump through `register` would stand without a bound test: by the run
 /// nearest to the jump, from 4 up to 64 bytes before it, that tells a place. No other is tried.
-pub(crate) fn open_place(way: &Approach, register: u8) -> Option<Place>
-    requires { IsRegister register }
-    ensures { result ≡ open_place way.now.image.now way.now.start way.now.jump register }
+pub(crate) fn open_place(way: &Approach, looks: &mut LookBack<'_>, register: u8) -> Option<Place>
+    requires register { IsRegister register }
+    requires looks { looks.old ≡ way.now.image.now }
+    ensures same { looks.new ≡ looks.old }
+    ensures value { result ≡ open_place way.now.image.now way.now.start way.now.jump register }
 {
     for parcels in 2..=MOST_PARCELS {
         if way.jump - way.start < 2 * parcels as u64 {
             return None;
         }
-        if let Some(place) = place_from(way, parcels, register) {
+        if let Some(place) = place_from(way, looks, parcels, register) {
             return Some(place);
         }
     }
@@ -95,27 +107,48 @@ pub(crate) fn open_place(way: &Approach, register: u8) -> Option<Place>
 }
 
 // Where the table would stand by the run that begins this many parcels before the jump.
-fn place_from(way: &Approach, parcels: usize, register: u8) -> Option<Place>
+fn place_from(
+    way: &Approach,
+    looks: &mut LookBack<'_>,
+    parcels: usize,
+    register: u8,
+) -> Option<Place>
     requires few { parcels < 33 }
     requires inside { way.now.start + 2 * parcels ≤ way.now.jump }
     requires register { IsRegister register }
-    ensures { result
+    requires looks { looks.old ≡ way.now.image.now }
+    ensures same { looks.new ≡ looks.old }
+    ensures value { result
         ≡ place_from way.now.image.now way.now.start way.now.jump register
         (way.now.jump - 2 * parcels) }
 {
     // From most of the parcels no run leads to the jump.
     way.steps[parcels]?;
-    let value = value_behind(way, parcels, Registers::unknown(), Form::Open, register)?;
+    let value = value_behind(
+        way,
+        looks,
+        parcels,
+        Registers::unknown(),
+        Form::Open,
+        register,
+    )?;
     place_of(true, MOST_OPEN_ENTRIES, value)
 }
 
 /// Where the table would stand by the run that begins this many parcels before the jump, if its
 /// address may be set far before the run.
-pub(crate) fn hoisted_place(way: &Approach, parcels: usize, register: u8) -> Option<Place>
+pub(crate) fn hoisted_place(
+    way: &Approach,
+    looks: &mut LookBack<'_>,
+    parcels: usize,
+    register: u8,
+) -> Option<Place>
     requires few { parcels < 33 }
     requires inside { way.now.start + 2 * parcels ≤ way.now.jump }
     requires register { IsRegister register }
-    ensures { result
+    requires looks { looks.old ≡ way.now.image.now }
+    ensures same { looks.new ≡ looks.old }
+    ensures value { result
         ≡ hoisted_place way.now.image.now way.now.start way.now.jump register
         (way.now.jump - 2 * parcels) }
 {
@@ -124,7 +157,7 @@ pub(crate) fn hoisted_place(way: &Approach, parcels: usize, register: u8) -> Opt
         start: way.start,
         run: way.jump - 2 * parcels as u64,
     };
-    let held = value_behind(way, parcels, Registers::entered(), form, register)?;
+    let held = value_behind(way, looks, parcels, Registers::entered(), form, register)?;
     place_of(true, MOST_OPEN_ENTRIES, held)
 }
 

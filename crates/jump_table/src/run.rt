@@ -7,6 +7,7 @@ ghost use Rattle.jump_table.specs.Section.{straight_run};
 ghost use Rattle.jump_table.specs.Table.{value_behind};
 
 use crate::approach::Approach;
+use crate::look_back::LookBack;
 use crate::values::{Form, Registers, Value};
 
 /// How many instructions may stand in a run.
@@ -37,6 +38,7 @@ pub(crate) fn reaches(way: &Approach, parcels: usize) -> bool
 /// such a run and the registers hold this before it.
 pub(crate) fn value_behind(
     way: &Approach,
+    looks: &mut LookBack<'_>,
     parcels: usize,
     before: Registers,
     form: Form,
@@ -45,7 +47,9 @@ pub(crate) fn value_behind(
     requires few { parcels < 33 }
     requires inside { way.now.start + 2 * parcels ≤ way.now.jump }
     requires register { IsRegister register }
-    ensures { result
+    requires looks { looks.old ≡ way.now.image.now }
+    ensures same { looks.new ≡ looks.old }
+    ensures value { result
         ≡ value_behind form way.now.image.now way.now.start way.now.jump register
         (held_by before.values) (way.now.jump - 2 * parcels) }
 {
@@ -56,7 +60,7 @@ pub(crate) fn value_behind(
             return Some(registers.get(register));
         }
         let step = way.steps[left]?;
-        registers.pass(form, way.image, way.jump - 2 * left as u64, step.insn);
+        registers.pass(form, looks, way.jump - 2 * left as u64, step.insn);
         left = step.next;
     }
     if left == 0 {

@@ -4,6 +4,7 @@ ghost use Rattle.std.specs.Prelude.{◌≡◌, IsTrue, IfSome};
 ghost use Rattle.elf_image.specs.Code.{is_code};
 ghost use Rattle.jump_table.specs.Inner.Operands.{HasOperands};
 ghost use Rattle.jump_table.specs.Section.{is_in_section, whole_insn_at, insn_before};
+ghost use Rattle.jump_table.specs.Inner.Gaps.{insn_of};
 ghost use Rattle.jump_table.specs.Inner.Straight.{straight_at, IsLength};
 
 use elf_image::Image;
@@ -53,6 +54,17 @@ pub(crate) fn insn_before(image: &Image, start: u64, end: u64, a: u64) -> Option
     let placed = insn_at(image, a);
     if a <= end && end - a >= u64::from(placed.length) {
         placed.insn
+    } else {
+        None
+    }
+}
+
+/// The instruction at `a`, if it lies in the section that starts at `start`.
+pub(crate) fn insn_of(image: &Image, start: u64, a: u64) -> Option<Insn>
+    ensures { result ≡ insn_of image.now start a }
+{
+    if is_in_section(image, start, a) {
+        insn_at(image, a).insn
     } else {
         None
     }

@@ -13,9 +13,9 @@ ghost use Rattle.jump_table.specs.Values.{after_placed, after_vendor, vendor_val
 ghost use Rattle.jump_table.specs.Inner.Held.{held_by};
 ghost use Rattle.jump_table.specs.declared.values.Value.TheVariants.{Unknown};
 
-use crate::pair::{Origin, origin_value};
+use crate::look_back::LookBack;
+use crate::pair::Origin;
 use crate::width::Width;
-use elf_image::Image;
 use rv_decode::{ExtendKind, ImmKind, ImmWKind, Insn, LoadKind, RegKind, VendorKind};
 
 /// Which form of the pattern a run of instructions is looked at for.
@@ -136,20 +136,22 @@ impl Registers {
     }
 
     /// Goes past what stands at address `a`.
-    pub(crate) fn pass(&mut self, form: Form, image: &Image, a: u64, insn: Option<Insn>)
+    pub(crate) fn pass(&mut self, form: Form, looks: &mut LookBack<'_>, a: u64, insn: Option<Insn>)
         requires { IfSome insn HasOperands }
-        ensures { held_by self.new.values
-            ≡ after_placed form image.now a insn (held_by self.old.values) }
+        ensures value { held_by self.new.values
+            ≡ after_placed form looks.old a insn (held_by self.old.values) }
+        ensures same { looks.new ≡ looks.old }
     {
         if let Some(insn) = insn {
-            self.pass_insn(form, image, a, insn);
+            self.pass_insn(form, looks, a, insn);
         }
     }
 
     /// Goes past the instruction `insn` at address `a`.
-    fn pass_insn(&mut self, form: Form, image: &Image, a: u64, insn: Insn)
+    fn pass_insn(&mut self, form: Form, looks: &mut LookBack<'_>, a: u64, insn: Insn)
         requires { HasOperands insn }
-        ensures { held_by self.new.values ≡ after form image.now a insn (held_by self.old.values) }
+        ensures value { held_by self.new.values ≡ after form looks.old a insn (held_by self.old.values) }
+        ensures same { looks.new ≡ looks.old }
     {
         match insn {
             Insn::Lui { rd, imm } => self.set(rd, Value::Const(imm.cast_unsigned())),
@@ -164,7 +166,7 @@ impl Registers {
                 self.set(rd, imm_w_value(kind, imm, self.get(rs1)));
             }
             Insn::Reg { kind, rd, rs1, rs2 } => {
-                self.set(rd, reg_value(form, image, kind, self, rs1, rs2));
+                self.set(rd, reg_value(form, looks, kind, self, rs1, rs2));
             }
             Insn::Jal { rd, .. }
             | Insn::Jalr { rd, .. }
@@ -180,7 +182,7 @@ impl Registers {
                 rs2,
             } => self.set(
                 rd,
-                shift_add_value(form, image, shift, zero_extended, self, rs1, rs2),
+                shift_add_value(form, looks, shift, zero_extended, self, rs1, rs2),
             ),
             Insn::Extend { kind, rd, rs1 } => {
                 self.set(rd, extend_value(form, kind, self.get(rs1)));
@@ -192,7 +194,7 @@ impl Registers {
                 rd,
                 rs1,
                 rs2,
-            } => self.pass_vendor(form, image, kind, shift, rd, rs1, rs2),
+            } => self.pass_vendor(form, looks, kind, shift, rd, rs1, rs2),
             Insn::Ecall => *self = Registers::unknown(),
             Insn::Branch { .. } | Insn::Store { .. } | Insn::Fence | Insn::FenceI | Insn::Ebreak =>
                 {}
@@ -205,7 +207,7 @@ impl Registers {
     fn pass_vendor(
         &mut self,
         form: Form,
-        image: &Image,
+        looks: &mut LookBack<'_>,
         kind: VendorKind,
         shift: u8,
         rd: u8,
@@ -215,8 +217,9 @@ impl Registers {
         requires rd { IsRegister rd }
         requires first { IsRegister rs1 }
         requires second { IsRegister rs2 }
-        ensures { held_by self.new.values
-            ≡ after_vendor form image.now kind shift rd rs1 rs2 (held_by self.old.values) }
+        ensures value { held_by self.new.values
+            ≡ after_vendor form looks.old kind shift rd rs1 rs2 (held_by self.old.values) }
+        ensures same { looks.new ≡ looks.old }
     {
         match kind {
             VendorKind::Other => {
@@ -224,7 +227,7 @@ impl Registers {
                 self.set(rs1, Value::Unknown);
                 self.set(rs2, Value::Unknown);
             }
-            _ => self.set(rd, vendor_value(form, image, kind, shift, self, rs1, rs2)),
+            _ => self.set(rd, vendor_value(form, looks, kind, shift, self, rs1, rs2)),
         }
     }
 }
@@ -232,7 +235,7 @@ impl Registers {
 // The value that a word of a vendor computes; the loads by an index load at the offset 0.
 fn vendor_value(
     form: Form,
-    image: &Image,
+    looks: &mut LookBack<'_>,
     kind: VendorKind,
     shift: u8,
     before: &Registers,
@@ -241,10 +244,11 @@ fn vendor_value(
 ) -> Value
     requires first { IsRegister rs1 }
     requires second { IsRegister rs2 }
-    ensures { result ≡ vendor_value form image.now kind shift (held_by before.now.values) rs1 rs2 }
+    ensures value { result ≡ vendor_value form looks.old kind shift (held_by before.now.values) rs1 rs2 }
+    ensures same { looks.new ≡ looks.old }
 {
-    let sum = shift_add_value(form, image, shift, false, before, rs2, rs1);
-    let unsigned = shift_add_value(form, image, shift, true, before, rs2, rs1);
+    let sum = shift_add_value(form, looks, shift, false, before, rs2, rs1);
+    let unsigned = shift_add_value(form, looks, shift, true, before, rs2, rs1);
     match kind {
         VendorKind::Addsl => sum,
         VendorKind::Lrw => lw_value(0, sum),
@@ -325,7 +329,7 @@ fn imm_w_value(kind: ImmWKind, imm: i64, value: Value) -> Value
 
 fn reg_value(
     form: Form,
-    image: &Image,
+    looks: &mut LookBack<'_>,
     kind: RegKind,
     before: &Registers,
     rs1: u8,
@@ -333,50 +337,54 @@ fn reg_value(
 ) -> Value
     requires first { IsRegister rs1 }
     requires second { IsRegister rs2 }
-    ensures { result ≡ reg_value form image.now kind (held_by before.now.values) rs1 rs2 }
+    ensures value { result ≡ reg_value form looks.old kind (held_by before.now.values) rs1 rs2 }
+    ensures same { looks.new ≡ looks.old }
 {
     match kind {
-        RegKind::Add => add_value(form, image, before, rs1, rs2),
+        RegKind::Add => add_value(form, looks, before, rs1, rs2),
         _ => Value::Unknown,
     }
 }
 
 // `add` with x0 copies.
-fn add_value(form: Form, image: &Image, before: &Registers, rs1: u8, rs2: u8) -> Value
+fn add_value(form: Form, looks: &mut LookBack<'_>, before: &Registers, rs1: u8, rs2: u8) -> Value
     requires first { IsRegister rs1 }
     requires second { IsRegister rs2 }
-    ensures { result ≡ add_value form image.now (held_by before.now.values) rs1 rs2 }
+    ensures value { result ≡ add_value form looks.old (held_by before.now.values) rs1 rs2 }
+    ensures same { looks.new ≡ looks.old }
 {
     if rs2 == 0 {
         before.get(rs1)
     } else if rs1 == 0 {
         before.get(rs2)
     } else {
-        sum_taken(form, image, before.get(rs1), before.get(rs2))
+        sum_taken(form, looks, before.get(rs1), before.get(rs2))
     }
 }
 
 // A sum. What was set far before the run is looked up only if the other value can make something of
 // it: a scaled index or an entry.
-fn sum_taken(form: Form, image: &Image, first: Value, second: Value) -> Value
-    ensures { result ≡ sum_taken form image.now first second }
+fn sum_taken(form: Form, looks: &mut LookBack<'_>, first: Value, second: Value) -> Value
+    ensures value { result ≡ sum_taken form looks.old first second }
+    ensures same { looks.new ≡ looks.old }
 {
     match first {
-        Value::Scaled(_) | Value::Entry(..) => sum_of(first, taken(form, image, second)),
+        Value::Scaled(_) | Value::Entry(..) => sum_of(first, taken(form, looks, second)),
         _ => match second {
-            Value::Scaled(_) | Value::Entry(..) => sum_of(taken(form, image, first), second),
+            Value::Scaled(_) | Value::Entry(..) => sum_of(taken(form, looks, first), second),
             _ => Value::Unknown,
         },
     }
 }
 
 // What a sum takes for a value.
-fn taken(form: Form, image: &Image, value: Value) -> Value
-    ensures { result ≡ taken form image.now value }
+fn taken(form: Form, looks: &mut LookBack<'_>, value: Value) -> Value
+    ensures value { result ≡ taken form looks.old value }
+    ensures same { looks.new ≡ looks.old }
 {
     match (form, value) {
         (Form::Hoisted { start, run }, Value::Far(origin)) => {
-            match origin_value(image, start, run, origin) {
+            match looks.value(start, run, origin) {
                 Some(v) => Value::Const(v),
                 None => Value::Unknown,
             }
@@ -458,7 +466,7 @@ fn zext_w_value(value: Value) -> Value
 // `zext.w`, `slli` and `add`, one after the other.
 fn shift_add_value(
     form: Form,
-    image: &Image,
+    looks: &mut LookBack<'_>,
     shift: u8,
     zero_extended: bool,
     before: &Registers,
@@ -467,8 +475,9 @@ fn shift_add_value(
 ) -> Value
     requires first { IsRegister rs1 }
     requires second { IsRegister rs2 }
-    ensures { result
-        ≡ shift_add_value form image.now shift zero_extended (held_by before.now.values) rs1 rs2 }
+    ensures value { result
+        ≡ shift_add_value form looks.old shift zero_extended (held_by before.now.values) rs1 rs2 }
+    ensures same { looks.new ≡ looks.old }
 {
     let mut value = before.get(rs1);
     if zero_extended {
@@ -478,7 +487,7 @@ fn shift_add_value(
         value = slli_value(i64::from(shift), shifted(form, value));
     }
     if rs2 != 0 {
-        value = sum_taken(form, image, value, before.get(rs2));
+        value = sum_taken(form, looks, value, before.get(rs2));
     }
     value
 }

@@ -5,6 +5,9 @@ use Rattle.jump_table.proofs.place.open_place.Given as goal
 
 -- no run so far tells a place
 abbrev pub invariant-loop-parcels : goal.invariant-loop-parcels
-invariant-loop-parcels l =
-    open_place l.way.image.now l.way.start l.way.jump l.register
-    ≡ nearest_from (place_from l.way.image.now l.way.start l.way.jump l.register) l.way.start l.way.jump (2 * l.parcels) (33 - l.parcels)
+invariant-loop-parcels l = record {
+  looks : l.looks ≡ l.way.image.now;
+  search :
+      open_place l.way.image.now l.way.start l.way.jump l.register
+      ≡ nearest_from (place_from l.way.image.now l.way.start l.way.jump l.register) l.way.start l.way.jump (2 * l.parcels) (33 - l.parcels);
+}

@@ -30,7 +30,7 @@ no-step way r k few inside none =
       | inr some ↦ from-nowhere way.image.now way.start way.jump r k (steps-none way.image.now way.start way.jump way.steps way.lead k (grind arith) few inside none)
     ]
 
-pub returns-in_err-way : goal.returns-in_err-way
-returns-in_err-way c =
+pub returns-in_err-way-clause-value : goal.returns-in_err-way-clause-value
+returns-in_err-way-clause-value c =
     c.from_residual.ensures
     ∙ sym (no-step c.args.way.now c.args.register c.args.parcels c.requires.few c.requires.inside c.in_err-way.was)

@@ -7,6 +7,7 @@ use Rattle.jump_table.proofs.run.value_behind.Given as goal
 abbrev pub invariant-loop : goal.invariant-loop
 invariant-loop l = record {
   nearer : l.left ≤ l.parcels;
+  looks : l.looks ≡ l.way.image.now;
   same : value_from l.form l.way.image.now l.way.start l.way.jump 16 (l.way.jump - 2 * l.parcels) (held_by l.fn.before.values) l.register
       ≡ value_from l.form l.way.image.now l.way.start l.way.jump (16 - l.counter) (l.way.jump - 2 * l.left) (held_by l.registers.values) l.register;
 }
