@@ -1,4 +1,4 @@
--- How a run ends: what each refusal leaves, by its kind.
+-- How a run ends: what each refusal is true of, by its kind, and which programs can be made.
 use Rattle.std.proofs.Common.{cond, ◌≡◌, ℕ, ◌≤◌, List, Option, Some, None, refl, sym, subst, arith}
 use Rattle.std.specs.Prelude.{IfSome, nat_le, ◌&&◌, codes, Bool, true, false}
 use Rattle.std.specs.Option.{option_and_then}
@@ -6,121 +6,60 @@ use Rattle.std.proofs.lemmas.Bool.{leb-true}
 use Rattle.std.proofs.lemmas.Option.{cond_some, same_Some, none-some}
 use Rattle.elf_image.specs.declared.fault.ElfError.{ElfError}
 use Rattle.elf_image.specs.declared.fault.ElfError.TheVariants as errors
-use Rattle.elf_image.specs.declared.fault.Fault.TheVariants.{TooLarge}
-use Rattle.elf_image.specs.Faults.{first_fault}
 use Rattle.cfg_io.specs.Told.{TakesCount}
 use Rattle.graph_report.specs.declared.kind.ReportKind.{ReportKind}
 use Rattle.cfg_words.specs.Command.{is_taken, text_of}
 use Rattle.cfg_words.specs.Value.{number_of, kept_within, number_within, workers_of, report_kind_of}
 use Rattle.cfg_words.specs.Request.{Asked, of_file, of_made, file_request, make_request, request_with, request_of}
-use Rattle.cfg_words.specs.declared.error.WordsError.{WordsError}
-use Rattle.cfg_words.specs.declared.error.WordsError.TheVariants as words
-use Rattle.cfg_run.specs.declared.refusal.Refusal.{Refusal}
-use Rattle.cfg_run.specs.declared.refusal.Refusal.TheVariants as refusals
-use Rattle.cfg_run.specs.declared.status.Status.{Status}
-use Rattle.cfg_run.specs.declared.status.Status.TheVariants as statuses
-use Rattle.cfg_run.specs.Answer.{IsAnswer, refused_with}
+use Rattle.file_graph.specs.Survey.{IsFaultOf}
 use Rattle.run_ends.specs.declared.reading.Unread.{Unread}
 use Rattle.run_ends.specs.declared.reading.Unread.TheVariants as unread
-use Rattle.cfg_run.specs.Refusal.{status_of, refusal_of, refusal_of_words, refusal_of_unread}
-use Rattle.file_graph.specs.Survey.{IsFaultOf}
-use Rattle.cfg_run.specs.Words.{path_of, CanBeMade}
-use Rattle.cfg_run.specs.Lines.{refusal_line}
-use Rattle.cfg_run.specs.Inner.{IsRefusalOf, IsTrueOf}
-use Rattle.run_ends.specs.Told.{Grows}
-use Rattle.run_ends.specs.Inputs.{AreBytesFor, OverInput}
-use Rattle.run_ends.proofs.Inputs.{taken-too-large}
-use Rattle.run_ends.proofs.Pieces.{appends-nothing}
-use Rattle.cfg_run.specs.Run.{IsDecided, HasRead, Gives, IsLineOf}
+use Rattle.run_ends.specs.declared.refusal.Refusal.{Refusal}
+use Rattle.run_ends.specs.declared.refusal.Refusal.TheVariants as refusals
+use Rattle.run_ends.specs.declared.status.Status.{Status}
+use Rattle.run_ends.specs.declared.status.Status.TheVariants as statuses
+use Rattle.run_ends.specs.Refusal.{refusal_of, refusal_of_unread}
+use Rattle.run_ends.specs.Inner.{IsTrueOf}
+use Rattle.run_ends.specs.Streams.{Reading, FailsToRead}
+use Rattle.run_ends.proofs.Refusals.{usage-true, memory-true, file-true, unread-true}
+use Rattle.cfg_run.specs.Answer.{IsAnswer, cfg}
+use Rattle.cfg_run.specs.Inner.{IsRefusalOf}
+use Rattle.cfg_run.specs.Run.{command}
+use Rattle.cfg_run.specs.Words.{CanBeMade}
 
--- ---- reading
+-- ---- refusing
 
--- What reading refuses is true of the file that is asked for.
-module _ (path : List ℕ) (workers : ℕ) (kind : ReportKind) where
-  pub unread-true : (told new : Option (List ℕ)) (rose : Type 0) (e : Unread) → (e ≡ unread.ReadFault → rose)
-      → (e ≡ unread.TooLarge → TakesCount told 67108865 new) → IsTrueOf (Some (of_file path workers kind)) told rose (refusal_of_unread e)
-  unread-true told new rose unread.ReadFault failed takes = (tt, failed refl)
-  unread-true told new rose unread.TooLarge failed takes = (
-    tt,
-    λ bytes are.
-        IsAnswer.malformed
-        (subst (λ (t : Option (List ℕ)). IfSome t (λ b. first_fault b ≡ Some TooLarge)) are (taken-too-large told new (takes refl))),
-  )
-  unread-true told new rose unread.Memory failed takes = tt
+module _ (path : List ℕ) (workers : ℕ) (kind : ReportKind) (input : Reading) where
+  -- What reading refuses is true of the file that is asked for.
+  pub reading-true : (e : Unread) → (e ≡ unread.ReadFault → FailsToRead input) → (e ≡ unread.TooLarge → TakesCount input.old 67108865 input.new)
+      → IsTrueOf (command (Some (of_file path workers kind)) input) (refusal_of_unread e)
+  reading-true =
+      unread-true cfg (of_file path workers kind) path (λ bytes. IsAnswer bytes (Some (of_file path workers kind))) input tt tt tt
+      (λ bytes fault is. IsAnswer.malformed is)
 
   -- So is what the bytes that were read refuse.
-  pub fault-true : (told : Option (List ℕ)) (bytes : List ℕ) (rose : Type 0) (r : Refusal) → IfSome told (λ b. b ≡ bytes) → IsRefusalOf bytes r
-      → IsTrueOf (Some (of_file path workers kind)) told rose r
-  fault-true told bytes rose refusals.Usage same is = absurd is
-  fault-true told bytes rose (refusals.Malformed fault) same is = (
-    tt,
-    λ b are.
-        let e : b ≡ bytes = subst (λ (t : Option (List ℕ)). IfSome t (λ x. x ≡ bytes)) are same in
-        IsAnswer.malformed (subst (λ (x : List ℕ). first_fault x ≡ Some fault) (sym e) is),
-  )
-  fault-true told bytes rose refusals.ReadFault same is = absurd is
-  fault-true told bytes rose refusals.WriteFault same is = absurd is
-  fault-true told bytes rose refusals.Memory same is = tt
+  pub fault-true : (bytes : List ℕ) (r : Refusal) → IfSome input.old (λ b. b ≡ bytes) → IsRefusalOf bytes r
+      → IsTrueOf (command (Some (of_file path workers kind)) input) r
+  fault-true bytes refusals.Usage same is = absurd is
+  fault-true bytes (refusals.Malformed fault) same is =
+      file-true cfg (of_file path workers kind) path (λ b. IsAnswer b (Some (of_file path workers kind))) input bytes (refusals.Malformed fault) same tt tt
+      (IsAnswer.malformed is)
+  fault-true bytes refusals.ReadFault same is = absurd is
+  fault-true bytes refusals.WriteFault same is = absurd is
+  fault-true bytes refusals.Memory same is = memory-true (command (Some (of_file path workers kind)) input) tt
+  fault-true bytes refusals.TooMuch same is = absurd is
+  fault-true bytes refusals.NoText same is = absurd is
+  fault-true bytes refusals.Refused same is = absurd is
 
 -- What making the graph refuses is true of the bytes.
 pub refusal-of : (bytes : List ℕ) (e : ElfError) → IsFaultOf bytes e → IsRefusalOf bytes (refusal_of e)
 refusal-of bytes (errors.Malformed fault) is = is
 refusal-of bytes errors.Memory is = tt
 
--- ---- refusing
-
-pub decided-true : (asked : Option Asked) (told : Option (List ℕ)) (rose : Type 0) (r : Refusal) (old : Option (List ℕ)) (Error : List ℕ → Type 0)
-    → IsTrueOf asked told rose r → Error (refusal_line r) → OverInput (path_of asked) told (λ bytes. IsDecided (status_of r) → Gives bytes asked (status_of r) (Grows old old) Error)
-decided-true asked told rose refusals.Usage old Error is line = λ bytes are _. record {
-  answer = refused_with refusals.Usage;
-  is_answer = subst (λ (a : Option Asked). IsAnswer bytes a (refused_with refusals.Usage)) (sym is) IsAnswer.usage;
-  status = refl;
-  output = appends-nothing old;
-  error = line;
-}
-decided-true asked told rose (refusals.Malformed fault) old Error is line = λ bytes are _. record {
-  answer = refused_with (refusals.Malformed fault);
-  is_answer = is.1 bytes are;
-  status = refl;
-  output = appends-nothing old;
-  error = line;
-}
-decided-true asked told rose refusals.ReadFault old Error is line = λ bytes are no. absurd no
-decided-true asked told rose refusals.WriteFault old Error is line = λ bytes are no. absurd no
-decided-true asked told rose refusals.Memory old Error is line = λ bytes are no. absurd no
-
--- The bytes of an input that tells them count, whatever is asked for.
-pub told-count : (asked : Option Asked) (bytes : List ℕ) → AreBytesFor (path_of asked) (Some bytes) bytes
-told-count None bytes = tt
-told-count (Some (of_file path workers kind)) bytes = refl
-told-count (Some (of_made n workers)) bytes = tt
-
--- The line of a refusal is that of its status.
-pub line-of : (r : Refusal) → IsLineOf (status_of r) (refusal_line r)
-line-of refusals.Usage = refl
-line-of (refusals.Malformed fault) = (fault, refl)
-line-of refusals.ReadFault = refl
-line-of refusals.WriteFault = refl
-line-of refusals.Memory = refl
-
--- Of a made program no file is read, however the run ends.
-pub made-unread : (n workers : ℕ) (end : Status) → ¬ HasRead (Some (of_made n workers)) end
-made-unread n workers statuses.Done = λ read. absurd read
-made-unread n workers statuses.Usage = λ read. absurd read
-made-unread n workers statuses.Malformed = λ read. absurd read
-made-unread n workers statuses.ReadFault = λ read. absurd read
-made-unread n workers statuses.WriteFault = λ read. absurd read
-made-unread n workers statuses.Memory = λ read. absurd read
-
--- Words that make no request name no file that was read.
-pub words-unread : (asked : Option Asked) (e : WordsError) → ¬ HasRead asked (status_of (refusal_of_words e))
-words-unread asked words.Usage = λ read. absurd read
-words-unread asked words.Memory = λ read. absurd read
-
--- Words that make no request ask for nothing, or memory ran out.
-pub words-true : (asked : Option Asked) (told : Option (List ℕ)) (rose : Type 0) (e : WordsError) → (e ≡ words.Usage → asked ≡ None) → IsTrueOf asked told rose (refusal_of_words e)
-words-true asked told rose words.Usage none = none refl
-words-true asked told rose words.Memory none = tt
+-- Words that ask for nothing are refused.
+pub words-true : (asked : Option Asked) (input : Reading) → asked ≡ None → IsTrueOf (command asked input) refusals.Usage
+words-true None input none = usage-true (command None input) refl tt (λ bytes _. IsAnswer.usage)
+words-true (Some a) input none = absurd (none-some a (sym none))
 
 -- ---- the size of a made program
 

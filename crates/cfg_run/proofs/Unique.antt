@@ -14,10 +14,9 @@ use Rattle.cfg_words.specs.Request.{Asked}
 use Rattle.file_program.proofs.Unique.{graph-unique}
 use Rattle.live_regs.specs.Masks.{AreAllLivesOf}
 use Rattle.live_regs.proofs.Masks.{all_lives_are_unique}
-use Rattle.run_ends.specs.Answer.{Answer}
-use Rattle.cfg_run.specs.declared.refusal.Refusal.TheVariants as refusals
-use Rattle.cfg_run.specs.declared.status.Status.{Status}
-use Rattle.cfg_run.specs.Answer.{IsAnswer, refused_with, text_answer}
+use Rattle.run_ends.specs.declared.refusal.Refusal.TheVariants as refusals
+use Rattle.run_ends.specs.Answer.{Answer, text_answer}
+use Rattle.cfg_run.specs.Answer.{IsAnswer, refused}
 use Rattle.cfg_run.specs.Laws.{AnswerIsUnique}
 
 -- Two reports of live registers of one graph are equal.
@@ -28,10 +27,10 @@ two-lives bytes g h lives others same is are =
     ap₂ (λ (graph : Graph) (lists : List (List Live)). text_answer (live_text (seed_name bytes) graph lists)) same
     (all_lives_are_unique bytes h.blocks h.edges h.functions lives others moved are)
 
-two-answers : {bytes : List ℕ} {asked : Option Asked} {one other : Answer Status} → IsAnswer bytes asked one → IsAnswer bytes asked other → one ≡ other
+two-answers : {bytes : List ℕ} {asked : Option Asked} {one other : Answer} → IsAnswer bytes asked one → IsAnswer bytes asked other → one ≡ other
 two-answers IsAnswer.usage IsAnswer.usage = refl
 two-answers (IsAnswer.malformed {fault = f} x) (IsAnswer.malformed {fault = g} y) =
-    ap (λ (fault : Fault). refused_with (refusals.Malformed fault)) (same_Some f g (sym x ∙ y))
+    ap (λ (fault : Fault). refused (refusals.Malformed fault)) (same_Some f g (sym x ∙ y))
 two-answers (IsAnswer.malformed {fault = f} x) (IsAnswer.done y k z) = absurd (none-some f (sym y ∙ x))
 two-answers (IsAnswer.malformed {fault = f} x) (IsAnswer.live ms y z l) = absurd (none-some f (sym y ∙ x))
 two-answers (IsAnswer.done x k z) (IsAnswer.malformed {fault = g} y) = absurd (none-some g (sym x ∙ y))

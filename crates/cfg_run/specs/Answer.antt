@@ -1,5 +1,5 @@
 -- The answer to a run: what its words, and the bytes of the file that they name, alone decide.
-use Rattle.std.specs.Prelude.{◌≡◌, ◌≢◌, ℕ, List, [], Option, Some, None}
+use Rattle.std.specs.Prelude.{◌≡◌, ◌≢◌, ℕ, List, Option, Some, None, codes}
 use Rattle.elf_image.specs.declared.fault.Fault.{Fault}
 use Rattle.elf_image.specs.Faults.{first_fault}
 use Rattle.elf_image.specs.Seeds.{seed_name}
@@ -13,34 +13,49 @@ use Rattle.graph_report.specs.Summary.{summary_text}
 use Rattle.elf_maker.specs.MadeFile.{made_file}
 use Rattle.big_case.specs.BigCase.{big_parts}
 use Rattle.cfg_words.specs.Request.{Asked, of_file, of_made}
-use Rattle.run_ends.specs.Answer.{Answer}
-use Rattle.cfg_run.specs.declared.refusal.Refusal.{Refusal}
-use Rattle.cfg_run.specs.declared.refusal.Refusal.TheVariants as refusals
-use Rattle.cfg_run.specs.declared.status.Status.{Status}
-use Rattle.cfg_run.specs.declared.status.Status.TheVariants as statuses
+use Rattle.run_ends.specs.declared.refusal.Refusal.{Refusal}
+use Rattle.run_ends.specs.declared.refusal.Refusal.TheVariants as refusals
+use Rattle.run_ends.specs.declared.status.Status.{Status}
+use Rattle.run_ends.specs.declared.status.Status.TheVariants as statuses
+use Rattle.run_ends.specs.Answer.{Answer, refused_with, text_answer}
+use Rattle.run_ends.specs.Run.{Program}
 use Rattle.file_program.specs.FileGraph.{IsGraphOf}
 use Rattle.live_regs.specs.Masks.{AreAllLivesOf}
-use Rattle.cfg_run.specs.Refusal.{status_of}
-use Rattle.cfg_run.specs.Lines.{refusal_line}
+
+-- The ways in which a run of `cfg` ends.
+abbrev pub IsOwn : Status → Type 0
+IsOwn statuses.Done = Unit {0}
+IsOwn statuses.Usage = Unit {0}
+IsOwn statuses.Malformed = Unit {0}
+IsOwn statuses.ReadFault = Unit {0}
+IsOwn statuses.WriteFault = Unit {0}
+IsOwn statuses.Memory = Unit {0}
+IsOwn statuses.TooMuch = ⊥
+IsOwn statuses.NoText = ⊥
+IsOwn statuses.Refused = ⊥
+
+-- The program, as its lines name it.
+abbrev pub cfg : Program
+cfg = record {
+  name = codes "cfg";
+  usage =
+      codes "usage: cfg [--workers N] [--report KIND] FILE | cfg [--workers N] --make N";
+  IsOwn = IsOwn;
+}
 
 -- Nothing is written but the line that says why.
-abbrev pub refused_with : Refusal → Answer Status
-refused_with refusal =
-    record { status = status_of refusal; output = []; error = refusal_line refusal }
-
--- This is the report or the summary.
-abbrev pub text_answer : List ℕ → Answer Status
-text_answer text = record { status = statuses.Done; output = text; error = [] }
+abbrev pub refused : Refusal → Answer
+refused = refused_with cfg.name cfg.usage
 
 -- The answer to what is asked for, over a file of these bytes. Words that ask for nothing are
 -- refused. Of a file with a fault, the first one is named. Of any other, the graph is reported, or
 -- a part of it, or the live registers of its functions. A made program gets the summary of its
 -- graph, and the bytes do not count.
-pub data IsAnswer (bytes : List ℕ) : Option Asked → Answer Status → Type 0 where
-  usage : IsAnswer bytes None (refused_with refusals.Usage)
+pub data IsAnswer (bytes : List ℕ) : Option Asked → Answer → Type 0 where
+  usage : IsAnswer bytes None (refused refusals.Usage)
   malformed : {path : List ℕ} {workers : ℕ} {kind : ReportKind} {fault : Fault}
       → first_fault bytes ≡ Some fault
-      → IsAnswer bytes (Some (of_file path workers kind)) (refused_with (refusals.Malformed fault))
+      → IsAnswer bytes (Some (of_file path workers kind)) (refused (refusals.Malformed fault))
   done : {path : List ℕ} {workers : ℕ} {kind : ReportKind} {graph : Graph}
       → first_fault bytes ≡ None → kind ≢ reports.Live → IsGraphOf bytes graph
       → IsAnswer bytes (Some (of_file path workers kind))

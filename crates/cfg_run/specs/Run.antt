@@ -1,48 +1,16 @@
--- What a run may leave behind.
-use Rattle.std.specs.Prelude.{◌≡◌, ℕ, List, [], Option}
-use Rattle.elf_image.specs.declared.fault.Fault.{Fault}
-use Rattle.run_ends.specs.Answer.{GivesAnswer, GivesAnswerPart}
+-- A whole run of `cfg`.
+use Rattle.std.specs.Prelude.{Option}
 use Rattle.cfg_words.specs.Request.{Asked}
-use Rattle.cfg_run.specs.declared.status.Status.{Status}
-use Rattle.cfg_run.specs.declared.status.Status.TheVariants as statuses
-use Rattle.cfg_run.specs.declared.refusal.Refusal.TheVariants as refusals
-use Rattle.cfg_run.specs.Lines.{refusal_line}
-use Rattle.cfg_run.specs.Words.{IsForFile}
-use Rattle.cfg_run.specs.Answer.{IsAnswer}
+use Rattle.run_ends.specs.declared.status.Status.{Status}
+use Rattle.run_ends.specs.Run.{Command, IsFileRun, file_command}
+use Rattle.run_ends.specs.Streams.{Reading, Writing}
+use Rattle.cfg_run.specs.Answer.{IsAnswer, cfg}
+use Rattle.cfg_run.specs.Words.{path_of}
 
--- The words and the bytes decided the status: nothing failed, and memory sufficed.
-abbrev pub IsDecided : Status → Type 0
-IsDecided statuses.Done = Unit {0}
-IsDecided statuses.Usage = Unit {0}
-IsDecided statuses.Malformed = Unit {0}
-IsDecided statuses.ReadFault = ⊥
-IsDecided statuses.WriteFault = ⊥
-IsDecided statuses.Memory = ⊥
+-- What a run is asked, over the bytes of its file.
+abbrev pub command : Option Asked → Reading → Command
+command asked = file_command cfg asked (path_of asked) (λ bytes. IsAnswer bytes asked)
 
--- A file is asked for, and the status says that it was read.
-abbrev pub HasRead : Option Asked → Status → Type 0
-HasRead asked statuses.Done = IsForFile asked
-HasRead asked statuses.Usage = ⊥
-HasRead asked statuses.Malformed = IsForFile asked
-HasRead asked statuses.ReadFault = ⊥
-HasRead asked statuses.WriteFault = IsForFile asked
-HasRead asked statuses.Memory = ⊥
-
--- A run that ended in this way gave the answer: its status is the answer's, and standard output and
--- standard error took the texts of it.
-abbrev pub Gives : List ℕ → Option Asked → Status → (List ℕ → Type 0) → (List ℕ → Type 0) → Type 0
-Gives bytes asked end Output Error = GivesAnswer (IsAnswer bytes asked) end Output Error
-
--- A run whose writing failed: standard output grew by a part, from its front, of the text.
-abbrev pub GivesPart : List ℕ → Option Asked → Option (List ℕ) → Option (List ℕ) → Type 0
-GivesPart bytes asked old new = GivesAnswerPart (IsAnswer bytes asked) statuses.Done old new
-
--- The line that a status puts on standard error. Which fault a malformed file has, the answer says.
-abbrev pub IsLineOf : Status → List ℕ → Type 0
-IsLineOf statuses.Done text = text ≡ []
-IsLineOf statuses.Usage text = text ≡ refusal_line refusals.Usage
-IsLineOf statuses.Malformed text = (fault : Fault)
-    × (text ≡ refusal_line (refusals.Malformed fault))
-IsLineOf statuses.ReadFault text = text ≡ refusal_line refusals.ReadFault
-IsLineOf statuses.WriteFault text = text ≡ refusal_line refusals.WriteFault
-IsLineOf statuses.Memory text = text ≡ refusal_line refusals.Memory
+-- A run that was asked for this ended in this way, over these streams.
+abbrev pub IsRunOf : Option Asked → Status → Reading → Writing → Writing → Type 0
+IsRunOf asked = IsFileRun cfg asked (path_of asked) (λ bytes. IsAnswer bytes asked)

@@ -12,12 +12,6 @@ path_of None = None
 path_of (Some (of_file path workers kind)) = Some path
 path_of (Some (of_made n workers)) = None
 
--- The report of a file is asked for.
-abbrev pub IsForFile : Option Asked → Type 0
-IsForFile None = ⊥
-IsForFile (Some (of_file path workers kind)) = Unit {0}
-IsForFile (Some (of_made n workers)) = ⊥
-
 -- A made program that is asked for is of a size that can be made.
 abbrev pub CanBeMade : Asked → Type 0
 CanBeMade (of_file path workers kind) = Unit {0}

@@ -4,17 +4,18 @@ ghost use Rattle.std.specs.Prelude.{◌≡◌, ◌≤◌, ℕ, List, Some, IfOk,
 ghost use Rattle.cfg_words.specs.Request.{of_file, of_made};
 ghost use Rattle.elf_image.specs.Seeds.{seed_name};
 ghost use Rattle.live_regs.specs.Masks.{AreAllLivesOf};
-ghost use Rattle.cfg_run.specs.Answer.{IsAnswer, text_answer};
+ghost use Rattle.run_ends.specs.Answer.{text_answer};
+ghost use Rattle.cfg_run.specs.Answer.{IsAnswer};
 ghost use Rattle.cfg_run.specs.Text.{bytes_of};
 ghost use Rattle.cfg_run.specs.Inner.{IsRefusalOf};
 
 use crate::maker::Maker;
-use crate::refusal::Refusal;
 use crate::text::{FileReport, LiveReport, Text};
 use big_case::big_file;
 use cfg_model::{AllLives, Memory};
 use file_graph::FileGraph;
 use graph_report::{ReportKind, summary};
+use run_ends::Refusal;
 use std::alloc::Global;
 use std::mem;
 

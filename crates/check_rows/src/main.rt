@@ -43,13 +43,11 @@ use crate::case::Case;
 use crate::judge::{first_difference, prepare};
 use anyhow::{Context, Result};
 use cfg_run::Status;
-use check_run::CheckStatus;
 use std::io::{self, BufWriter, Write};
 use std::marker::Sync;
 use std::sync::Wait;
 use std::thread::Threads;
 use std::{env, fs};
-use walk_run::WalkStatus;
 
 fn main(rt: HostRuntime) -> Result<()> {
     let mut out = BufWriter::new(rt.alloc(), io::writer(&rt))?;
@@ -60,10 +58,8 @@ fn main(rt: HostRuntime) -> Result<()> {
         }
     }
     // The one status that no case ends with.
-    let run = Status::Memory.number();
-    let walk = WalkStatus::Memory.number();
-    let check = CheckStatus::Memory.number();
-    writeln!(out, "out of memory: {run} {walk} {check}")?;
+    let memory = Status::Memory.number();
+    writeln!(out, "out of memory: {memory}")?;
     out.flush()?;
     Ok(())
 }

@@ -1,28 +1,32 @@
 -- How a run ends: what each refusal leaves, by its kind.
 use Rattle.std.proofs.Common.{◌≡◌, ℕ, List, [], Option, Some, None, refl, sym, subst}
-use Rattle.std.specs.Prelude.{◌↔◌, IfSome, IsErrOf, Err}
+use Rattle.std.specs.Prelude.{◌↔◌, ◌⊎◌, IfSome, IsErrOf, Err}
 use Rattle.std.proofs.lemmas.Option.{IfSome_then, none-some}
 use Rattle.elf_image.specs.Faults.{first_fault}
 use Rattle.cfg_io.specs.Told.{TakesCount}
-use Rattle.run_ends.specs.declared.reading.Unread.{Unread}
-use Rattle.run_ends.specs.declared.reading.Unread.TheVariants as unread
-use Rattle.run_ends.specs.Told.{Grows}
-use Rattle.run_ends.proofs.Inputs.{taken-too-large}
-use Rattle.run_ends.proofs.Pieces.{appends-nothing}
 use Rattle.cert_text.specs.declared.certificate.Certificate.{Certificate}
 use Rattle.cert_laws.specs.FileCertificate.{IsCertificateOf}
-use Rattle.check_run.specs.declared.refusal.Refusal.{Refusal}
-use Rattle.check_run.specs.declared.refusal.Refusal.TheVariants as refusals
-use Rattle.check_run.specs.declared.status.CheckStatus.TheVariants as statuses
-use Rattle.check_run.specs.declared.status.CheckStatus.{CheckStatus}
-use Rattle.check_run.specs.Words.{Asked, of_make, of_test, AsksFile, AsksMake, AsksTest}
+use Rattle.run_ends.specs.declared.reading.Unread.{Unread}
+use Rattle.run_ends.specs.declared.reading.Unread.TheVariants as unread
+use Rattle.run_ends.specs.declared.refusal.Refusal.{Refusal}
+use Rattle.run_ends.specs.declared.refusal.Refusal.TheVariants as refusals
+use Rattle.run_ends.specs.declared.status.Status.{Status}
+use Rattle.run_ends.specs.declared.status.Status.TheVariants as statuses
+use Rattle.run_ends.specs.Answer.{GivesAnswer, text_answer}
+use Rattle.run_ends.specs.Line.{refusal_line}
+use Rattle.run_ends.specs.Refusal.{status_of, refusal_of_unread}
+use Rattle.run_ends.specs.Status.{IsDecided}
+use Rattle.run_ends.specs.Inner.{IsText}
+use Rattle.run_ends.specs.Inner.{IsTrueOf as IsTrue}
+use Rattle.run_ends.specs.Streams.{Reading, FailsToRead}
+use Rattle.run_ends.proofs.Inputs.{taken-too-large}
+use Rattle.run_ends.proofs.Refusals.{usage-true, memory-true, read-true, bytes-true}
+use Rattle.check_run.specs.Words.{Asked, of_make, of_test, AsksMake, AsksTest}
 use Rattle.check_run.specs.Evidence.{Holds}
-use Rattle.check_run.specs.Answer.{IsAnswer, refused_with, text_answer}
+use Rattle.check_run.specs.Answer.{IsAnswer, cfg_check}
 use Rattle.check_run.specs.Text.{IsCanonicalText, IsReportOf}
-use Rattle.check_run.specs.Refusal.{status_of, refusal_of_file}
-use Rattle.check_run.specs.Lines.{refusal_line}
 use Rattle.check_run.specs.Inner.{IsTrueOfFile, IsTrueOf}
-use Rattle.check_run.specs.Run.{IsDecided, Gives, NamesFault, Judges, IsLineOf, OverBoth, OverInputs}
+use Rattle.check_run.specs.Run.{Bytes, Count, FailedToRead, NamesFault, Judges, OverBoth, OverInputs, command}
 use Rattle.check_run.proofs.Unique.{judges, made-exactly}
 
 -- An error has one value.
@@ -33,7 +37,7 @@ err-same is = cc
 
 -- What reading refuses is true of the file.
 pub unread-file : (told new : Option (List ℕ)) (rose : Type 0) (e : Unread) → (e ≡ unread.ReadFault → rose)
-    → (e ≡ unread.TooLarge → TakesCount told 67108865 new) → IsTrueOfFile told rose (refusal_of_file e)
+    → (e ≡ unread.TooLarge → TakesCount told 67108865 new) → IsTrueOfFile told rose (refusal_of_unread e)
 unread-file told new rose unread.ReadFault failed takes = failed refl
 unread-file told new rose unread.TooLarge failed takes = taken-too-large told new (takes refl)
 unread-file told new rose unread.Memory failed takes = tt
@@ -68,115 +72,114 @@ module _ (path other : List ℕ) (file certificate : Option (List ℕ)) (bytes :
 
 -- ---- refusing
 
--- A refusal that is an answer is given.
-given : {bytes text : List ℕ} {asked : Option Asked} (r : Refusal) (old : Option (List ℕ)) (Error : List ℕ → Type 0)
-    → IsAnswer bytes text asked (refused_with r) → Error (refusal_line r) → Gives bytes text asked (status_of r) (Grows old old) Error
-given r old Error is line = record {
-  answer = refused_with r;
-  is_answer = is;
-  status = refl;
-  output = appends-nothing old;
-  error = line;
-}
+told : {Q : List ℕ → Type 0} (t : Option (List ℕ)) (bytes : List ℕ) → t ≡ Some bytes → IfSome t Q → Q bytes
+told {Q} t bytes is q = subst (λ (x : Option (List ℕ)). IfSome x Q) is q
 
-made-decided : (path bytes : List ℕ) (certificate : Option (List ℕ)) (rose : Type 0) (r : Refusal) (old : Option (List ℕ)) (Error : List ℕ → Type 0)
-    → IsTrueOf (Some (of_make path)) (Some bytes) certificate rose r → Error (refusal_line r) → IsDecided (status_of r)
-    → Gives bytes [] (Some (of_make path)) (status_of r) (Grows old old) Error
-made-decided path bytes certificate rose refusals.Usage old Error is line = absurd (none-some (of_make path) (sym is))
-made-decided path bytes certificate rose (refusals.Malformed fault) old Error is line = λ _. given (refusals.Malformed fault) old Error (IsAnswer.malformed is.1) line
-made-decided path bytes certificate rose refusals.ReadFault old Error is line = λ not. absurd not
-made-decided path bytes certificate rose refusals.WriteFault old Error is line = λ not. absurd not
-made-decided path bytes certificate rose refusals.Memory old Error is line = λ not. absurd not
-made-decided path bytes certificate rose refusals.NoText old Error is line = absurd is.0
-made-decided path bytes certificate rose refusals.Refused old Error is line = absurd is.0
+module _ (file certificate : Reading) where
+  made-true-of : (path : List ℕ) (r : Refusal) → IsTrueOf (Some (of_make path)) file.old certificate.old (FailsToRead file) r
+      → IsTrue (command (Some (of_make path)) file certificate) r
+  made-true-of path refusals.Usage is = absurd (none-some (of_make path) (sym is))
+  made-true-of path (refusals.Malformed fault) is =
+      bytes-true (command (Some (of_make path)) file certificate) (λ none. absurd (none-some (of_make path) (sym none))) tt (refusals.Malformed fault) tt tt
+      (λ b counts. IsAnswer.malformed (told file.old b.file counts.0 is.1))
+  made-true-of path refusals.ReadFault is =
+      read-true (command (Some (of_make path)) file certificate) (λ none. absurd (none-some (of_make path) (sym none))) tt tt is
+  made-true-of path refusals.WriteFault is = absurd is
+  made-true-of path refusals.Memory is = memory-true (command (Some (of_make path)) file certificate) tt
+  made-true-of path refusals.TooMuch is = absurd is
+  made-true-of path refusals.NoText is = absurd is.0
+  made-true-of path refusals.Refused is = absurd is.0
 
-tested-decided : (path other bytes text : List ℕ) (rose : Type 0) (r : Refusal) (old : Option (List ℕ)) (Error : List ℕ → Type 0)
-    → IsTrueOf (Some (of_test path other)) (Some bytes) (Some text) rose r → Error (refusal_line r) → IsDecided (status_of r)
-    → Gives bytes text (Some (of_test path other)) (status_of r) (Grows old old) Error
-tested-decided path other bytes text rose refusals.Usage old Error is line = absurd (none-some (of_test path other) (sym is))
-tested-decided path other bytes text rose (refusals.Malformed fault) old Error is line = λ _. given (refusals.Malformed fault) old Error (IsAnswer.malformed is.1) line
-tested-decided path other bytes text rose refusals.ReadFault old Error is line = λ not. absurd not
-tested-decided path other bytes text rose refusals.WriteFault old Error is line = λ not. absurd not
-tested-decided path other bytes text rose refusals.Memory old Error is line = λ not. absurd not
-tested-decided path other bytes text rose refusals.NoText old Error is line = λ _. given refusals.NoText old Error (IsAnswer.no_text is.1) line
-tested-decided path other bytes text rose refusals.Refused old Error is line = λ _. given refusals.Refused old Error (IsAnswer.refused is.1) line
+  tested-true-of : (path other : List ℕ) (r : Refusal) → IsTrueOf (Some (of_test path other)) file.old certificate.old (FailsToRead file ⊎ FailsToRead certificate) r
+      → IsTrue (command (Some (of_test path other)) file certificate) r
+  tested-true-of path other refusals.Usage is = absurd (none-some (of_test path other) (sym is))
+  tested-true-of path other (refusals.Malformed fault) is =
+      bytes-true (command (Some (of_test path other)) file certificate) (λ none. absurd (none-some (of_test path other) (sym none))) tt (refusals.Malformed fault) tt tt
+      (λ b counts. IsAnswer.malformed (told file.old b.file counts.0 is.1))
+  tested-true-of path other refusals.ReadFault is =
+      read-true (command (Some (of_test path other)) file certificate) (λ none. absurd (none-some (of_test path other) (sym none))) tt tt is
+  tested-true-of path other refusals.WriteFault is = absurd is
+  tested-true-of path other refusals.Memory is = memory-true (command (Some (of_test path other)) file certificate) tt
+  tested-true-of path other refusals.TooMuch is = absurd is
+  tested-true-of path other refusals.NoText is =
+      bytes-true (command (Some (of_test path other)) file certificate) (λ none. absurd (none-some (of_test path other) (sym none))) tt refusals.NoText tt tt
+      (λ b counts. IsAnswer.no_text (told certificate.old b.certificate counts.1 (told file.old b.file counts.0 is.1)))
+  tested-true-of path other refusals.Refused is =
+      bytes-true (command (Some (of_test path other)) file certificate) (λ none. absurd (none-some (of_test path other) (sym none))) tt refusals.Refused tt tt
+      (λ b counts. IsAnswer.refused (told certificate.old b.certificate counts.1 (told file.old b.file counts.0 is.1)))
 
-pub decided-true : (asked : Option Asked) (file certificate : Option (List ℕ)) (rose : Type 0) (r : Refusal) (old : Option (List ℕ)) (Error : List ℕ → Type 0)
-    → (asked ≡ None → r ≡ refusals.Usage) → IsTrueOf asked file certificate rose r → Error (refusal_line r)
-    → OverInputs asked file certificate (λ bytes text. IsDecided (status_of r) → Gives bytes text asked (status_of r) (Grows old old) Error)
-decided-true None file certificate rose r old Error usage is line =
-    subst (λ (x : Refusal). IsDecided (status_of x) → Gives [] [] None (status_of x) (Grows old old) Error) (sym (usage refl))
-    (λ _. given refusals.Usage old Error IsAnswer.usage (subst (λ (x : Refusal). Error (refusal_line x)) (usage refl) line))
-decided-true (Some (of_make path)) None certificate rose r old Error usage is line = tt
-decided-true (Some (of_make path)) (Some bytes) certificate rose r old Error usage is line = made-decided path bytes certificate rose r old Error is line
-decided-true (Some (of_test path other)) None certificate rose r old Error usage is line = tt
-decided-true (Some (of_test path other)) (Some bytes) None rose r old Error usage is line = tt
-decided-true (Some (of_test path other)) (Some bytes) (Some text) rose r old Error usage is line = tested-decided path other bytes text rose r old Error is line
+  -- What a step refuses is true of the command.
+  pub true-of : (asked : Option Asked) (r : Refusal) → (asked ≡ None → r ≡ refusals.Usage)
+      → IsTrueOf asked file.old certificate.old (FailedToRead asked (FailsToRead file) (FailsToRead certificate)) r → IsTrue (command asked file certificate) r
+  true-of None r usage is =
+      subst (λ (x : Refusal). IsTrue (command None file certificate) x) (sym (usage refl))
+      (usage-true (command None file certificate) refl tt (λ b counts. IsAnswer.usage))
+  true-of (Some (of_make path)) r usage is = made-true-of path r is
+  true-of (Some (of_test path other)) r usage is = tested-true-of path other r is
+
+  -- What holds over the inputs holds over the bytes that count.
+  counted : (asked : Option Asked) (P : List ℕ → List ℕ → Type 0) → OverInputs asked file.old certificate.old P
+      → (b : Bytes) → Count asked file.old certificate.old b → P b.file b.certificate
+  counted None P p b counts =
+      subst (λ (x : List ℕ). P x b.certificate) (sym counts.0) (subst (λ (x : List ℕ). P [] x) (sym counts.1) p)
+  counted (Some (of_make path)) P p b counts =
+      subst (λ (x : List ℕ). P b.file x) (sym counts.1) (told {Q = λ bytes. P bytes []} file.old b.file counts.0 p)
+  counted (Some (of_test path other)) P p b counts =
+      told {Q = λ text. P b.file text} certificate.old b.certificate counts.1 (told {Q = λ bytes. IfSome certificate.old (λ text. P bytes text)} file.old b.file counts.0 p)
+
+  -- A text that is the answer over the inputs is that of the command.
+  pub is-text : (asked : Option Asked) (text : List ℕ) → OverInputs asked file.old certificate.old (λ bytes held. IsAnswer bytes held asked (text_answer text))
+      → IsText (command asked file certificate) text
+  is-text asked text over = counted asked (λ bytes held. IsAnswer bytes held asked (text_answer text)) over
 
 module _ (asked : Option Asked) (file certificate : Option (List ℕ)) (rose : Type 0) where
   -- The line of a malformed file names its first fault.
-  pub ends-malformed : (r : Refusal) (Error : List ℕ → Type 0) → IsTrueOf asked file certificate rose r → Error (refusal_line r)
-      → status_of r ≡ statuses.Malformed → AsksFile asked × IfSome file (λ bytes. NamesFault bytes Error)
+  pub ends-malformed : (r : Refusal) (Error : List ℕ → Type 0) → IsTrueOf asked file certificate rose r → Error (refusal_line cfg_check.name cfg_check.usage r)
+      → status_of r ≡ statuses.Malformed → IfSome file (λ bytes. NamesFault bytes Error)
   ends-malformed refusals.Usage Error is line ends = absurd (cc)
   ends-malformed (refusals.Malformed fault) Error is line ends =
-      (is.0, IfSome_then file is.1 (λ bytes first. record { fault = fault; is_first = first; line = line }))
+      IfSome_then file is.1 (λ bytes first. record { fault = fault; is_first = first; line = line })
   ends-malformed refusals.ReadFault Error is line ends = absurd (cc)
   ends-malformed refusals.WriteFault Error is line ends = absurd (cc)
   ends-malformed refusals.Memory Error is line ends = absurd (cc)
+  ends-malformed refusals.TooMuch Error is line ends = absurd (cc)
   ends-malformed refusals.NoText Error is line ends = absurd (cc)
   ends-malformed refusals.Refused Error is line ends = absurd (cc)
 
--- The line of a refusal is that of its status.
-pub line-of : (r : Refusal) → IsLineOf (status_of r) (refusal_line r)
-line-of refusals.Usage = refl
-line-of (refusals.Malformed fault) = (fault, refl)
-line-of refusals.ReadFault = refl
-line-of refusals.WriteFault = refl
-line-of refusals.Memory = refl
-line-of refusals.NoText = refl
-line-of refusals.Refused = refl
-
 -- ---- what a decided run shows of the certificate
 
+-- A decided run gave the answer to these bytes.
+abbrev pub GaveOver : Option Asked → Reading → Reading → Status → (List ℕ → Type 0) → (List ℕ → Type 0) → Type 0
+GaveOver asked file certificate end Output Error =
+    (b : Bytes) → Count asked file.old certificate.old b → IsDecided end → GivesAnswer (IsAnswer b.file b.certificate asked) end Output Error
+
 -- The answer of a decided test judges the certificate.
-pub judged-by : (asked : Option Asked) (file certificate : Option (List ℕ)) (end : CheckStatus) (Output Error : List ℕ → Type 0)
-    → OverInputs asked file certificate (λ bytes text. IsDecided end → Gives bytes text asked end Output Error)
+judged-of : (asked : Option Asked) (file certificate : Option (List ℕ)) (end : Status) (Output Error : List ℕ → Type 0)
+    → ((b : Bytes) → Count asked file certificate b → IsDecided end → GivesAnswer (IsAnswer b.file b.certificate asked) end Output Error)
     → OverBoth file certificate (λ bytes text. IsDecided end → AsksTest asked → Judges bytes text end)
-judged-by asked None certificate end Output Error gives = tt
-judged-by asked (Some bytes) None end Output Error gives = tt
-judged-by None (Some bytes) (Some text) end Output Error gives = λ decided asks. absurd asks
-judged-by (Some (of_make path)) (Some bytes) (Some text) end Output Error gives = λ decided asks. absurd asks
-judged-by (Some (of_test path other)) (Some bytes) (Some text) end Output Error gives = λ decided asks.
-    let gave = gives decided in
-    subst (λ (s : CheckStatus). Judges bytes text s) (sym gave.status) (judges gave.is_answer)
+judged-of asked None certificate end Output Error gives = tt
+judged-of asked (Some bytes) None end Output Error gives = tt
+judged-of None (Some bytes) (Some text) end Output Error gives = λ decided asks. absurd asks
+judged-of (Some (of_make path)) (Some bytes) (Some text) end Output Error gives = λ decided asks. absurd asks
+judged-of (Some (of_test path other)) (Some bytes) (Some text) end Output Error gives = λ decided asks.
+    let gave = gives (record { file = bytes; certificate = text }) (refl, refl) decided in
+    subst (λ (s : Status). Judges bytes text s) (sym gave.status) (judges gave.is_answer)
+
+pub judged-by : (asked : Option Asked) (file certificate : Reading) (end : Status) (Output Error : List ℕ → Type 0) → GaveOver asked file certificate end Output Error
+    → OverBoth file.old certificate.old (λ bytes text. IsDecided end → AsksTest asked → Judges bytes text end)
+judged-by asked file certificate = judged-of asked file.old certificate.old
 
 -- That of a run that makes one shows that the file has no fault.
-pub made-by : (asked : Option Asked) (file certificate : Option (List ℕ)) (end : CheckStatus) (Output Error : List ℕ → Type 0)
-    → OverInputs asked file certificate (λ bytes text. IsDecided end → Gives bytes text asked end Output Error)
+made-of : (asked : Option Asked) (file certificate : Option (List ℕ)) (end : Status) (Output Error : List ℕ → Type 0)
+    → ((b : Bytes) → Count asked file certificate b → IsDecided end → GivesAnswer (IsAnswer b.file b.certificate asked) end Output Error)
     → IfSome file (λ bytes. IsDecided end → AsksMake asked → (end ≡ statuses.Done) ↔ (first_fault bytes ≡ None))
-made-by asked None certificate end Output Error gives = tt
-made-by None (Some bytes) certificate end Output Error gives = λ decided asks. absurd asks
-made-by (Some (of_make path)) (Some bytes) certificate end Output Error gives = λ decided asks.
-    let gave = gives decided in
-    subst (λ (s : CheckStatus). (s ≡ statuses.Done) ↔ (first_fault bytes ≡ None)) (sym gave.status) (made-exactly gave.is_answer)
-made-by (Some (of_test path other)) (Some bytes) certificate end Output Error gives = λ decided asks. absurd asks
+made-of asked None certificate end Output Error gives = tt
+made-of None (Some bytes) certificate end Output Error gives = λ decided asks. absurd asks
+made-of (Some (of_make path)) (Some bytes) certificate end Output Error gives = λ decided asks.
+    let gave = gives (record { file = bytes; certificate = [] }) (refl, refl) decided in
+    subst (λ (s : Status). (s ≡ statuses.Done) ↔ (first_fault bytes ≡ None)) (sym gave.status) (made-exactly gave.is_answer)
+made-of (Some (of_test path other)) (Some bytes) certificate end Output Error gives = λ decided asks. absurd asks
 
--- ---- writing
-
--- It holds over the inputs if what implies it does.
-over-inputs-of : (asked : Option Asked) (file certificate : Option (List ℕ)) (P Q : List ℕ → List ℕ → Type 0)
-    → ((bytes text : List ℕ) → P bytes text → Q bytes text) → OverInputs asked file certificate P → OverInputs asked file certificate Q
-over-inputs-of None file certificate P Q f p = f [] [] p
-over-inputs-of (Some (of_make path)) None certificate P Q f p = tt
-over-inputs-of (Some (of_make path)) (Some bytes) certificate P Q f p = f bytes [] p
-over-inputs-of (Some (of_test path other)) None certificate P Q f p = tt
-over-inputs-of (Some (of_test path other)) (Some bytes) None P Q f p = tt
-over-inputs-of (Some (of_test path other)) (Some bytes) (Some text) P Q f p = f bytes text p
-
-module _ (asked : Option Asked) (file certificate : Option (List ℕ)) where
-  -- A text that is the answer was given, if it was written whole.
-  pub text-given : (written : List ℕ) (Output Error : List ℕ → Type 0) → Output written → Error []
-      → OverInputs asked file certificate (λ bytes text. IsAnswer bytes text asked (text_answer written))
-      → OverInputs asked file certificate (λ bytes text. IsDecided statuses.Done → Gives bytes text asked statuses.Done Output Error)
-  text-given written Output Error output error is =
-      over-inputs-of asked file certificate _ _ (λ bytes text answer decided. record { answer = text_answer written; is_answer = answer; status = refl; output = output; error = error }) is
+pub made-by : (asked : Option Asked) (file certificate : Reading) (end : Status) (Output Error : List ℕ → Type 0) → GaveOver asked file certificate end Output Error
+    → IfSome file.old (λ bytes. IsDecided end → AsksMake asked → (end ≡ statuses.Done) ↔ (first_fault bytes ≡ None))
+made-by asked file certificate = made-of asked file.old certificate.old

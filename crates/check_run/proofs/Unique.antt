@@ -11,14 +11,13 @@ use Rattle.cert_text.proofs.Parts.{certificates_same}
 use Rattle.cert_text.specs.Text.{certificate_text}
 use Rattle.certify.proofs.FileLaws.{canonical-unique}
 use Rattle.cert_laws.specs.FileCertificate.{IsCertificateOf}
-use Rattle.run_ends.specs.Answer.{Answer}
-use Rattle.check_run.specs.declared.refusal.Refusal.TheVariants as refusals
-use Rattle.check_run.specs.declared.status.CheckStatus.{CheckStatus}
-use Rattle.check_run.specs.declared.status.CheckStatus.TheVariants as statuses
+use Rattle.run_ends.specs.declared.refusal.Refusal.TheVariants as refusals
+use Rattle.run_ends.specs.declared.status.Status.TheVariants as statuses
+use Rattle.run_ends.specs.Answer.{Answer, text_answer}
 use Rattle.check_run.specs.Words.{Asked, of_make, of_test}
 use Rattle.check_run.specs.Evidence.{HasNoText, HasFalse, HasValid}
 use Rattle.check_run.specs.Run.{Judges}
-use Rattle.check_run.specs.Answer.{IsAnswer, refused_with, text_answer, report_of}
+use Rattle.check_run.specs.Answer.{IsAnswer, refused_for, report_of}
 use Rattle.check_run.specs.Laws.{CheckAnswerIsUnique}
 
 -- A text holds one certificate, which is valid or not.
@@ -32,9 +31,9 @@ false-valid : {bytes text : List ℕ} → HasFalse bytes text → HasValid bytes
 false-valid {bytes} {text} f v =
     f.not_valid (subst (λ (c : Certificate). IsCertificateOf bytes c) (certificates_same text v.certificate f.certificate v.held.is_text f.held.is_text) v.valid)
 
-two-answers : {bytes text : List ℕ} {asked : Option Asked} {one other : Answer CheckStatus} → IsAnswer bytes text asked one → IsAnswer bytes text asked other → one ≡ other
+two-answers : {bytes text : List ℕ} {asked : Option Asked} {one other : Answer} → IsAnswer bytes text asked one → IsAnswer bytes text asked other → one ≡ other
 two-answers IsAnswer.usage IsAnswer.usage = refl
-two-answers (IsAnswer.malformed {fault = f} x) (IsAnswer.malformed {fault = g} y) = ap (λ (fault : Fault). refused_with (refusals.Malformed fault)) (same_Some f g (sym x ∙ y))
+two-answers (IsAnswer.malformed {fault = f} x) (IsAnswer.malformed {fault = g} y) = ap (λ (fault : Fault). refused_for (refusals.Malformed fault)) (same_Some f g (sym x ∙ y))
 two-answers (IsAnswer.malformed {fault = f} x) (IsAnswer.made y _) = absurd (none-some f (sym y ∙ x))
 two-answers (IsAnswer.malformed {fault = f} x) (IsAnswer.no_text y) = absurd (none-some f (sym y.accepted ∙ x))
 two-answers (IsAnswer.malformed {fault = f} x) (IsAnswer.refused y) = absurd (none-some f (sym y.accepted ∙ x))
@@ -60,28 +59,28 @@ pub answer-unique : CheckAnswerIsUnique
 answer-unique bytes text asked one other is are = two-answers is are
 
 -- A certificate is made exactly of a file that has no fault.
-pub made-exactly : {bytes text path : List ℕ} {answer : Answer CheckStatus} → IsAnswer bytes text (Some (of_make path)) answer → (answer.status ≡ statuses.Done) ↔ (first_fault bytes ≡ None)
+pub made-exactly : {bytes text path : List ℕ} {answer : Answer} → IsAnswer bytes text (Some (of_make path)) answer → (answer.status ≡ statuses.Done) ↔ (first_fault bytes ≡ None)
 made-exactly (IsAnswer.malformed {fault = f} x) = (λ is. absurd (cc), λ accepted. absurd (none-some f (sym accepted ∙ x)))
 made-exactly (IsAnswer.made x _) = (λ _. x, λ _. refl)
 
 -- Which status the answer to a test has shows what the certificate is.
-no-text-exactly : {bytes text path other : List ℕ} {answer : Answer CheckStatus} → IsAnswer bytes text (Some (of_test path other)) answer → (answer.status ≡ statuses.NoText) ↔ HasNoText bytes text
+no-text-exactly : {bytes text path other : List ℕ} {answer : Answer} → IsAnswer bytes text (Some (of_test path other)) answer → (answer.status ≡ statuses.NoText) ↔ HasNoText bytes text
 no-text-exactly (IsAnswer.malformed {fault = f} x) = (λ is. absurd (cc), λ n. absurd (none-some f (sym n.accepted ∙ x)))
 no-text-exactly (IsAnswer.no_text x) = (λ _. x, λ _. refl)
 no-text-exactly (IsAnswer.refused x) = (λ is. absurd (cc), λ n. absurd (none-held n x))
 no-text-exactly (IsAnswer.done x _) = (λ is. absurd (cc), λ n. absurd (none-valid n x))
 
-refused-exactly : {bytes text path other : List ℕ} {answer : Answer CheckStatus} → IsAnswer bytes text (Some (of_test path other)) answer → (answer.status ≡ statuses.Refused) ↔ HasFalse bytes text
+refused-exactly : {bytes text path other : List ℕ} {answer : Answer} → IsAnswer bytes text (Some (of_test path other)) answer → (answer.status ≡ statuses.Refused) ↔ HasFalse bytes text
 refused-exactly (IsAnswer.malformed {fault = f} x) = (λ is. absurd (cc), λ n. absurd (none-some f (sym n.accepted ∙ x)))
 refused-exactly (IsAnswer.no_text x) = (λ is. absurd (cc), λ n. absurd (none-held x n))
 refused-exactly (IsAnswer.refused x) = (λ _. x, λ _. refl)
 refused-exactly (IsAnswer.done x _) = (λ is. absurd (cc), λ n. absurd (false-valid n x))
 
-done-exactly : {bytes text path other : List ℕ} {answer : Answer CheckStatus} → IsAnswer bytes text (Some (of_test path other)) answer → (answer.status ≡ statuses.Done) ↔ HasValid bytes text
+done-exactly : {bytes text path other : List ℕ} {answer : Answer} → IsAnswer bytes text (Some (of_test path other)) answer → (answer.status ≡ statuses.Done) ↔ HasValid bytes text
 done-exactly (IsAnswer.malformed {fault = f} x) = (λ is. absurd (cc), λ n. absurd (none-some f (sym n.accepted ∙ x)))
 done-exactly (IsAnswer.no_text x) = (λ is. absurd (cc), λ n. absurd (none-valid x n))
 done-exactly (IsAnswer.refused x) = (λ is. absurd (cc), λ n. absurd (false-valid x n))
 done-exactly (IsAnswer.done x _) = (λ _. x, λ _. refl)
 
-pub judges : {bytes text path other : List ℕ} {answer : Answer CheckStatus} → IsAnswer bytes text (Some (of_test path other)) answer → Judges bytes text answer.status
+pub judges : {bytes text path other : List ℕ} {answer : Answer} → IsAnswer bytes text (Some (of_test path other)) answer → Judges bytes text answer.status
 judges is = record { no_text = no-text-exactly is; refused = refused-exactly is; done = done-exactly is }

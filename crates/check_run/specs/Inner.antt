@@ -1,16 +1,16 @@
 -- Words that no public clause cites: what the steps of a run answer one another.
-use Rattle.std.specs.Prelude.{◌≡◌, ℕ, List, Option, Some, None, IfSome, Result, Ok, Err}
+use Rattle.std.specs.Prelude.{◌≡◌, ℕ, List, Option, Some, None, IfSome}
 use Rattle.elf_image.specs.Faults.{first_fault}
 use Rattle.cert_text.specs.declared.certificate.Certificate.{Certificate}
 use Rattle.cert_laws.specs.FileCertificate.{IsCertificateOf}
-use Rattle.check_run.specs.declared.refusal.Refusal.{Refusal}
-use Rattle.check_run.specs.declared.refusal.Refusal.TheVariants as refusals
-use Rattle.check_run.specs.declared.status.CheckStatus.{CheckStatus}
-use Rattle.check_run.specs.declared.status.CheckStatus.TheVariants as statuses
+use Rattle.run_ends.specs.declared.reading.Unread.{Unread}
+use Rattle.run_ends.specs.declared.reading.Unread.TheVariants as unread
+use Rattle.run_ends.specs.declared.refusal.Refusal.{Refusal}
+use Rattle.run_ends.specs.declared.refusal.Refusal.TheVariants as refusals
+use Rattle.run_ends.specs.Inputs.{AsksFile}
 use Rattle.check_run.specs.declared.words.Request.{Request}
 use Rattle.check_run.specs.declared.words.Request.TheVariants.{Make, Test}
-use Rattle.check_run.specs.Words.{Asked, of_make, of_test, AsksFile, AsksTest}
-use Rattle.check_run.specs.Refusal.{status_of}
+use Rattle.check_run.specs.Words.{Asked, of_make, of_test, path_of, AsksTest}
 use Rattle.check_run.specs.Evidence.{Holds, HasNoText, HasFalse}
 use Rattle.check_run.specs.Run.{OverBoth}
 
@@ -19,10 +19,11 @@ abbrev pub asked : Request → Asked
 asked (Make file) = of_make file.now
 asked (Test file certificate) = of_test file.now certificate.now
 
--- How a run ends after this step, if no later one fails.
-abbrev pub end_of : {X : Type 0} → Result X Refusal → CheckStatus
-end_of (Ok x) = statuses.Done
-end_of (Err refusal) = status_of refusal
+-- The refusal of a certificate that was not read.
+abbrev pub refusal_of_certificate : Unread → Refusal
+refusal_of_certificate unread.ReadFault = refusals.ReadFault
+refusal_of_certificate unread.TooLarge = refusals.NoText
+refusal_of_certificate unread.Memory = refusals.Memory
 
 -- The refusal is true of the file, if the input tells its bytes. A call of the input failed if the
 -- file was not read.
@@ -33,6 +34,7 @@ IsTrueOfFile told rose (refusals.Malformed fault) =
 IsTrueOfFile told rose refusals.ReadFault = rose
 IsTrueOfFile told rose refusals.WriteFault = ⊥
 IsTrueOfFile told rose refusals.Memory = Unit {0}
+IsTrueOfFile told rose refusals.TooMuch = ⊥
 IsTrueOfFile told rose refusals.NoText = ⊥
 IsTrueOfFile told rose refusals.Refused = ⊥
 
@@ -47,6 +49,7 @@ IsTrueOfText told rose (refusals.Malformed fault) = ⊥
 IsTrueOfText told rose refusals.ReadFault = rose
 IsTrueOfText told rose refusals.WriteFault = ⊥
 IsTrueOfText told rose refusals.Memory = Unit {0}
+IsTrueOfText told rose refusals.TooMuch = ⊥
 IsTrueOfText told rose refusals.NoText = IfSome told HoldsNone
 IsTrueOfText told rose refusals.Refused = ⊥
 
@@ -57,6 +60,7 @@ IsTrueOfCheck bytes certificate (refusals.Malformed fault) = ⊥
 IsTrueOfCheck bytes certificate refusals.ReadFault = ⊥
 IsTrueOfCheck bytes certificate refusals.WriteFault = ⊥
 IsTrueOfCheck bytes certificate refusals.Memory = Unit {0}
+IsTrueOfCheck bytes certificate refusals.TooMuch = ⊥
 IsTrueOfCheck bytes certificate refusals.NoText = ⊥
 IsTrueOfCheck bytes certificate refusals.Refused = ¬ IsCertificateOf bytes certificate
 
@@ -65,11 +69,12 @@ IsTrueOfCheck bytes certificate refusals.Refused = ¬ IsCertificateOf bytes cert
 -- failed.
 abbrev pub IsTrueOf : Option Asked → Option (List ℕ) → Option (List ℕ) → Type 0 → Refusal → Type 0
 IsTrueOf asked file certificate rose refusals.Usage = asked ≡ None
-IsTrueOf asked file certificate rose (refusals.Malformed fault) = AsksFile asked
+IsTrueOf asked file certificate rose (refusals.Malformed fault) = AsksFile (path_of asked)
     × IfSome file (λ bytes. first_fault bytes ≡ Some fault)
 IsTrueOf asked file certificate rose refusals.ReadFault = rose
 IsTrueOf asked file certificate rose refusals.WriteFault = ⊥
 IsTrueOf asked file certificate rose refusals.Memory = Unit {0}
+IsTrueOf asked file certificate rose refusals.TooMuch = ⊥
 IsTrueOf asked file certificate rose refusals.NoText = AsksTest asked
     × OverBoth file certificate HasNoText
 IsTrueOf asked file certificate rose refusals.Refused = AsksTest asked

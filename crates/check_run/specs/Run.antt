@@ -1,26 +1,16 @@
--- What a run may leave behind.
+-- A whole run of `cfg_check`.
 use Rattle.std.specs.Prelude.{◌≡◌, ◌↔◌, ℕ, ◌⊎◌, List, [], Option, Some, None, IfSome}
 use Rattle.elf_image.specs.declared.fault.Fault.{Fault}
 use Rattle.elf_image.specs.Faults.{first_fault}
-use Rattle.run_ends.specs.Answer.{GivesAnswer, GivesAnswerPart}
-use Rattle.check_run.specs.declared.status.CheckStatus.{CheckStatus}
-use Rattle.check_run.specs.declared.status.CheckStatus.TheVariants as statuses
-use Rattle.check_run.specs.declared.refusal.Refusal.TheVariants as refusals
-use Rattle.check_run.specs.Lines.{refusal_line}
-use Rattle.check_run.specs.Words.{Asked, of_make, of_test}
+use Rattle.run_ends.specs.declared.refusal.Refusal.TheVariants as refusals
+use Rattle.run_ends.specs.declared.status.Status.{Status}
+use Rattle.run_ends.specs.declared.status.Status.TheVariants as statuses
+use Rattle.run_ends.specs.Line.{refusal_line}
+use Rattle.run_ends.specs.Run.{Command}
+use Rattle.run_ends.specs.Streams.{Reading, FailsToRead}
+use Rattle.check_run.specs.Answer.{IsAnswer, cfg_check}
 use Rattle.check_run.specs.Evidence.{HasNoText, HasFalse, HasValid}
-use Rattle.check_run.specs.Answer.{IsAnswer}
-
--- The words and the bytes decided the status: nothing failed, and memory sufficed.
-abbrev pub IsDecided : CheckStatus → Type 0
-IsDecided statuses.Done = Unit {0}
-IsDecided statuses.Usage = Unit {0}
-IsDecided statuses.Malformed = Unit {0}
-IsDecided statuses.ReadFault = ⊥
-IsDecided statuses.WriteFault = ⊥
-IsDecided statuses.Memory = ⊥
-IsDecided statuses.NoText = Unit {0}
-IsDecided statuses.Refused = Unit {0}
+use Rattle.check_run.specs.Words.{Asked, of_make, of_test, path_of}
 
 -- It holds of the bytes of both, if the inputs tell them.
 abbrev pub OverBoth : Option (List ℕ) → Option (List ℕ) → (List ℕ → List ℕ → Type 0) → Type 0
@@ -40,37 +30,38 @@ FailedToRead None file certificate = ⊥
 FailedToRead (Some (of_make path)) file certificate = file
 FailedToRead (Some (of_test path other)) file certificate = file ⊎ certificate
 
--- A run that ended in this way gave the answer: its status is the answer's, and standard output and
--- standard error took the texts of it.
-abbrev pub Gives : List ℕ → List ℕ → Option Asked → CheckStatus → (List ℕ → Type 0)
-    → (List ℕ → Type 0) → Type 0
-Gives bytes text asked end Output Error = GivesAnswer (IsAnswer bytes text asked) end Output Error
+-- The bytes of a file and of a certificate.
+pub record Bytes : Type 0 where
+  pub file : List ℕ
+  pub certificate : List ℕ
 
--- A run whose writing failed: standard output grew by a part, from its front, of the output.
-abbrev pub GivesPart : List ℕ → List ℕ → Option Asked → Option (List ℕ) → Option (List ℕ) → Type 0
-GivesPart bytes text asked old new =
-    GivesAnswerPart (IsAnswer bytes text asked) statuses.Done old new
+-- These bytes count for what is asked for, if the inputs tell them.
+abbrev pub Count : Option Asked → Option (List ℕ) → Option (List ℕ) → Bytes → Type 0
+Count None file certificate b = (b.file ≡ []) × (b.certificate ≡ [])
+Count (Some (of_make path)) file certificate b = (file ≡ Some b.file) × (b.certificate ≡ [])
+Count (Some (of_test path other)) file certificate b =
+    (file ≡ Some b.file) × (certificate ≡ Some b.certificate)
+
+-- What a run is asked, over the bytes of its file and of its certificate.
+abbrev pub command : Option Asked → Reading → Reading → Command
+command asked file certificate = record {
+  program = cfg_check;
+  IsRefused = asked ≡ None;
+  path = path_of asked;
+  HasFailed = FailedToRead asked (FailsToRead file) (FailsToRead certificate);
+  Bytes = Bytes;
+  Count = Count asked file.old certificate.old;
+  IsAnswer = λ b. IsAnswer b.file b.certificate asked;
+}
 
 -- The file with these bytes has a fault, and standard error took the line that names the first one.
 pub record NamesFault (bytes : List ℕ) (Error : List ℕ → Type 0) : Type 0 where
   pub fault : Fault
   pub is_first : first_fault bytes ≡ Some fault
-  pub line : Error (refusal_line (refusals.Malformed fault))
+  pub line : Error (refusal_line cfg_check.name cfg_check.usage (refusals.Malformed fault))
 
 -- The end of a test says what its text is to the bytes of the file.
-pub record Judges (bytes text : List ℕ) (end : CheckStatus) : Type 0 where
+pub record Judges (bytes text : List ℕ) (end : Status) : Type 0 where
   pub no_text : (end ≡ statuses.NoText) ↔ HasNoText bytes text
   pub refused : (end ≡ statuses.Refused) ↔ HasFalse bytes text
   pub done : (end ≡ statuses.Done) ↔ HasValid bytes text
-
--- The line that a status puts on standard error. Which fault a malformed file has, the answer says.
-abbrev pub IsLineOf : CheckStatus → List ℕ → Type 0
-IsLineOf statuses.Done text = text ≡ []
-IsLineOf statuses.Usage text = text ≡ refusal_line refusals.Usage
-IsLineOf statuses.Malformed text = (fault : Fault)
-    × (text ≡ refusal_line (refusals.Malformed fault))
-IsLineOf statuses.ReadFault text = text ≡ refusal_line refusals.ReadFault
-IsLineOf statuses.WriteFault text = text ≡ refusal_line refusals.WriteFault
-IsLineOf statuses.Memory text = text ≡ refusal_line refusals.Memory
-IsLineOf statuses.NoText text = text ≡ refusal_line refusals.NoText
-IsLineOf statuses.Refused text = text ≡ refusal_line refusals.Refused

@@ -25,10 +25,11 @@ request_by (program ∷ command ∷ file ∷ certificate ∷ word ∷ words) = N
 abbrev pub asked_by : {A : Type 0} → List (String A) → Option Asked
 asked_by words = request_by (map (λ w. string_bytes w) words)
 
--- A file is asked for, by either form of the words.
-abbrev pub AsksFile : Option Asked → Type 0
-AsksFile None = ⊥
-AsksFile (Some asked) = Unit {0}
+-- The path of the file that is asked for, by either form of the words.
+abbrev pub path_of : Option Asked → Option (List ℕ)
+path_of None = None
+path_of (Some (of_make file)) = Some file
+path_of (Some (of_test file certificate)) = Some file
 
 -- A certificate is asked for.
 abbrev pub AsksMake : Option Asked → Type 0

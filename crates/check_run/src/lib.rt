@@ -6,7 +6,6 @@
 //! - `reading`: reading the file and the certificate. `seeded`: a file with its seeds.
 //! - `report`: the report of a file whose graph is certified. `text`: a certificate or a report.
 //! - `words`: what the words ask for.
-//! - `status`, `refusal`: how a run ends, and the line that reports why it failed.
 //! - `laws`: that a run has one answer.
 //!
 //! A test calls no builder of graphs: its yes rests on the checker alone. What makes certificates
@@ -15,16 +14,13 @@
 
 mod laws;
 mod reading;
-mod refusal;
 mod report;
 mod seeded;
-mod status;
 mod text;
 mod whole_run;
 mod words;
 
 pub use laws::one_check_answer;
 pub use reading::CERTIFICATE_LIMIT;
-pub use refusal::Refusal;
-pub use status::CheckStatus;
+pub use run_ends::{Refusal, Status};
 pub use whole_run::{check_run, refuse};

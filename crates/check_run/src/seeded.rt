@@ -7,13 +7,13 @@ ghost use Rattle.cert_laws.specs.FileCertificate.{IsCertificateOf};
 ghost use Rattle.check_run.specs.Inner.{IsTrueOfCheck};
 ghost use Rattle.check_run.specs.Text.{IsCanonicalText, IsReportOf};
 
-use crate::refusal::Refusal;
 use crate::report::GraphReport;
-use cert_check::check;
+use cert_check::{CheckError, check};
 use cert_text::{Certificate, print};
 use certify::file_certificate;
 use elf_image::{ElfError, Image};
 use elf_symbols::{Seeds, seeds};
+use run_ends::Refusal;
 use std::alloc::Global;
 use std::marker::Model;
 
@@ -69,7 +69,11 @@ impl SeededFile {
         ensures valid { OnOk result (IsCertificateOf self certificate) }
         ensures refused { IfErr result (IsTrueOfCheck self certificate) }
     {
-        let graph = check(alloc, &self.image, &self.seeds, &certificate)?;
+        let graph = match check(alloc, &self.image, &self.seeds, &certificate) {
+            Ok(graph) => graph,
+            Err(CheckError::Refused) => return Err(Refusal::Refused),
+            Err(CheckError::Memory) => return Err(Refusal::Memory),
+        };
         Ok(GraphReport::new(self.image, self.seeds, graph))
     }
 }

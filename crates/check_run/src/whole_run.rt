@@ -1,29 +1,32 @@
 //! One whole run of the program, over any two inputs and any two sinks.
 
-ghost use Rattle.std.specs.Prelude.{◌≡◌, ◌≢◌, ◌↔◌, ℕ, ◌⊎◌, List, [], Some, None};
+ghost use Rattle.std.specs.Prelude.{◌≡◌, ◌↔◌, ◌⊎◌, [], Some, None};
 ghost use Rattle.std.specs.Prelude.{IfSome, IfOk, IfErr, OnOk, IsErrOf};
 ghost use Rattle.elf_image.specs.Faults.{first_fault};
 ghost use Rattle.cfg_io.specs.Fault.{Rose};
 ghost use Rattle.cfg_io.specs.Opened.{Nothing};
-ghost use Rattle.run_ends.specs.Told.{Grows, Tells};
-ghost use Rattle.check_run.specs.Words.{of_make, of_test, asked_by, AsksFile, AsksMake, AsksTest};
-ghost use Rattle.check_run.specs.Answer.{IsAnswer, text_answer};
-ghost use Rattle.check_run.specs.Text.{bytes_of};
-ghost use Rattle.check_run.specs.Refusal.{status_of};
-ghost use Rattle.check_run.specs.Lines.{refusal_line};
-ghost use Rattle.check_run.specs.Run.{IsDecided, OverBoth, OverInputs, FailedToRead};
-ghost use Rattle.check_run.specs.Run.{Gives, GivesPart, NamesFault, Judges, IsLineOf};
+ghost use Rattle.run_ends.specs.Answer.{text_answer};
+ghost use Rattle.run_ends.specs.Inputs.{AsksFile};
+ghost use Rattle.run_ends.specs.Line.{refusal_line};
+ghost use Rattle.run_ends.specs.Refusal.{status_of, end_of};
+ghost use Rattle.run_ends.specs.Run.{IsRun};
+ghost use Rattle.run_ends.specs.Status.{IsDecided};
+ghost use Rattle.run_ends.specs.Streams.{reading, writing};
+ghost use Rattle.run_ends.specs.Told.{Tells};
+ghost use Rattle.check_run.specs.Answer.{IsAnswer, cfg_check};
+ghost use Rattle.check_run.specs.Inner.{IsTrueOf, IsTrueOfFile};
 ghost use Rattle.check_run.specs.Inputs.{FileReadFor, CertificateReadFor, TakenInOrder};
-ghost use Rattle.check_run.specs.Inputs.{IsFileRead, IsCertificateRead, IsUntouched};
-ghost use Rattle.check_run.specs.Inner.{IsTrueOf, IsTrueOfFile, end_of};
+ghost use Rattle.check_run.specs.Inputs.{IsFileRead, IsCertificateRead};
+ghost use Rattle.check_run.specs.Run.{OverBoth, OverInputs, FailedToRead, command};
+ghost use Rattle.check_run.specs.Run.{NamesFault, Judges};
+ghost use Rattle.check_run.specs.Text.{bytes_of};
+ghost use Rattle.check_run.specs.Words.{of_make, of_test, asked_by, path_of, AsksMake, AsksTest};
 
 use crate::reading::{certificate_at, file_at};
-use crate::refusal::Refusal;
-use crate::status::CheckStatus;
 use crate::text::Text;
 use crate::words::{Request, request_of};
 use cfg_io::{Input, Sink};
-use run_ends::Unwritten;
+use run_ends::{Refusal, Status, Unwritten};
 use std::alloc::Global;
 use std::mem;
 
@@ -32,10 +35,10 @@ use std::mem;
 /// certificate, each from its own input, and writes the report of the graph that the certificate
 /// certifies. Why it did not, it reports on `err`. It starts no thread and waits for nobody.
 ///
-/// The clause `answer` is what the program is for. If the words and the bytes decide the end of a
-/// run, its status, standard output and standard error are exactly those of the answer to them. By
-/// `complete` they do if neither an input nor standard output failed in this run and memory
-/// sufficed. The other clauses say what holds if something failed.
+/// If the words and the bytes decide the end of a run, its status, standard output and standard
+/// error are exactly those of the answer to them (`answer`). They do if neither an input nor standard
+/// output failed in this run and memory sufficed (`complete`). What else holds is in `IsRun` too;
+/// the other clauses are the program's own.
 ///
 /// Time: that of `certify::file_certificate`, or that of `cert_check::check` and linear in the
 /// certificate. Memory: the file, the bytes of the certificate and its lines, and that of the call.
@@ -46,64 +49,44 @@ pub fn check_run<I: Input, J: Input, O: Sink, E: Sink>(
     certificate: &mut J,
     out: &mut O,
     err: &mut E,
-) -> CheckStatus
+) -> Status
     requires file { I.opened file.old ≡ Nothing }
     requires certificate { J.opened certificate.old ≡ Nothing }
 
-    ensures answer { OverInputs (asked_by words.now) (I.rest file.old) (J.rest certificate.old)
-        (λ bytes text. IsDecided result → Gives bytes text (asked_by words.now) result
-        (Grows (O.written out.old) (O.written out.new))
+    ensures run { IsRun (command (asked_by words.now)
+        (reading (I.tells_path file.old) (I.opened file.new) (I.rest file.old)
+        (I.rest file.new) (I.faults file.old) (I.faults file.new))
+        (reading (J.tells_path certificate.old) (J.opened certificate.new) (J.rest certificate.old)
+        (J.rest certificate.new) (J.faults certificate.old) (J.faults certificate.new)))
+        result
+        (writing (O.written out.old) (O.written out.new) (O.faults out.old) (O.faults out.new))
+        (writing (E.written err.old) (E.written err.new) (E.faults err.old) (E.faults err.new)) }
+    ensures words { asked_by words.now ≡ None → result ≡ Status.Usage }
+    ensures malformed { result ≡ Status.Malformed
+        → IfSome (I.rest file.old) (λ bytes. NamesFault bytes
         (Tells (E.written err.old) (E.written err.new)
         (Rose (E.faults err.old) (E.faults err.new)))) }
-    ensures complete { ¬ FailedToRead (asked_by words.now)
-        (Rose (I.faults file.old) (I.faults file.new))
-        (Rose (J.faults certificate.old) (J.faults certificate.new))
-        → ¬ Rose (O.faults out.old) (O.faults out.new)
-        → IsDecided result ⊎ (result ≡ CheckStatus.Memory) }
-
-    // When each other status comes. Want of memory alone is free.
-    ensures usage { (result ≡ CheckStatus.Usage) ↔ (asked_by words.now ≡ None) }
-    ensures malformed { result ≡ CheckStatus.Malformed → AsksFile (asked_by words.now)
-        × IfSome (I.rest file.old) (λ bytes. NamesFault bytes
-        (Tells (E.written err.old) (E.written err.new)
-        (Rose (E.faults err.old) (E.faults err.new)))) }
-    ensures read_fault { result ≡ CheckStatus.ReadFault → FailedToRead (asked_by words.now)
-        (Rose (I.faults file.old) (I.faults file.new))
-        (Rose (J.faults certificate.old) (J.faults certificate.new)) }
-    ensures write_fault { result ≡ CheckStatus.WriteFault → AsksFile (asked_by words.now)
-        × Rose (O.faults out.old) (O.faults out.new) }
     ensures made { IfSome (I.rest file.old)
         (λ bytes. IsDecided result → AsksMake (asked_by words.now)
-        → (result ≡ CheckStatus.Done) ↔ (first_fault bytes ≡ None)) }
-    ensures tested { (result ≡ CheckStatus.NoText) ⊎ (result ≡ CheckStatus.Refused)
+        → (result ≡ Status.Done) ↔ (first_fault bytes ≡ None)) }
+    ensures tested { (result ≡ Status.NoText) ⊎ (result ≡ Status.Refused)
         → AsksTest (asked_by words.now) }
     ensures judged { OverBoth (I.rest file.old) (J.rest certificate.old)
         (λ bytes text. IsDecided result → AsksTest (asked_by words.now)
         → Judges bytes text result) }
 
-    // What else standard output holds, and what standard error does.
-    ensures cut_off { OverInputs (asked_by words.now) (I.rest file.old) (J.rest certificate.old)
-        (λ bytes text. result ≡ CheckStatus.WriteFault
-        → GivesPart bytes text (asked_by words.now) (O.written out.old) (O.written out.new)) }
-    ensures silent { result ≢ CheckStatus.Done → result ≢ CheckStatus.WriteFault
-        → O.written out.new ≡ O.written out.old }
-    ensures error_line { (text : List ℕ) × IsLineOf result text
-        × Tells (E.written err.old) (E.written err.new)
-        (Rose (E.faults err.old) (E.faults err.new)) text }
-
     // What was done to the inputs.
     ensures file { FileReadFor (asked_by words.now) result
-        (I.tells_path file.old) (I.opened file.new) (I.rest file.old) (I.rest file.new)
-        (I.faults file.old) (I.faults file.new) }
+        (reading (I.tells_path file.old) (I.opened file.new) (I.rest file.old)
+        (I.rest file.new) (I.faults file.old) (I.faults file.new)) }
     ensures certificate { CertificateReadFor (asked_by words.now) result
-        (J.tells_path certificate.old) (J.opened certificate.new) (J.rest certificate.old)
-        (J.rest certificate.new) (J.faults certificate.old) (J.faults certificate.new) }
+        (reading (J.tells_path certificate.old) (J.opened certificate.new) (J.rest certificate.old)
+        (J.rest certificate.new) (J.faults certificate.old) (J.faults certificate.new)) }
     ensures order { TakenInOrder (asked_by words.now) result
-        (Rose (I.faults file.old) (I.faults file.new))
-        (Rose (J.faults certificate.old) (J.faults certificate.new))
-        (I.tells_path file.old) (I.opened file.new) (I.rest file.new)
-        (IsUntouched (J.opened certificate.new) (J.rest certificate.old) (J.rest certificate.new)
-        (J.faults certificate.old) (J.faults certificate.new)) }
+        (reading (I.tells_path file.old) (I.opened file.new) (I.rest file.old)
+        (I.rest file.new) (I.faults file.old) (I.faults file.new))
+        (reading (J.tells_path certificate.old) (J.opened certificate.new) (J.rest certificate.old)
+        (J.rest certificate.new) (J.faults certificate.old) (J.faults certificate.new)) }
 {
     let text = match text_for(alloc, words, file, certificate) {
         Ok(text) => text,
@@ -113,20 +96,25 @@ pub fn check_run<I: Input, J: Input, O: Sink, E: Sink>(
     // The program ends soon, and to free a graph takes time.
     mem::forget(text);
     match written {
-        Ok(()) => CheckStatus::Done,
+        Ok(()) => Status::Done,
         Err(Unwritten::Failed) => refuse(Refusal::WriteFault, err),
         Err(Unwritten::Memory) => refuse(Refusal::Memory, err),
     }
 }
 
 /// Ends a run that writes no whole text.
-pub fn refuse<E: Sink>(refusal: Refusal, err: &mut E) -> CheckStatus
+pub fn refuse<E: Sink>(refusal: Refusal, err: &mut E) -> Status
     ensures status { result ≡ status_of refusal }
     ensures line { Tells (E.written err.old) (E.written err.new)
-        (Rose (E.faults err.old) (E.faults err.new)) (refusal_line refusal) }
+        (Rose (E.faults err.old) (E.faults err.new))
+        (refusal_line cfg_check.name cfg_check.usage refusal) }
 {
-    refusal.report(err);
-    refusal.status()
+    run_ends::refuse(
+        "cfg_check",
+        "usage: cfg_check make FILE | cfg_check test FILE CERT",
+        refusal,
+        err,
+    )
 }
 
 // The text that is asked for.
@@ -139,7 +127,7 @@ fn text_for<I: Input, J: Input>(
     requires file { I.opened file.old ≡ Nothing }
     requires certificate { J.opened certificate.old ≡ Nothing }
 
-    ensures asked { OnOk result (AsksFile (asked_by words.now)) }
+    ensures asked { OnOk result (AsksFile (path_of (asked_by words.now))) }
     ensures done { IfOk result (λ text. OverInputs (asked_by words.now) (I.rest file.old)
         (J.rest certificate.old)
         (λ bytes held. IsAnswer bytes held (asked_by words.now) (text_answer (bytes_of text)))) }
@@ -150,17 +138,16 @@ fn text_for<I: Input, J: Input>(
     ensures usage { asked_by words.now ≡ None → IsErrOf result Refusal.Usage }
 
     ensures file { FileReadFor (asked_by words.now) (end_of result)
-        (I.tells_path file.old) (I.opened file.new) (I.rest file.old) (I.rest file.new)
-        (I.faults file.old) (I.faults file.new) }
+        (reading (I.tells_path file.old) (I.opened file.new) (I.rest file.old)
+        (I.rest file.new) (I.faults file.old) (I.faults file.new)) }
     ensures certificate { CertificateReadFor (asked_by words.now) (end_of result)
-        (J.tells_path certificate.old) (J.opened certificate.new) (J.rest certificate.old)
-        (J.rest certificate.new) (J.faults certificate.old) (J.faults certificate.new) }
+        (reading (J.tells_path certificate.old) (J.opened certificate.new) (J.rest certificate.old)
+        (J.rest certificate.new) (J.faults certificate.old) (J.faults certificate.new)) }
     ensures order { TakenInOrder (asked_by words.now) (end_of result)
-        (Rose (I.faults file.old) (I.faults file.new))
-        (Rose (J.faults certificate.old) (J.faults certificate.new))
-        (I.tells_path file.old) (I.opened file.new) (I.rest file.new)
-        (IsUntouched (J.opened certificate.new) (J.rest certificate.old) (J.rest certificate.new)
-        (J.faults certificate.old) (J.faults certificate.new)) }
+        (reading (I.tells_path file.old) (I.opened file.new) (I.rest file.old)
+        (I.rest file.new) (I.faults file.old) (I.faults file.new))
+        (reading (J.tells_path certificate.old) (J.opened certificate.new) (J.rest certificate.old)
+        (J.rest certificate.new) (J.faults certificate.old) (J.faults certificate.new)) }
 {
     match request_of(words) {
         None => Err(Refusal::Usage),
@@ -181,8 +168,9 @@ fn made<I: Input>(alloc: Global, path: &str, file: &mut I) -> Result<Text, Refus
         (λ bytes. IsAnswer bytes [] (Some (of_make path.now)) (text_answer (bytes_of text)))) }
     ensures refused { IfErr result (IsTrueOfFile (I.rest file.old)
         (Rose (I.faults file.old) (I.faults file.new))) }
-    ensures file { IsFileRead path.now (end_of result) (I.tells_path file.old)
-        (I.opened file.new) (I.rest file.old) (I.rest file.new) }
+    ensures file { IsFileRead path.now (end_of result)
+        (reading (I.tells_path file.old) (I.opened file.new) (I.rest file.old)
+        (I.rest file.new) (I.faults file.old) (I.faults file.new)) }
 {
     let seeded = file_at(alloc, path, file)?;
     Ok(Text::Certificate(seeded.canonical(alloc)?))
@@ -206,17 +194,17 @@ fn tested<I: Input, J: Input>(
         (I.rest file.old) (J.rest certificate.old)
         (Rose (I.faults file.old) (I.faults file.new)
         ⊎ Rose (J.faults certificate.old) (J.faults certificate.new))) }
-    ensures file { IsFileRead file_path.now (end_of result) (I.tells_path file.old)
-        (I.opened file.new) (I.rest file.old) (I.rest file.new) }
+    ensures file { IsFileRead file_path.now (end_of result)
+        (reading (I.tells_path file.old) (I.opened file.new) (I.rest file.old)
+        (I.rest file.new) (I.faults file.old) (I.faults file.new)) }
     ensures certificate { IsCertificateRead certificate_path.now (end_of result)
-        (J.tells_path certificate.old) (J.opened certificate.new) (J.rest certificate.old)
-        (J.rest certificate.new) (J.faults certificate.old) (J.faults certificate.new) }
+        (reading (J.tells_path certificate.old) (J.opened certificate.new) (J.rest certificate.old)
+        (J.rest certificate.new) (J.faults certificate.old) (J.faults certificate.new)) }
     ensures order { TakenInOrder (Some (of_test file_path.now certificate_path.now)) (end_of result)
-        (Rose (I.faults file.old) (I.faults file.new))
-        (Rose (J.faults certificate.old) (J.faults certificate.new))
-        (I.tells_path file.old) (I.opened file.new) (I.rest file.new)
-        (IsUntouched (J.opened certificate.new) (J.rest certificate.old) (J.rest certificate.new)
-        (J.faults certificate.old) (J.faults certificate.new)) }
+        (reading (I.tells_path file.old) (I.opened file.new) (I.rest file.old)
+        (I.rest file.new) (I.faults file.old) (I.faults file.new))
+        (reading (J.tells_path certificate.old) (J.opened certificate.new) (J.rest certificate.old)
+        (J.rest certificate.new) (J.faults certificate.old) (J.faults certificate.new)) }
 {
     let seeded = file_at(alloc, file_path, file)?;
     let certificate = certificate_at(alloc, certificate_path, certificate)?;

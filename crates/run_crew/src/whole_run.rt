@@ -1,24 +1,21 @@
 //! One whole run of the program by workers.
 
-ghost use Rattle.std.specs.Prelude.{◌≡◌, ◌≢◌, ℕ, ◌≤◌, ◌⊎◌, List, Some, None};
-ghost use Rattle.std.specs.Prelude.{IfOk, All};
+ghost use Rattle.std.specs.Prelude.{◌≡◌, ℕ, ◌≤◌, All};
 ghost use Rattle.std.specs.List.Sorted.{IsStrictlyIncreasing};
 ghost use Rattle.std.specs.Thread.{IsSync};
-ghost use Rattle.cfg_io.specs.Fault.{Rose};
 ghost use Rattle.cfg_io.specs.Opened.{Nothing};
 ghost use Rattle.live_regs.specs.Noted.{AreInOrder};
-ghost use Rattle.cfg_run.specs.Words.{asked_by, path_of, IsForFile};
+ghost use Rattle.run_ends.specs.Streams.{reading, writing};
 ghost use Rattle.cfg_run.specs.Inner.{AnswersTexts};
+ghost use Rattle.cfg_run.specs.Run.{IsRunOf};
+ghost use Rattle.cfg_run.specs.Words.{asked_by};
 ghost use Rattle.run_crew.specs.Inner.{AnswersFile, AnswersLives};
-ghost use Rattle.run_ends.specs.Told.{Grows, Tells};
-ghost use Rattle.run_ends.specs.Inputs.{OverInput, FileReadFor};
-ghost use Rattle.cfg_run.specs.Run.{IsDecided, HasRead, Gives, GivesPart, IsLineOf};
 
 use crate::workers::Workers;
 use cfg_io::{Input, Sink};
 use cfg_model::{AllLives, Graph, Memory};
 use cfg_run::{Alone, Refusal, Status, refuse, run_by};
-use cfg_words::{Request, request};
+use cfg_words::{Request, WordsError, request};
 use crew::Gate;
 use elf_image::{ElfError, Image};
 use file_crew::file_graph_by;
@@ -35,10 +32,9 @@ use std::thread::Threads;
 /// control-flow graph or of the graph's live registers to `out`, and tells on `err` why it did not.
 /// Of a made program, for which nothing is read, it writes the summary.
 ///
-/// The clause `answer` is what the program is for. If the words and the bytes decide the end of a
-/// run, its status, standard output and standard error are exactly those of the answer to them. By
-/// `complete` they do if neither the input nor standard output failed in this run and memory
-/// sufficed. The other clauses say what holds if something failed.
+/// If the words and the bytes decide the end of a run, its status, standard output and standard
+/// error are exactly those of the answer to them (`answer`). They do if neither the input nor standard
+/// output failed in this run and memory sufficed (`complete`). What else holds is in `IsRun` too.
 ///
 /// From two workers on, threads share the work: with two seeds or more they build the closed state
 /// on a board that they share, and pass the gate before each operation. The run may wait then. They
@@ -56,43 +52,16 @@ pub fn run<R: Threads + Wait + Sync, I: Input, O: Sink, E: Sink, G: Gate>(
 ) -> Status
     requires { I.opened input.old ≡ Nothing }
 
-    ensures answer { OverInput (path_of (asked_by words.now)) (I.rest input.old)
-        (λ bytes. IsDecided result → Gives bytes (asked_by words.now) result
-        (Grows (O.written out.old) (O.written out.new))
-        (Tells (E.written err.old) (E.written err.new)
-        (Rose (E.faults err.old) (E.faults err.new)))) }
-    ensures complete { ¬ Rose (I.faults input.old) (I.faults input.new)
-        → ¬ Rose (O.faults out.old) (O.faults out.new)
-        → IsDecided result ⊎ (result ≡ Status.Memory) }
-
-    // When each other status comes. Want of memory alone is free.
-    ensures usage { result ≡ Status.Usage → asked_by words.now ≡ None }
-    ensures refused_words { asked_by words.now ≡ None → (result ≡ Status.Usage)
-        ⊎ (result ≡ Status.Memory) }
-    ensures malformed { result ≡ Status.Malformed → IsForFile (asked_by words.now) }
-    ensures read_fault { result ≡ Status.ReadFault → IsForFile (asked_by words.now)
-        × Rose (I.faults input.old) (I.faults input.new) }
-    ensures write_fault { result ≡ Status.WriteFault → Rose (O.faults out.old) (O.faults out.new) }
-
-    // What else standard output holds, and what standard error does.
-    ensures cut_off { OverInput (path_of (asked_by words.now)) (I.rest input.old)
-        (λ bytes. result ≡ Status.WriteFault → GivesPart bytes (asked_by words.now)
-        (O.written out.old) (O.written out.new)) }
-    ensures silent { result ≢ Status.Done → result ≢ Status.WriteFault
-        → O.written out.new ≡ O.written out.old }
-    ensures error_line { (text : List ℕ) × IsLineOf result text
-        × Tells (E.written err.old) (E.written err.new)
-        (Rose (E.faults err.old) (E.faults err.new)) text }
-
-    // What was done to the input.
-    ensures input { FileReadFor (path_of (asked_by words.now))
-        (HasRead (asked_by words.now) result) (result ≡ Status.Malformed)
-        (I.tells_path input.old) (I.opened input.new) (I.rest input.old) (I.rest input.new)
-        (I.faults input.old) (I.faults input.new) }
+    ensures { IsRunOf (asked_by words.now) result
+        (reading (I.tells_path input.old) (I.opened input.new) (I.rest input.old)
+        (I.rest input.new) (I.faults input.old) (I.faults input.new))
+        (writing (O.written out.old) (O.written out.new) (O.faults out.old) (O.faults out.new))
+        (writing (E.written err.old) (E.written err.new) (E.faults err.old) (E.faults err.new)) }
 {
     let request = match request(alloc, words) {
         Ok(request) => request,
-        Err(e) => return refuse(Refusal::from(e), err),
+        Err(WordsError::Usage) => return refuse(Refusal::Usage, err),
+        Err(WordsError::Memory) => return refuse(Refusal::Memory, err),
     };
     let count = workers_of(&request);
     if 2 <= count && count <= 64 {

@@ -1,6 +1,6 @@
 -- What was done to the input of a run, by how it ends.
 use Rattle.std.proofs.Common.{◌≡◌, ◌∙◌, ℕ, ◌<◌, List, [], ◌++◌, length, Option, Some, None, inl, refl, ap, append-nil, arith, length-append}
-use Rattle.std.specs.Prelude.{Bool, IfSome, nat_lt}
+use Rattle.std.specs.Prelude.{◌≢◌, Bool, IfSome, nat_lt}
 use Rattle.std.proofs.lemmas.Bool.{cond-true, lt-ltb}
 use Rattle.std.proofs.lemmas.Option.{IfSome_then, same_Some}
 use Rattle.elf_image.specs.declared.fault.Fault.TheVariants.{TooLarge}
@@ -8,7 +8,10 @@ use Rattle.elf_image.specs.FaultTests.{is_too_large}
 use Rattle.elf_image.specs.Faults.{first_fault, first_among, has_fault}
 use Rattle.cfg_io.specs.Opened.{Opened, Nothing}
 use Rattle.cfg_io.specs.Told.{Takes, TakesCount, TakesAtMost}
-use Rattle.run_ends.specs.Inputs.{OpenedFor, FileReadFor}
+use Rattle.run_ends.specs.declared.status.Status.{Status}
+use Rattle.run_ends.specs.declared.status.Status.TheVariants as statuses
+use Rattle.run_ends.specs.Inputs.{OpenedFor, HasReadFor, FileReadFor}
+use Rattle.run_ends.specs.Streams.{Reading, reading}
 
 all-some : {A : Type 0} {P : A → Type 0} (o : Option A) → ((x : A) → P x) → IfSome o P
 all-some None f = tt
@@ -23,9 +26,9 @@ nothing-taken None = ([], refl, omega arith)
 nothing-taken (Some bytes) = ([], refl, omega arith)
 
 -- A run that ended before the input was touched read nothing.
-pub nothing-read : (path : Option (List ℕ)) (IsRead IsMalformed : Type 0) (tells : Bool) (now : Opened) (old : Option (List ℕ)) (faults : ℕ)
-    → now ≡ Nothing → ¬ IsRead → FileReadFor path IsRead IsMalformed tells now old old faults faults
-nothing-read path IsRead IsMalformed tells now old faults closed never = record {
+pub nothing-read : (path : Option (List ℕ)) (end : Status) (tells : Bool) (now : Opened) (old : Option (List ℕ)) (faults : ℕ)
+    → now ≡ Nothing → ¬ HasReadFor path end → FileReadFor path end (reading tells now old old faults faults)
+nothing-read path end tells now old faults closed never = record {
   opened = nothing-opened path tells now closed;
   is_open = λ read. absurd (never read);
   untouched = λ _. (refl, refl);
@@ -34,17 +37,20 @@ nothing-read path IsRead IsMalformed tells now old faults closed never = record 
   within_limit = λ _. nothing-taken old;
 }
 
--- What was done stays true if the run ends otherwise after it, but does not say more of the file.
-pub read-alike : (path : Option (List ℕ)) (IsRead OtherRead IsMalformed OtherMalformed : Type 0) (tells : Bool) (now : Opened) (old new : Option (List ℕ)) (before after : ℕ)
-    → (OtherRead → IsRead) → (¬ OtherMalformed → ¬ IsMalformed)
-    → FileReadFor path IsRead IsMalformed tells now old new before after → FileReadFor path OtherRead OtherMalformed tells now old new before after
-read-alike path IsRead OtherRead IsMalformed OtherMalformed tells now old new before after reads sound file = record {
+-- A file that was read for a text was read, however the run ends.
+was-read : (path : Option (List ℕ)) (end : Status) → HasReadFor path end → HasReadFor path statuses.Done
+was-read None end read = read
+was-read (Some path) end read = tt
+
+-- What was done for a text stays true if the run ends otherwise after it.
+pub read-after : (path : Option (List ℕ)) (end : Status) (input : Reading) → end ≢ statuses.Malformed → FileReadFor path statuses.Done input → FileReadFor path end input
+read-after path end input sound file = record {
   opened = file.opened;
-  is_open = λ read. file.is_open (reads read);
+  is_open = λ read. file.is_open (was-read path end read);
   untouched = file.untouched;
-  read_to_end = IfSome_then old file.read_to_end (λ bytes ends small read. ends small (reads read));
-  too_large = IfSome_then old file.too_large (λ bytes takes more read. takes more (reads read));
-  within_limit = λ other. file.within_limit (sound other);
+  read_to_end = IfSome_then input.old file.read_to_end (λ bytes ends small read. ends small (was-read path end read));
+  too_large = IfSome_then input.old file.too_large (λ bytes takes more read. takes more (was-read path end read));
+  within_limit = λ _. file.within_limit (λ is. absurd (cc));
 }
 
 -- What was read to the end is all that was there.

@@ -1,10 +1,14 @@
 -- What a run does to its input. A path is that of the file that is asked for; there is none if no
 -- file is.
-use Rattle.std.specs.Prelude.{◌≡◌, ℕ, ◌+◌, ◌≤◌, ◌<◌, ◌⊎◌, List, [], length, Bool}
+use Rattle.std.specs.Prelude.{◌≡◌, ◌≢◌, ℕ, ◌+◌, ◌≤◌, ◌<◌, ◌⊎◌, List, [], length, Bool}
 use Rattle.std.specs.Prelude.{Option, Some, None, IfSome}
 use Rattle.cfg_io.specs.Opened.{Opened, Nothing, Something, told_path}
 use Rattle.cfg_io.specs.Told.{TakesCount, TakesAtMost}
 use Rattle.run_ends.specs.declared.reading.TheConstants.{FILE_LIMIT}
+use Rattle.run_ends.specs.declared.status.Status.{Status}
+use Rattle.run_ends.specs.declared.status.Status.TheVariants as statuses
+use Rattle.run_ends.specs.Status.{HasRead}
+use Rattle.run_ends.specs.Streams.{Reading}
 
 -- These bytes count for what is asked for: those of the input, if a file is asked for. For all else
 -- the input is not read, so they may be any.
@@ -26,15 +30,24 @@ abbrev pub IsOpenFor : Option (List ℕ) → Bool → Opened → Type 0
 IsOpenFor None tells now = Unit {0}
 IsOpenFor (Some path) tells now = now ≡ Something (told_path tells path)
 
--- What was done to the input for what is asked for. `IsRead` says that a file was read, and
--- `IsMalformed` that it was refused, as one of more bytes than the limit is. `old` and `new` are the
--- bytes that are left before and after, and `before` and `after` the counts of calls that failed.
-pub record FileReadFor (path : Option (List ℕ)) (IsRead IsMalformed : Type 0)
-    (tells : Bool) (now : Opened) (old new : Option (List ℕ)) (before after : ℕ) : Type 0 where
-  pub opened : OpenedFor path tells now
-  pub is_open : IsRead → IsOpenFor path tells now
-  pub untouched : path ≡ None → (new ≡ old) × (after ≡ before)
-  pub read_to_end : IfSome old (λ bytes. length bytes ≤ FILE_LIMIT → IsRead → new ≡ Some [])
-  pub too_large : IfSome old (λ bytes. FILE_LIMIT < length bytes → IsRead
-      → TakesCount old (FILE_LIMIT + 1) new)
-  pub within_limit : ¬ IsMalformed → TakesAtMost old FILE_LIMIT new
+-- A file is asked for.
+abbrev pub AsksFile : Option (List ℕ) → Type 0
+AsksFile None = ⊥
+AsksFile (Some path) = Unit {0}
+
+-- A file is asked for, and the status says that it was read.
+abbrev pub HasReadFor : Option (List ℕ) → Status → Type 0
+HasReadFor None end = ⊥
+HasReadFor (Some path) end = HasRead end
+
+-- What was done to the input for what is asked for, in a run that ends in this way. A file of more
+-- bytes than the limit is malformed.
+pub record FileReadFor (path : Option (List ℕ)) (end : Status) (input : Reading) : Type 0 where
+  pub opened : OpenedFor path input.tells input.now
+  pub is_open : HasReadFor path end → IsOpenFor path input.tells input.now
+  pub untouched : path ≡ None → (input.new ≡ input.old) × (input.after ≡ input.before)
+  pub read_to_end : IfSome input.old (λ bytes. length bytes ≤ FILE_LIMIT → HasReadFor path end
+      → input.new ≡ Some [])
+  pub too_large : IfSome input.old (λ bytes. FILE_LIMIT < length bytes → HasReadFor path end
+      → TakesCount input.old (FILE_LIMIT + 1) input.new)
+  pub within_limit : end ≢ statuses.Malformed → TakesAtMost input.old FILE_LIMIT input.new

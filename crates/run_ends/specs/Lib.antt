@@ -1,4 +1,9 @@
+pub mod Status
+pub mod Refusal
+pub mod Line
 pub mod Answer
 pub mod Told
-pub mod Line
+pub mod Streams
 pub mod Inputs
+pub mod Run
+pub mod Inner

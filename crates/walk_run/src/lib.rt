@@ -4,19 +4,15 @@
 //! - `whole_run`: a whole run over any input and any sinks, and what is proved of it.
 //! - `answer`: from the bytes of a file to a trace.
 //! - `words`: the walk that the words ask for.
-//! - `status`, `refusal`: how a run ends, and the line that reports why it failed.
 //! - `laws`: that a run has one answer.
 #![tactic(auto)]
 
 mod answer;
 mod laws;
-mod refusal;
-mod status;
 mod whole_run;
 mod words;
 
 pub use laws::one_walk_answer;
-pub use refusal::Refusal;
-pub use status::WalkStatus;
+pub use run_ends::{Refusal, Status};
 pub use whole_run::{refuse, walk};
 pub use words::MOST_STEPS;

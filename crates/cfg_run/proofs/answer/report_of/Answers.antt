@@ -7,7 +7,8 @@ use Rattle.graph_report.specs.Live.{live_text}
 use Rattle.graph_report.specs.Report.{report_text}
 use Rattle.cfg_words.specs.Request.{of_file}
 use Rattle.live_regs.specs.Masks.{AreAllLivesOf}
-use Rattle.cfg_run.specs.Answer.{IsAnswer, text_answer}
+use Rattle.run_ends.specs.Answer.{text_answer}
+use Rattle.cfg_run.specs.Answer.{IsAnswer}
 use Rattle.cfg_run.proofs.Listed.{for-all}
 use Rattle.cfg_run.proofs.answer.report_of.Goals as goal
 

@@ -1,7 +1,8 @@
 use Rattle.std.proofs.Common.{List, ℕ, Some, sym, subst, ◌∙◌}
 use Rattle.cfg_words.specs.Request.{of_made}
 use Rattle.file_program.specs.FileGraph.{IsGraphOf}
-use Rattle.cfg_run.specs.Answer.{IsAnswer, text_answer}
+use Rattle.run_ends.specs.Answer.{text_answer}
+use Rattle.cfg_run.specs.Answer.{IsAnswer}
 use Rattle.cfg_run.proofs.answer.summary_of.Goals as goal
 
 pub returns-clause-done : goal.returns-clause-done

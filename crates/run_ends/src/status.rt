@@ -1,27 +1,34 @@
 //! How a run ends.
 
 ghost use Rattle.std.specs.Prelude.{◌≡◌};
-ghost use Rattle.cfg_run.specs.Status.{number_of};
+ghost use Rattle.run_ends.specs.Status.{number_of};
 
-/// How a run ends. Its number is the program's exit status.
+/// How a run ends. Its number is the program's exit status. Each program ends in some of these
+/// ways.
 #[derive(Clone, Copy, Debug, PartialEq, Eq)]
 pub enum Status {
-    /// The report was written whole.
+    /// The text was written whole.
     Done,
     /// The words were not understood.
     Usage,
     /// The file is not one that is read here.
     Malformed,
-    /// The file could not be opened, or reading it failed.
+    /// A file could not be opened, or reading it failed.
     ReadFault,
-    /// Writing the report failed.
+    /// Writing the text failed.
     WriteFault,
     /// Memory ran out.
     Memory,
+    /// The sections of the file ask for more memory than a walk takes.
+    TooMuch,
+    /// The certificate's bytes are no text of one, or too many.
+    NoText,
+    /// The certificate is not valid for the file.
+    Refused,
 }
 
 impl Status {
-    /// The exit status, from 0 to 5 in the order of the variants.
+    /// The exit status, 0 to 7.
     pub fn number(&self) -> u8
         ensures { result ≡ number_of self.now }
     {
@@ -32,6 +39,8 @@ impl Status {
             Status::ReadFault => 3,
             Status::WriteFault => 4,
             Status::Memory => 5,
+            Status::TooMuch | Status::NoText => 6,
+            Status::Refused => 7,
         }
     }
 }

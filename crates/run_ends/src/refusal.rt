@@ -1,20 +1,20 @@
-//! Why a run wrote no whole report, and the line that reports it.
+//! Why a run writes no whole text, and the line that reports it.
 
 ghost use Rattle.std.specs.Prelude.{◌≡◌};
 ghost use Rattle.cfg_io.specs.Fault.{Rose};
-ghost use Rattle.cfg_run.specs.Refusal.{status_of, refusal_of, refusal_of_words, refusal_of_unread};
-ghost use Rattle.cfg_run.specs.declared.refusal.Refusal.TheVariants as refusals;
-ghost use Rattle.cfg_run.specs.Lines.{refusal_line, text_of, detail_of};
+ghost use Rattle.run_ends.specs.Line.{refusal_line, text_of, detail_of};
+ghost use Rattle.run_ends.specs.Refusal.{status_of, refusal_of, refusal_of_unread};
 ghost use Rattle.run_ends.specs.Told.{Tells};
+ghost use Rattle.run_ends.specs.declared.refusal.Refusal.TheVariants as refusals;
 
+use crate::line::write_failure;
+use crate::reading::Unread;
 use crate::status::Status;
 use cfg_io::Sink;
-use cfg_model::Memory;
-use cfg_words::WordsError;
 use elf_image::{ElfError, Fault};
-use run_ends::{Unread, write_failure};
+use graph_report::Memory;
 
-/// Why a run wrote no whole report.
+/// Why a run writes no whole text. Each program has some of these reasons.
 #[derive(Clone, Copy, Debug, PartialEq, Eq)]
 pub enum Refusal {
     Usage,
@@ -22,6 +22,9 @@ pub enum Refusal {
     ReadFault,
     WriteFault,
     Memory,
+    TooMuch,
+    NoText,
+    Refused,
 }
 
 impl From<ElfError> for Refusal {
@@ -55,20 +58,9 @@ impl From<Memory> for Refusal {
     }
 }
 
-impl From<WordsError> for Refusal {
-    ghost from_gives = { λ e r. r ≡ refusal_of_words e };
-
-    fn from(e: WordsError) -> Self {
-        match e {
-            WordsError::Usage => Refusal::Usage,
-            WordsError::Memory => Refusal::Memory,
-        }
-    }
-}
-
 impl Refusal {
     /// The status that it ends a run with.
-    pub fn status(&self) -> Status
+    fn status(&self) -> Status
         ensures { result ≡ status_of self.now }
     {
         match self {
@@ -77,25 +69,29 @@ impl Refusal {
             Refusal::ReadFault => Status::ReadFault,
             Refusal::WriteFault => Status::WriteFault,
             Refusal::Memory => Status::Memory,
+            Refusal::TooMuch => Status::TooMuch,
+            Refusal::NoText => Status::NoText,
+            Refusal::Refused => Status::Refused,
         }
     }
 
-    // What its line says after the program's name.
-    fn text(&self) -> &'static str
-        ensures { result.now ≡ text_of self.now }
+    /// What its line says after the program's name; `usage` if the words were not understood.
+    fn text<'a>(&self, usage: &'a str) -> &'a str
+        ensures { result.now ≡ text_of usage.entry.now self.now }
     {
         match self {
-            Refusal::Usage => {
-                "usage: cfg [--workers N] [--report KIND] FILE | cfg [--workers N] --make N"
-            }
+            Refusal::Usage => usage,
             Refusal::Malformed(_) => "malformed: ",
             Refusal::ReadFault => "read fault",
             Refusal::WriteFault => "write fault",
             Refusal::Memory => "out of memory",
+            Refusal::TooMuch => "too much memory asked",
+            Refusal::NoText => "no certificate",
+            Refusal::Refused => "refused",
         }
     }
 
-    // The name of the fault, if there is one.
+    /// The name of the fault, if there is one.
     fn detail(&self) -> &'static str
         ensures { result.now ≡ detail_of self.now }
     {
@@ -104,12 +100,16 @@ impl Refusal {
             _ => "",
         }
     }
+}
 
-    /// Writes its line, without taking memory. If a write fails, a part of the line went out.
-    pub fn report<E: Sink>(&self, err: &mut E)
-        ensures { Tells (E.written err.old) (E.written err.new)
-            (Rose (E.faults err.old) (E.faults err.new)) (refusal_line self.now) }
-    {
-        write_failure("cfg", self.text(), self.detail(), err);
-    }
+/// Ends a run of the program with this name and this usage that writes no whole text: it writes the
+/// refusal's line, without taking memory, and answers its status. If a write fails, a part of the
+/// line went out.
+pub fn refuse<E: Sink>(name: &str, usage: &str, refusal: Refusal, err: &mut E) -> Status
+    ensures status { result ≡ status_of refusal }
+    ensures line { Tells (E.written err.old) (E.written err.new)
+        (Rose (E.faults err.old) (E.faults err.new)) (refusal_line name.now usage.now refusal) }
+{
+    write_failure(name, refusal.text(usage), refusal.detail(), err);
+    refusal.status()
 }
