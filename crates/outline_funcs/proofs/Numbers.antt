@@ -1,8 +1,8 @@
 -- Blocks by their places in a list of blocks that start apart.
-use Rattle.std.proofs.Common.{◌≡◌, ℕ, ◌+◌, ◌-◌, ◌<◌, ◌≤◌, List, length, get_or, take, drop, min, sym, ap, ◌∙◌, subst, inl, inr, arith}
+use Rattle.std.proofs.Common.{◌≡◌, ℕ, ◌<◌, ◌≤◌, List, length, get_or, sym, ap, ◌∙◌, subst, inl, inr, arith}
 use Rattle.std.specs.List.{AllPairs}
 use Rattle.std.proofs.lemmas.Bool.{cases_eq, cases_lt}
-use Rattle.std.proofs.lemmas.List.{get_or_default, get_or-take, get_or-drop, length-take, length-drop}
+use Rattle.std.proofs.lemmas.List.{get_or_default}
 use Rattle.cfg_model.specs.declared.graph.Block.{Block}
 use Rattle.cfg_model.specs.declared.graph.EndKind.TheVariants as ends
 use Rattle.cfg_model.specs.Graph.Graph.{BlockBefore}
@@ -71,14 +71,3 @@ later_start blocks i j d e up lt within =
     let same : (get_or blocks i d).start ≡ (get_or blocks i e).start = ap (λ (b : Block). b.start) (get_or_default blocks i d e (omega arith)) in
     let rise : (get_or blocks i e).start < (get_or blocks j e).start = up i j e lt within in
     omega arith
-
--- A place in a stretch of the blocks is one of the blocks.
-pub stretch_number : (blocks : List Block) (first count i a : ℕ) → IsNumber (take count (drop first blocks)) i a → IsNumber blocks (first + i) a
-stretch_number blocks first count i a number =
-    let long : length (take count (drop first blocks)) ≡ min count (length blocks - first) = length-take count (drop first blocks) ∙ ap (min count) (length-drop first blocks) in
-    let within : i < length (take count (drop first blocks)) = number.within in
-    record {
-      within = omega (arith, within, long);
-      starts = λ d.
-          ap (λ (b : Block). b.start) (sym (get_or-take count (drop first blocks) i d (omega (arith, within, long)) ∙ get_or-drop first blocks i d)) ∙ number.starts d;
-    }

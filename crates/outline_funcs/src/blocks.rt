@@ -1,17 +1,15 @@
 //! Blocks by their numbers: their places in the list of all blocks.
 
-ghost use Rattle.std.specs.Prelude.{◌<◌, ◌≤◌, AllPairs, IfSome, IfNone, length};
+ghost use Rattle.std.specs.Prelude.{◌<◌, AllPairs, IfSome, IfNone, length};
 ghost use Rattle.cfg_model.specs.Graph.Graph.{BlockBefore};
 ghost use Rattle.outline_funcs.specs.Inner.Blocks.{HasBlockAt, IsNumber};
 
+use crate::ranks::Ranks;
 use cfg_model::Block;
-
-/// How far before a block or after it another one is looked for first.
-const NEAR: usize = 64;
 
 /// The place of the block that starts at `a` among these blocks. Most often it lies right after
 /// block `i`, or is that block.
-pub(crate) fn number_near(blocks: &[Block], i: usize, a: u64) -> usize
+pub(crate) fn number_near(blocks: &[Block], ranks: &Ranks, i: usize, a: u64) -> usize
     requires blocks { AllPairs BlockBefore blocks.now }
     requires starts { HasBlockAt blocks.now a }
     requires within { i < length blocks.now }
@@ -23,50 +21,26 @@ pub(crate) fn number_near(blocks: &[Block], i: usize, a: u64) -> usize
     if blocks[i].start == a {
         return i;
     }
-    number_far(blocks, i, a)
+    number_at(blocks, ranks, a)
 }
 
-/// The same of a block that does not. It lies near block `i` most often. This is a function of its
-/// own, so that what it needs is not made ready for each block.
-#[inline(never)]
-fn number_far(blocks: &[Block], i: usize, a: u64) -> usize
+/// The same of any block: what the counts tell, or a search where they do not.
+pub(crate) fn number_at(blocks: &[Block], ranks: &Ranks, a: u64) -> usize
     requires blocks { AllPairs BlockBefore blocks.now }
     requires starts { HasBlockAt blocks.now a }
-    requires within { i < length blocks.now }
     ensures { IsNumber blocks.now result a }
 {
-    let (first, behind) = range_of(blocks, i, a);
-    match number_among(&blocks[first..behind], a) {
-        Some(place) => first + place,
-        None => number_of(blocks, a),
+    let place = ranks.place(a);
+    if place < blocks.len() && blocks[place].start == a {
+        return place;
     }
+    number_of(blocks, a)
 }
 
-/// Where the block that starts at `a` is looked for: near block `i`, on its side of that, or else
-/// beyond. The first place of that range, and the one after its last.
-fn range_of(blocks: &[Block], i: usize, a: u64) -> (usize, usize)
-    requires within { i < length blocks.now }
-    ensures rises { result.0 ≤ result.1 }
-    ensures within { result.1 ≤ length blocks.now }
-{
-    if a < blocks[i].start {
-        let first = i.saturating_sub(NEAR);
-        return if a < blocks[first].start {
-            (0, first)
-        } else {
-            (first, i)
-        };
-    }
-    let behind = blocks.len().min(i.saturating_add(NEAR));
-    if behind < blocks.len() && blocks[behind].start <= a {
-        (behind, blocks.len())
-    } else {
-        (i, behind)
-    }
-}
-
-/// The place of the block that starts at `a` among these blocks.
-pub(crate) fn number_of(blocks: &[Block], a: u64) -> usize
+/// The place of the block that starts at `a` among these blocks, by a search. This is a function of
+/// its own, so that what it needs is not made ready for each block.
+#[inline(never)]
+fn number_of(blocks: &[Block], a: u64) -> usize
     requires blocks { AllPairs BlockBefore blocks.now }
     requires starts { HasBlockAt blocks.now a }
     ensures { IsNumber blocks.now result a }

@@ -10,7 +10,7 @@ ghost use Rattle.outline_funcs.specs.Inner.Exits.{LeadsWithin, LeadsOn};
 ghost use Rattle.outline_funcs.specs.Inner.Found.{AreStamped};
 
 use crate::Memory;
-use crate::blocks::{number_near, number_of};
+use crate::blocks::{number_at, number_near};
 use crate::exits::Exits;
 use crate::found::Found;
 use cfg_model::{Block, Edge, EdgeKind};
@@ -18,8 +18,8 @@ use std::alloc::Global;
 
 /// The starts of the blocks of the function of this entry, rising. Its stamp is above all that were
 /// used before.
-/// Time: O(edges from these blocks), and a search for the entry and for each target, and sorting
-/// the blocks.
+/// Time: O(edges from these blocks), and sorting the blocks; and a search for the entry and for each
+/// target if the blocks are spread too widely to be counted.
 pub(crate) fn body_of(
     alloc: Global,
     exits: &Exits,
@@ -63,7 +63,7 @@ fn find(exits: &Exits, entry: u64, stamp: u32, found: &mut Found) -> Result<(), 
         → Contains found.new.order.items i ↔ InBodyBy exits.now entry a) }
     ensures as_many { OnOk result (length found.new.stamps.items ≡ length exits.now.blocks.now) }
 {
-    found.begin(stamp, number_of(exits.blocks, entry))?;
+    found.begin(stamp, number_at(exits.blocks, &exits.ranks, entry))?;
     let mut i = 0;
     while i < found.order.len() {
         let from = found.order[i];
@@ -118,7 +118,7 @@ fn add_target(
     if edge.kind == EdgeKind::Call {
         return Ok(());
     }
-    let to = number_near(exits.blocks, from, edge.to);
+    let to = number_near(exits.blocks, &exits.ranks, from, edge.to);
     if edge.to == entry || !exits.entered[to] {
         found.add(stamp, to)?;
     }

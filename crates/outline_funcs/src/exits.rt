@@ -8,6 +8,7 @@ ghost use Rattle.outline_funcs.specs.Inner.Blocks.{IsNumber};
 ghost use Rattle.outline_funcs.specs.Inner.Exits.{AreExits, AreFirsts};
 
 use crate::Memory;
+use crate::ranks::Ranks;
 use cfg_model::{Block, Edge};
 use std::alloc::Global;
 
@@ -22,6 +23,8 @@ pub(crate) struct Exits<'a> {
     pub(crate) firsts: Vec<u32>,
     /// For each block, whether a function starts there.
     pub(crate) entered: Vec<bool>,
+    /// The places of the blocks, by their addresses.
+    pub(crate) ranks: Ranks,
 }
 
 impl<'a> Exits<'a> {

@@ -13,6 +13,7 @@ mod entries;
 mod exits;
 mod found;
 pub mod listing;
+mod ranks;
 pub mod sharing;
 pub mod tail_sharing;
 pub mod tails;

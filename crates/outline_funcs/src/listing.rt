@@ -17,6 +17,7 @@ use crate::bodies::body_of;
 use crate::entries::{entered_of, entries_of};
 use crate::exits::{Exits, firsts_of};
 use crate::found::Found;
+use crate::ranks::Ranks;
 use cfg_model::{Addresses, Chains, Function, Functions, Outline};
 use std::alloc::Global;
 
@@ -29,11 +30,10 @@ use std::alloc::Global;
 ///
 /// The closure is asked of each entry once. The time of a body is that of the edges from its
 /// blocks, and of sorting the blocks: a block that functions share, and the edges from it, are
-/// looked at once for each of them. Each entry takes a search among the blocks besides, and each
-/// edge but calls that leads neither to the block behind it nor to its own takes one among some 64
-/// blocks, or among all where it leads further. What is made of the blocks and edges for all
-/// functions together takes a few passes over them. It and the search take nine bytes for each
-/// block.
+/// looked at once for each of them. If the blocks are spread too widely to be counted by address,
+/// each entry takes a search among the blocks besides, and so does each edge but calls that leads
+/// neither to the block behind it nor to its own. What is made of the blocks and edges for all
+/// functions together takes a few passes over them. It and the counts take 13 bytes for each block.
 pub fn functions_among<C: Chains, F: Fn(u64) -> bool>(
     alloc: Global,
     code: &C,
@@ -111,6 +111,7 @@ pub(crate) fn plan_from<'a, C: Chains>(
         edges,
         firsts,
         entered,
+        ranks: Ranks::of(alloc, blocks)?,
     };
     Ok(Plan { entries, exits })
 }

@@ -6,7 +6,7 @@ ghost use Rattle.outline_funcs.specs.Tails.{AreMarksOf, CompleteGraphs};
 ghost use Rattle.outline_funcs.specs.Inner.Marking.{AreTailsAt, ListsTails, AnswerTails};
 
 use crate::Memory;
-use crate::tails::{is_tail, mark_tails};
+use crate::tails::{is_tail, mark_tails, place_near};
 use cfg_model::{Edge, EdgeKind, Edges, Function, Functions};
 use parallel::{appended_if_made, map_drawn};
 use std::alloc::Global;
@@ -98,8 +98,10 @@ fn tails_in(
     ensures { IfOk result (λ v. ListsTails functions.now edges.now start (start + size) v.items) }
 {
     let mut places = Vec::new(alloc);
+    let mut near = 0;
     for i in start..start + size.min(edges.len() - start) {
-        if is_tail(functions, edges[i]) {
+        near = place_near(functions, near, edges[i].from);
+        if is_tail(functions, near, edges[i]) {
             places.push(i)?;
         }
     }

@@ -13,9 +13,8 @@ use graph_report::{Memory, ReportPieces};
 use std::alloc::Global;
 use std::marker::Model;
 
-/// How many bytes are joined at most: 256 KiB. To a file on disk, writes of this size take a third
-/// of the time of writes of 4 KiB.
-pub const JOINED: usize = 262_144;
+/// How many bytes are joined at most: 16 KiB. They stay in the nearest cache until they are written.
+pub const JOINED: usize = 16_384;
 
 /// Bytes that are to be written together, in room that is taken once. Contracts see it as these
 /// bytes: they come after what was written, and before what is put or passed.

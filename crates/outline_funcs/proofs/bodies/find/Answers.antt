@@ -7,7 +7,7 @@ use Rattle.outline_funcs.proofs.bodies.find.Goals as goal
 pub loop-i-init : goal.loop-i-init
 loop-i-init c = record {
   stamped = c.in_ok-begin.ensures.stamped;
-  so_far = body_start c.args.exits.now c.args.entry c.requires.exits c.number_of.result _ c.number_of.ensures c.in_ok-begin.ensures.one;
+  so_far = body_start c.args.exits.now c.args.entry c.requires.exits c.number_at.result _ c.number_at.ensures c.in_ok-begin.ensures.one;
   as_many = c.begin.ensures.as_many ∙ c.requires.as_many;
 }
 

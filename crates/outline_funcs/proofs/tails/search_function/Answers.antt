@@ -2,7 +2,7 @@ use Rattle.std.proofs.Common.{rules, sym, ap, ◌∙◌, Ok, Err}
 use Rattle.std.proofs.lemmas.List.Sorted.{answers_always}
 use Rattle.cfg_model.specs.declared.graph.Function.{Function}
 use Rattle.outline_funcs.proofs.Search.{searched}
-use Rattle.outline_funcs.proofs.tails.find_function.Goals as goal
+use Rattle.outline_funcs.proofs.tails.search_function.Goals as goal
 
 pub returns-in-Ok-clause-some : goal.returns-in-Ok-clause-some
 returns-in-Ok-clause-some c =
