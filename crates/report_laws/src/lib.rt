@@ -35,9 +35,9 @@ pub fn reported_registers_are_free()
     ensures keeps { OfEachReport PreparedKeep }
 {}
 
-/// An orderly run from the entry of the file, or of any function in the report, stays in the graph of
-/// the report, and what the report calls no-return does not return: as `whole_runs_stay_in_the_graph`
-/// of `run_laws` says.
+/// An orderly run of the open machine from the entry of the file, or of any function in the report,
+/// stays in the graph of the report, and what the report calls no-return does not return: as
+/// `whole_runs_stay_in_the_graph` of `run_laws` says.
 pub fn whole_runs_stay_in_the_report()
     ensures stays { OfEachReport RunsStay }
     ensures returns { OfEachReport ReturnsAreSaid }

@@ -4,6 +4,7 @@ use Rattle.std.specs.Prelude.{All, ◌<◌}
 use Rattle.std.proofs.lemmas.Bool.{cond-false}
 use Rattle.std.proofs.lemmas.Option.{same_Some}
 use Rattle.elf_image.specs.Code.{is_code}
+use Rattle.elf_image.specs.Faults.{IsImage}
 use Rattle.rv_decode.specs.declared.instructions.Insn.{Insn}
 use Rattle.rv_decode.specs.declared.instructions.Insn.TheVariants as insns
 use Rattle.rv_flow.specs.Placed.{placed_at}
@@ -21,9 +22,16 @@ use Rattle.cfg_model.specs.Program.Instructions.{InstructionMap, flow_at, target
 use Rattle.code_view.specs.Flow.{flow_by, in_code, straight_flow, jump_flow, call_flow, call_fall, kept_entries}
 use Rattle.code_view.specs.Program.{program_under}
 use Rattle.code_view.proofs.Lawful.{flow-program}
+use Rattle.rv_machine.specs.declared.trap.Trap.{Trap}
+use Rattle.rv_machine.specs.declared.trap.Trap.TheVariants as traps
 use Rattle.rv_machine.specs.State.{State}
 use Rattle.rv_machine.specs.Memory.{Bytes}
-use Rattle.rv_machine.specs.Step.{Goes, advanced, insn_step}
+use Rattle.rv_machine.specs.Step.{Outcome, Traps, Goes, advanced, insn_step, step_of}
+use Rattle.open_machine.specs.World.{World}
+use Rattle.open_machine.specs.Asked.{Surroundings}
+use Rattle.open_machine.specs.Step.{is_left}
+use Rattle.open_machine.specs.Runs.{OpenStepsTo}
+use Rattle.open_machine.proofs.Open.{IsAnswered, open_step_is}
 use Rattle.edge_cover.specs.Cover.{IsOutlineOfFile, IsPaired, IsFullTable}
 use Rattle.edge_cover.specs.Runs.{StepsTo}
 use Rattle.edge_cover.proofs.Steps.{LeadsBy, PairHolds, goes_by}
@@ -31,6 +39,7 @@ use Rattle.edge_cover.proofs.Cover.{IsMade, made}
 use Rattle.edge_cover.proofs.Pairs.{pair_goes}
 use Rattle.edge_cover.proofs.Straight.{code_of_step, advanced_is}
 use Rattle.edge_cover.proofs.Tables.{lands_on_target}
+use Rattle.edge_cover.proofs.OpenSteps.{answered_alone, answered_next}
 use Rattle.free_laws.specs.Keeping.{IsPrepared}
 
 -- control goes to this address by the flow of an instruction with these kept targets
@@ -140,7 +149,23 @@ module _ (bytes : List ℕ) (length : ℕ) (state after : State) (memory left : 
   stop_makes_none (insns.Extension reads writes) stops goes = cc
   stop_makes_none (insns.Vendor kind shift rd rs1 rs2) stops goes = cc
 
--- ---- a prepared step
+-- ---- a step at code, by where the flow of its instruction alone leads
+
+module _ (bytes : List ℕ) (cuts : ℕ → Option ℕ) (image : IsImage bytes) (state after : State) (code : is_code bytes state.pc ≡ true) where
+  flow_is : flow_at (program_under bytes cuts) state.pc ≡ Some (flow_by bytes (state.pc + (placed_at bytes state.pc).length) (cuts state.pc) (table_at bytes state.pc) (raw_flow_by bytes state.pc (placed_at bytes state.pc).insn))
+  flow_is = flow-program bytes cuts state.pc code (placed_at bytes state.pc) refl
+
+  goes_by_flow : LeadsBy (raw_flow_by bytes state.pc (placed_at bytes state.pc).insn) (advanced (placed_at bytes state.pc).length state) after.pc
+      → (raw_flow_by bytes state.pc (placed_at bytes state.pc).insn ≡ raw.Stop → ⊥)
+      → ((entries : ℕ) → flow_at (program_under bytes cuts) state.pc ≡ Some (flows.Table entries true false) → Contains (targets_at (program_under bytes cuts) state.pc) after.pc)
+      → (flow : Flow) → flow_at (program_under bytes cuts) state.pc ≡ Some flow → GoesTo (program_under bytes cuts) (targets_at (program_under bytes cuts) state.pc) after.pc flow
+  goes_by_flow leads goes_on full_table flow at =
+      subst (GoesTo (program_under bytes cuts) (targets_at (program_under bytes cuts) state.pc) after.pc) (same_Some _ flow (sym flow_is ∙ at))
+      (there_by bytes cuts (targets_at (program_under bytes cuts) state.pc) (state.pc + (placed_at bytes state.pc).length) after.pc (cuts state.pc) (table_at bytes state.pc) (raw_flow_by bytes state.pc (placed_at bytes state.pc).insn)
+      (subst (λ n. LeadsBy (raw_flow_by bytes state.pc (placed_at bytes state.pc).insn) n after.pc) (advanced_is bytes image state code) leads) goes_on
+      (λ entries is. full_table entries (flow_is ∙ ap Some is)))
+
+-- ---- a prepared step of the written machine
 
 module _ (bytes : List ℕ) (cuts : ℕ → Option ℕ) (seeds : List ℕ) (outline : Outline) (of : IsOutlineOfFile bytes cuts seeds outline) (small : All (λ byte. byte < 256) bytes)
     (state after : State) (memory left : Bytes) (prepared : IsPrepared bytes cuts state memory) (steps : StepsTo bytes state memory after left) where
@@ -157,29 +182,77 @@ module _ (bytes : List ℕ) (cuts : ℕ → Option ℕ) (seeds : List ℕ) (outl
       pair_goes bytes upper.before state upper.start memory is upper.right_before upper.step
   pair_holds insn stands = tt
 
-  alone : RawFlow
-  alone = raw_flow_by bytes state.pc (placed_at bytes state.pc).insn
-
-  leads : LeadsBy (raw_flow_by bytes state.pc (placed_at bytes state.pc).insn) (state.pc + (placed_at bytes state.pc).length) after.pc
+  leads : LeadsBy (raw_flow_by bytes state.pc (placed_at bytes state.pc).insn) (advanced (placed_at bytes state.pc).length state) after.pc
   leads =
-      subst (λ n. LeadsBy (raw_flow_by bytes state.pc (placed_at bytes state.pc).insn) n after.pc) (advanced_is bytes of.accepted state code)
-      (subst (λ o. LeadsBy (raw_flow_by bytes state.pc o) (advanced (placed_at bytes state.pc).length state) after.pc) (sym step.stands)
-      (goes_by bytes (placed_at bytes state.pc).length state memory step.insn after left (pair_holds step.insn step.stands) step.makes))
+      subst (λ o. LeadsBy (raw_flow_by bytes state.pc o) (advanced (placed_at bytes state.pc).length state) after.pc) (sym step.stands)
+      (goes_by bytes (placed_at bytes state.pc).length state memory step.insn after left (pair_holds step.insn step.stands) step.makes)
 
   goes_on : raw_flow_by bytes state.pc (placed_at bytes state.pc).insn ≡ raw.Stop → ⊥
   goes_on stops =
       stop_makes_none bytes (placed_at bytes state.pc).length state after memory left step.insn (subst (λ o. raw_flow_by bytes state.pc o ≡ raw.Stop) step.stands stops) step.makes
-
-  flow_is : flow_at (program_under bytes cuts) state.pc ≡ Some (flow_by bytes (state.pc + (placed_at bytes state.pc).length) (cuts state.pc) (table_at bytes state.pc) (raw_flow_by bytes state.pc (placed_at bytes state.pc).insn))
-  flow_is = flow-program bytes cuts state.pc code (placed_at bytes state.pc) refl
 
   full_table : (entries : ℕ) → flow_at (program_under bytes cuts) state.pc ≡ Some (flows.Table entries true false) → Contains (targets_at (program_under bytes cuts) state.pc) after.pc
   full_table entries at =
       let full : IsFullTable (program_under bytes cuts) state.pc = record { entries = entries; jumps = at } in
       lands_on_target bytes cuts seeds outline of small state after memory left code full (prepared.table full) steps
 
-  pub step_goes : (flow : Flow) → flow_at (program_under bytes cuts) state.pc ≡ Some flow → GoesTo (program_under bytes cuts) (targets_at (program_under bytes cuts) state.pc) after.pc flow
-  step_goes flow at =
-      subst (GoesTo (program_under bytes cuts) (targets_at (program_under bytes cuts) state.pc) after.pc) (same_Some _ flow (sym flow_is ∙ at))
-      (there_by bytes cuts (targets_at (program_under bytes cuts) state.pc) (state.pc + (placed_at bytes state.pc).length) after.pc (cuts state.pc) (table_at bytes state.pc) (raw_flow_by bytes state.pc (placed_at bytes state.pc).insn) leads goes_on
-      (λ entries is. full_table entries (flow_is ∙ ap Some is)))
+  written_goes : (flow : Flow) → flow_at (program_under bytes cuts) state.pc ≡ Some flow → GoesTo (program_under bytes cuts) (targets_at (program_under bytes cuts) state.pc) after.pc flow
+  written_goes = goes_by_flow bytes cuts of.accepted state after code leads goes_on full_table
+
+-- ---- a step of the surroundings
+
+abbrev trap_of : Trap → Outcome → Trap
+trap_of otherwise (Traps trap) = trap
+trap_of otherwise (Goes after left) = otherwise
+
+-- they are asked at no address that is no code
+left_is_code : (bytes : List ℕ) (state : State) (memory : Bytes) (trap : Trap) → step_of bytes state memory ≡ Traps trap → is_left trap ≡ true → is_code bytes state.pc ≡ true
+left_is_code bytes state memory trap stopped left = by (is_code bytes state.pc) _ stopped
+  where
+    clash : false ≡ true → ⊥
+    clash e = cc
+
+    by : (b : Bool) (o : Outcome) → cond b o (Traps traps.Fetch) ≡ Traps trap → b ≡ true
+    by true o e = refl
+    by false o e = absurd (clash (ap (λ o. is_left (trap_of trap o)) e ∙ left))
+
+module _ (bytes : List ℕ) (surroundings : Surroundings) (state after : State) (world left : World) (answer : IsAnswered bytes surroundings state world after left) where
+  alone : raw_flow_by bytes state.pc (placed_at bytes state.pc).insn ≡ raw.Straight
+  alone = answered_alone bytes surroundings state after world left answer
+
+  answered_code : is_code bytes state.pc ≡ true
+  answered_code = left_is_code bytes state world.memory answer.trap answer.traps answer.is_left
+
+  answered_leads : LeadsBy (raw_flow_by bytes state.pc (placed_at bytes state.pc).insn) (advanced (placed_at bytes state.pc).length state) after.pc
+  answered_leads =
+      subst (λ r. LeadsBy r (advanced (placed_at bytes state.pc).length state) after.pc) (sym alone) (answered_next bytes surroundings state after world left answer)
+
+  answered_on : raw_flow_by bytes state.pc (placed_at bytes state.pc).insn ≡ raw.Stop → ⊥
+  answered_on stops = let h : raw.Straight ≡ raw.Stop = sym alone ∙ stops in cc
+
+  module _ (cuts : ℕ → Option ℕ) (image : IsImage bytes) where
+    no_table : (entries : ℕ) (b : Bool) → ◌≡◌ {A = Option Flow} (Some (straight_flow (cond b (Some (state.pc + (placed_at bytes state.pc).length)) None))) (Some (flows.Table entries true false)) → ⊥
+    no_table entries true e = cc
+    no_table entries false e = cc
+
+    answered_goes : (flow : Flow) → flow_at (program_under bytes cuts) state.pc ≡ Some flow → GoesTo (program_under bytes cuts) (targets_at (program_under bytes cuts) state.pc) after.pc flow
+    answered_goes = goes_by_flow bytes cuts image state after answered_code answered_leads answered_on (λ entries at.
+        absurd (no_table entries (is_code bytes (state.pc + (placed_at bytes state.pc).length))
+        (sym (ap (λ r. Some (flow_by bytes (state.pc + (placed_at bytes state.pc).length) (cuts state.pc) (table_at bytes state.pc) r)) alone)
+        ∙ sym (flow_is bytes cuts image state after answered_code) ∙ at)))
+
+-- ---- a prepared step of the open machine
+
+module _ (bytes : List ℕ) (cuts : ℕ → Option ℕ) (surroundings : Surroundings) (state after : State) (world left : World) (steps : OpenStepsTo bytes surroundings state world after left) where
+  pub code_of_open_step : is_code bytes state.pc ≡ true
+  code_of_open_step = elim (open_step_is bytes surroundings state world after left steps) [
+    | inl written ↦ code_of_step bytes state after world.memory left.memory written.steps
+    | inr answer ↦ answered_code bytes surroundings state after world left answer
+  ]
+
+  pub step_goes : (seeds : List ℕ) (outline : Outline) → IsOutlineOfFile bytes cuts seeds outline → All (λ byte. byte < 256) bytes → IsPrepared bytes cuts state world.memory
+      → (flow : Flow) → flow_at (program_under bytes cuts) state.pc ≡ Some flow → GoesTo (program_under bytes cuts) (targets_at (program_under bytes cuts) state.pc) after.pc flow
+  step_goes seeds outline of small prepared = elim (open_step_is bytes surroundings state world after left steps) [
+    | inl written ↦ written_goes bytes cuts seeds outline of small state after world.memory left.memory prepared written.steps
+    | inr answer ↦ answered_goes bytes surroundings state after world left answer cuts of.accepted
+  ]

@@ -20,15 +20,15 @@ use Rattle.cfg_model.specs.Inner.Ways.{edge_to}
 use Rattle.cfg_model.proofs.Graphs.Places.{each_address_has_a_block}
 use Rattle.code_view.specs.Program.{program_under}
 use Rattle.code_view.proofs.Lawful.{program-lawful, program-at_code, length-program}
+use Rattle.open_machine.specs.Asked.{Surroundings}
 use Rattle.edge_cover.specs.Move.{move_in}
 use Rattle.edge_cover.specs.Cover.{IsOutlineOfFile}
-use Rattle.edge_cover.proofs.Straight.{code_of_step}
 use Rattle.free_laws.specs.Free.{IsGraphOfFile}
 use Rattle.run_laws.specs.Frames.{Frame, running, return_address}
 use Rattle.run_laws.specs.Runs.{Point, StepsOrderly, RunsOrderly, Begins, IsWholeRun}
 use Rattle.run_laws.specs.Outline.{outline_of}
 use Rattle.run_laws.specs.Whole.{IsOrderlyMove, StaysInGraph, HasAfter, RunsStay, ReturnsAreSaid, NoReturnIsNotTaken, NoReturnNeverEnds, ReturnsHaveEdges}
-use Rattle.run_laws.proofs.Goes.{GoesTo, step_goes}
+use Rattle.run_laws.proofs.Goes.{GoesTo, code_of_open_step, step_goes}
 use Rattle.run_laws.proofs.Invariant.{CallsTo, IsFrame, FramesFit, Holds, at_begin, steps_on}
 use Rattle.run_laws.proofs.OutlineOf.{graph_has_outline}
 use Rattle.run_laws.proofs.Moves.{accounted}
@@ -64,15 +64,15 @@ module _ (bytes : List ℕ) (cuts : ℕ → Option ℕ) (seeds : List ℕ) (grap
       by (Some i) e = refl
 
   -- a step is made at a reached address
-  module _ (begin : ℕ) (from to : Point) (holds : Holds (program_under bytes cuts) seeds begin from.state.pc from.frames) (step : StepsOrderly bytes cuts graph from to) where
+  module _ (surroundings : Surroundings) (begin : ℕ) (from to : Point) (holds : Holds (program_under bytes cuts) seeds begin from.state.pc from.frames) (step : StepsOrderly bytes surroundings cuts graph from to) where
     code : is_code bytes from.state.pc ≡ true
-    code = code_of_step bytes from.state to.state from.memory to.memory step.steps
+    code = code_of_open_step bytes cuts surroundings from.state to.state from.world to.world step.steps
 
     reached_there : Reached (program_under bytes cuts) seeds from.state.pc
     reached_there = holds.reached (stands from.state.pc code)
 
     goes : (flow : Flow) → flow_at (program_under bytes cuts) from.state.pc ≡ Some flow → GoesTo (program_under bytes cuts) (targets_at (program_under bytes cuts) from.state.pc) to.state.pc flow
-    goes = step_goes bytes cuts seeds (outline_of graph) of small from.state to.state from.memory to.memory step.prepared step.steps
+    goes = step_goes bytes cuts surroundings from.state to.state from.world to.world step.steps seeds (outline_of graph) of small step.prepared
 
     on : Holds (program_under bytes cuts) seeds begin to.state.pc to.frames
     on = steps_on (program_under bytes cuts) seeds begin from.state.pc to.state.pc reached_there goes graph drawn.entry drawn.is holds step.orderly
@@ -95,30 +95,30 @@ module _ (bytes : List ℕ) (cuts : ℕ → Option ℕ) (seeds : List ℕ) (grap
     stays = record { has = has; move = move (flow_at (program_under bytes cuts) from.state.pc) refl }
 
   -- what holds wherever a run comes to
-  holds_at : {first last : Point} → Begins seeds graph first → RunsOrderly bytes cuts graph first last → Holds (program_under bytes cuts) seeds first.state.pc last.state.pc last.frames
-  holds_at {first} begins RunsOrderly.here =
+  holds_at : {surroundings : Surroundings} {first last : Point} → Begins seeds graph first → RunsOrderly bytes surroundings cuts graph first last → Holds (program_under bytes cuts) seeds first.state.pc last.state.pc last.frames
+  holds_at {surroundings} {first} begins RunsOrderly.here =
       subst (Holds (program_under bytes cuts) seeds first.state.pc first.state.pc) (sym begins.no_frames) (at_begin (program_under bytes cuts) seeds first.state.pc graph drawn.entry drawn.is begins.entry)
-  holds_at {first} begins (RunsOrderly.onward {from = from} {to = to} run step) = on first.state.pc from to (holds_at begins run) step
+  holds_at {surroundings} {first} begins (RunsOrderly.onward {from = from} {to = to} run step) = on surroundings first.state.pc from to (holds_at begins run) step
 
   pub runs_stay : RunsStay bytes cuts seeds graph
-  runs_stay first from to whole step = stays first.state.pc from to (holds_at whole.begins whole.runs) step
+  runs_stay surroundings first from to whole step = stays surroundings first.state.pc from to (holds_at whole.begins whole.runs) step
 
   -- at a return, the function that runs returns
-  returns_there : (first last : Point) → IsWholeRun bytes cuts seeds graph first last → flow_at (program_under bytes cuts) last.state.pc ≡ Some flows.Return → Returns (program_under bytes cuts) (running first.state.pc last.frames)
-  returns_there first last whole at = (holds_at whole.begins whole.runs).returns (Returns.by_itself (subst LeavesFunction (sym at) tt))
+  returns_there : (surroundings : Surroundings) (first last : Point) → IsWholeRun bytes surroundings cuts seeds graph first last → flow_at (program_under bytes cuts) last.state.pc ≡ Some flows.Return → Returns (program_under bytes cuts) (running first.state.pc last.frames)
+  returns_there surroundings first last whole at = (holds_at whole.begins whole.runs).returns (Returns.by_itself (subst LeavesFunction (sym at) tt))
 
   pub returns_are_said : ReturnsAreSaid bytes cuts seeds graph
-  returns_are_said first last whole at function listed same =
-      (drawn.is.functions.sound function listed).status.1 (subst (Returns (program_under bytes cuts)) (sym same) (returns_there first last whole at))
+  returns_are_said surroundings first last whole at function listed same =
+      (drawn.is.functions.sound function listed).status.1 (subst (Returns (program_under bytes cuts)) (sym same) (returns_there surroundings first last whole at))
 
   pub no_return_is_not_taken : NoReturnIsNotTaken bytes cuts seeds graph
-  no_return_is_not_taken first from to whole step taken function listed same never =
+  no_return_is_not_taken surroundings first from to whole step taken function listed same never =
       both_flags function.returns
-      (returns_are_said first from whole taken.returns function listed (same ∙ ap (running first.state.pc) (sym taken.last))) never
+      (returns_are_said surroundings first from whole taken.returns function listed (same ∙ ap (running first.state.pc) (sym taken.last))) never
 
   pub no_return_never_ends : NoReturnNeverEnds bytes cuts seeds graph
-  no_return_never_ends first last whole function listed same never none at =
-      both_flags function.returns (returns_are_said first last whole at function listed (same ∙ ap (running first.state.pc) (sym none))) never
+  no_return_never_ends surroundings first last whole function listed same never none at =
+      both_flags function.returns (returns_are_said surroundings first last whole at function listed (same ∙ ap (running first.state.pc) (sym none))) never
 
   -- the edge from a call to where it returns to
   after_edge : (call to : ℕ) → Reached (program_under bytes cuts) seeds call → IsTerminator (program_under bytes cuts) call → LeadsTo (program_under bytes cuts) (Returns (program_under bytes cuts)) call to kinds.After → HasAfter bytes cuts seeds graph call to
@@ -141,9 +141,9 @@ module _ (bytes : List ℕ) (cuts : ℕ → Option ℕ) (seeds : List ℕ) (grap
   edge_back frame below begin to is back (Some other) at behind = cc
 
   pub returns_have_edges : ReturnsHaveEdges bytes cuts seeds graph
-  returns_have_edges first from to whole step taken =
+  returns_have_edges surroundings first from to whole step taken =
       let fit : FramesFit (program_under bytes cuts) seeds first.state.pc (taken.frame ∷ to.frames) =
       subst (FramesFit (program_under bytes cuts) seeds first.state.pc) taken.last (holds_at whole.begins whole.runs).fit in
       edge_back taken.frame to.frames first.state.pc to.state.pc fit.0
-      (subst (Returns (program_under bytes cuts)) (ap (running first.state.pc) taken.last) (returns_there first from whole taken.returns))
+      (subst (Returns (program_under bytes cuts)) (ap (running first.state.pc) taken.last) (returns_there surroundings first from whole taken.returns))
       (flow_at (program_under bytes cuts) taken.frame.call) refl taken.behind

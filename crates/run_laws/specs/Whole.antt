@@ -1,4 +1,5 @@
--- A whole run stays in the graph, and no-return means no return.
+-- A whole run stays in the graph, and no-return means no return, whatever the surroundings of the
+-- machine are.
 use Rattle.std.specs.Prelude.{◌≡◌, ℕ, ◌+◌, ◌<◌, List, [], All, Contains, Option, Some, None}
 use Rattle.std.specs.Prelude.{IsTrue, IsFalse}
 use Rattle.cfg_model.specs.declared.flow.Flow.TheVariants.{Return}
@@ -12,6 +13,7 @@ use Rattle.cfg_model.specs.Graph.Places.{HasABlock}
 use Rattle.cfg_model.specs.Inner.Ways.{edge_to}
 use Rattle.code_view.specs.Program.{program_under}
 use Rattle.rv_flow.specs.Placed.{placed_at}
+use Rattle.open_machine.specs.Asked.{Surroundings}
 use Rattle.edge_cover.specs.declared.moves.Move.{Move}
 use Rattle.edge_cover.specs.declared.moves.Move.TheVariants.{Inside, Along, Out}
 use Rattle.edge_cover.specs.Move.{move_in}
@@ -47,14 +49,16 @@ pub record StaysInGraph (bytes : List ℕ) (cuts : ℕ → Option ℕ) (seeds : 
 -- Each step of a whole run stays in the graph.
 abbrev pub RunsStay : List ℕ → (ℕ → Option ℕ) → List ℕ → Graph → Type 0
 RunsStay bytes cuts seeds graph =
-    (first from to : Point) → IsWholeRun bytes cuts seeds graph first from
-    → StepsOrderly bytes cuts graph from to
+    (surroundings : Surroundings) (first from to : Point)
+    → IsWholeRun bytes surroundings cuts seeds graph first from
+    → StepsOrderly bytes surroundings cuts graph from to
     → StaysInGraph bytes cuts seeds graph from.state.pc to.state.pc
 
 -- Where a whole run comes to a return, the graph says of the function that runs that it returns.
 abbrev pub ReturnsAreSaid : List ℕ → (ℕ → Option ℕ) → List ℕ → Graph → Type 0
 ReturnsAreSaid bytes cuts seeds graph =
-    (first last : Point) → IsWholeRun bytes cuts seeds graph first last
+    (surroundings : Surroundings) (first last : Point)
+    → IsWholeRun bytes surroundings cuts seeds graph first last
     → flow_at (program_under bytes cuts) last.state.pc ≡ Some Return
     → (function : Function) → Contains graph.functions function
     → function.entry ≡ running first.state.pc last.frames → IsTrue function.returns
@@ -63,8 +67,9 @@ ReturnsAreSaid bytes cuts seeds graph =
 -- not return.
 abbrev pub NoReturnIsNotTaken : List ℕ → (ℕ → Option ℕ) → List ℕ → Graph → Type 0
 NoReturnIsNotTaken bytes cuts seeds graph =
-    (first from to : Point) → IsWholeRun bytes cuts seeds graph first from
-    → StepsOrderly bytes cuts graph from to
+    (surroundings : Surroundings) (first from to : Point)
+    → IsWholeRun bytes surroundings cuts seeds graph first from
+    → StepsOrderly bytes surroundings cuts graph from to
     → (taken : TakesFrame (program_under bytes cuts) from.state.pc to.state.pc from.frames
     to.frames)
     → (function : Function) → Contains graph.functions function
@@ -74,7 +79,8 @@ NoReturnIsNotTaken bytes cuts seeds graph =
 -- would end.
 abbrev pub NoReturnNeverEnds : List ℕ → (ℕ → Option ℕ) → List ℕ → Graph → Type 0
 NoReturnNeverEnds bytes cuts seeds graph =
-    (first last : Point) → IsWholeRun bytes cuts seeds graph first last
+    (surroundings : Surroundings) (first last : Point)
+    → IsWholeRun bytes surroundings cuts seeds graph first last
     → (function : Function) → Contains graph.functions function
     → function.entry ≡ first.state.pc → IsFalse function.returns → last.frames ≡ []
     → flow_at (program_under bytes cuts) last.state.pc ≡ Some Return → ⊥
@@ -88,8 +94,9 @@ pub record HasAfter (bytes : List ℕ) (cuts : ℕ → Option ℕ) (seeds : List
 -- A return goes back to a call only if the graph has the edge of kind `after` of that call.
 abbrev pub ReturnsHaveEdges : List ℕ → (ℕ → Option ℕ) → List ℕ → Graph → Type 0
 ReturnsHaveEdges bytes cuts seeds graph =
-    (first from to : Point) → IsWholeRun bytes cuts seeds graph first from
-    → StepsOrderly bytes cuts graph from to
+    (surroundings : Surroundings) (first from to : Point)
+    → IsWholeRun bytes surroundings cuts seeds graph first from
+    → StepsOrderly bytes surroundings cuts graph from to
     → (taken : TakesFrame (program_under bytes cuts) from.state.pc to.state.pc from.frames
     to.frames)
     → HasAfter bytes cuts seeds graph taken.frame.call to.state.pc

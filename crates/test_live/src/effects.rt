@@ -2,7 +2,7 @@
 
 use crate::asserts::{same, same_at};
 use live_regs::effects_of;
-use rv_decode::{ExtendKind, Insn, decode};
+use rv_decode::{CsrKind, ExtendKind, Insn, decode};
 use std::test::Fail;
 
 /// Words with the masks of what they read and write, by the operands of their formats.
@@ -42,8 +42,30 @@ fn effects_of_words(rt: HostRuntime) -> Result<(), Fail> {
     Ok(())
 }
 
-/// Instructions of extensions, with the masks of what they read and write.
-const EXTENDED: [(Insn, u32, u32); 4] = [
+/// Instructions by their fields, with the masks of what they read and write.
+const EXTENDED: [(Insn, u32, u32); 7] = [
+    // ecall
+    (Insn::Ecall, 0xFFFF_FFFE, 0),
+    // csrrw x10, mscratch, x11
+    (
+        Insn::Csr {
+            kind: CsrKind::Csrrw,
+            rd: 10,
+            source: 11,
+            csr: 0x340,
+        },
+        1 << 11,
+        1 << 10,
+    ),
+    // fsw f1, 8(x9)
+    (
+        Insn::Float {
+            writes: 0,
+            reads: 9,
+        },
+        1 << 9,
+        0,
+    ),
     // sh2add x10, x11, x12
     (
         Insn::ShiftAdd {
