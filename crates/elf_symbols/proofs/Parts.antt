@@ -48,6 +48,11 @@ symbol_of_part xs s at fits =
     (u16_of_part xs s.offset s.size (at + 6) (omega arith) ∙ ap (u16_at xs) (later 6))
     (u64_of_part xs s.offset s.size (at + 8) (omega arith) ∙ ap (u64_at xs) (later 8))
 
+-- its name alone
+pub name_of_part : (xs : List ℕ) (s : Section) (at : ℕ) → at + 24 ≤ s.size → u32_at (section_bytes xs s) at ≡ (symbol_at xs (s.offset + at)).name
+unfolding symbol_at
+name_of_part xs s at fits = u32_of_part xs s.offset s.size at (omega arith)
+
 -- the n bytes at an offset of a part
 pub bytes_of_part : (xs : List ℕ) (o m at n : ℕ) → at + n ≤ m → take n (drop at (take m (drop o xs))) ≡ take n (drop (o + at) xs)
 bytes_of_part xs o m at n fits =

@@ -1,22 +1,23 @@
 //! The functions of a file that do not return.
 
-ghost use Rattle.std.specs.Prelude.{◌≡◌, Some, IfOk, IfErr, IfSome, All, map};
-ghost use Rattle.std.specs.List.{filter};
+ghost use Rattle.std.specs.Prelude.{◌≡◌, ◌+◌, ◌*◌, ◌≤◌, ◌&&◌, Some, IfOk, IfErr, []};
 ghost use Rattle.std.specs.List.Sorted.{IsNonDecreasing, IsPermutation};
-ghost use Rattle.elf_image.specs.Faults.{first_fault};
+ghost use Rattle.std.specs.Option.{option_map_or};
+ghost use Rattle.elf_image.specs.Symbols.{symbol_at, string_at, symbol_table, is_seed_symbol};
+ghost use Rattle.elf_image.specs.Faults.{first_fault, first_symbol_fault};
 ghost use Rattle.elf_image.specs.Outcome.{IfMalformed};
 ghost use Rattle.elf_symbols.specs.NoReturn as spec;
-ghost use Rattle.elf_symbols.specs.Seeds.{LiesIn};
-ghost use Rattle.elf_symbols.specs.Inner.NoReturn.{has_listed_name, AreNoReturns};
+ghost use Rattle.elf_symbols.specs.Inner.NoReturn.{begins_listed, AreNoReturns};
+ghost use Rattle.elf_symbols.specs.Inner.Tables.{IsInFile, IsTableOf};
 
-use crate::read::symbol_seeds;
-use crate::seed::Seed;
-use elf_image::{ElfError, Image};
+use crate::symbol::{is_seed_symbol, read_name, read_symbol, section_bytes, string_at};
+use crate::table::{SYMBOL_SIZE, SymbolTable, symbol_table};
+use elf_image::{ElfError, Image, Section};
 use std::alloc::{AllocError, Global};
 use std::marker::Model;
 
-/// The functions of an image that do not return: seeds with a name of the list in `specs/NoReturn`,
-/// and what the file declares. To a contract it is the list of the file's bytes.
+/// The functions of an image that do not return: seed symbols with a name of the list in
+/// `specs/NoReturn`, and what the file declares. To a contract it is the list of the file's bytes.
 #[derive(Drop)]
 pub struct NoReturns<'a> {
     image: &'a Image,
@@ -38,7 +39,8 @@ impl<'a> Model for NoReturns<'a> {
 
 impl<'a> NoReturns<'a> {
     /// The functions of an image that do not return. `Malformed` names the file's first fault, one
-    /// of its symbols, as it does for [`seeds`](crate::seeds); `Memory` says that memory ran out.
+    /// of its symbol table; a name without an end is judged by [`seeds`](crate::seeds) alone.
+    /// `Memory` says that memory ran out.
     /// Time: O(n) in the symbols and the declared addresses, and a sort of what is found.
     pub fn of(alloc: Global, image: &'a Image) -> Result<NoReturns<'a>, ElfError>
         ensures ok { IfOk result (λ n. n ≡ image.now) }
@@ -72,30 +74,73 @@ fn is_listed(name: &[u8]) -> bool
         || name == b"____longjmp_chk".as_slice()
 }
 
-/// Whether a seed has such a name.
-fn has_listed_name(image: &Image, s: &Seed) -> bool
-    requires { IfSome s.now.name (LiesIn image.now) }
-    ensures { result ≡ has_listed_name image.now s.now }
+/// Whether a name of the list may begin with these two bytes.
+fn begins_listed(first: u8, second: u8) -> bool
+    ensures { result ≡ begins_listed first second }
 {
-    match s.name {
-        Some(name) => is_listed(image.bytes(name)),
-        None => false,
+    match first {
+        b'_' => second == b'_' || second == b'U' || second == b'l',
+        b'l' => second == b'o',
+        b's' => second == b'i',
+        _ => false,
     }
 }
 
-/// The addresses of the seeds that have such a name.
-fn named(alloc: Global, image: &Image, seeds: &[Seed]) -> Result<Vec<u64>, AllocError>
-    requires { All (λ s. IfSome s.name (LiesIn image.now)) seeds.now }
-    ensures { IfOk result (λ v. v.items
-        ≡ map (λ s. s.address) (filter (has_listed_name image.now) seeds.now)) }
+/// Whether the string at an offset of a string table is listed. Most are not by their first two
+/// bytes, and are read no further.
+fn has_listed_name(strings: &[u8], at: u32) -> bool
+    ensures { result ≡ spec.is_listed (string_at strings.now at) }
 {
+    let at = at as usize;
+    if at + 1 >= strings.len() {
+        return false;
+    }
+    if !begins_listed(strings[at], strings[at + 1]) {
+        return false;
+    }
+    is_listed(string_at(strings, at))
+}
+
+/// Whether the symbol at an index of a symbol table is one of a function with such a name. The name
+/// is asked first, since few pass.
+fn is_named(image: &Image, table: &Section, strings: &[u8], i: u64) -> bool
+    requires table { IsInFile image.now table.now }
+    requires within { 24 * i + 24 ≤ table.now.size }
+    ensures { result ≡ (spec.is_listed
+        (string_at strings.now (symbol_at image.now (table.now.offset + 24 * i)).name)
+        && is_seed_symbol image.now (symbol_at image.now (table.now.offset + 24 * i))) }
+{
+    has_listed_name(strings, read_name(image, table, i))
+        && is_seed_symbol(image, &read_symbol(image, table, i))
+}
+
+/// The values of the seed symbols of a table that have such a name.
+fn named(alloc: Global, image: &Image, table: &SymbolTable) -> Result<Vec<u64>, AllocError>
+    requires { IsTableOf image.now table.now }
+    ensures { IfOk result (λ v. v.items ≡ spec.named_in image.now table.now.symbols) }
+{
+    let strings = section_bytes(image, &table.strings);
     let mut found = Vec::new(alloc);
-    for s in seeds {
-        if has_listed_name(image, s) {
-            found.push(s.address)?;
+    for i in 0..table.symbols.size / SYMBOL_SIZE {
+        if is_named(image, &table.symbols, strings, i) {
+            found.push(read_symbol(image, &table.symbols, i).value)?;
         }
     }
     Ok(found)
+}
+
+/// The same of the file's table, if it has one.
+fn all_named(alloc: Global, image: &Image) -> Result<Vec<u64>, ElfError>
+    ensures named { IfOk result (λ v. v.items
+        ≡ option_map_or (spec.named_in image.now) (symbol_table image.now) []) }
+    ensures malformed { IfErr result
+        (λ e. IfMalformed e (λ f. first_symbol_fault image.now ≡ Some f)) }
+{
+    match symbol_table(image) {
+        Ok(Some(table)) => Ok(named(alloc, image, &table)?),
+        Ok(None) => Ok(Vec::new(alloc)),
+        Err(fault) => Err(ElfError::Malformed(fault)),
+    }
 }
 
 /// The addresses in order.
@@ -114,8 +159,7 @@ fn no_returns(alloc: Global, image: &Image) -> Result<Vec<u64>, ElfError>
         (λ e. IfMalformed e (λ f. first_fault image.now ≡ Some f)) }
 {
     prove!(image.is_code(image.entry()));
-    let seeds = symbol_seeds(alloc, image)?;
-    let mut found = named(alloc, image, &seeds)?;
+    let mut found = all_named(alloc, image)?;
     let declared = image.declared_no_returns(alloc)?;
     found.extend_from_slice(&declared)?;
     Ok(sorted(found))

@@ -58,7 +58,7 @@ pub fn seeds(alloc: Global, image: &Image) -> Result<Seeds, ElfError>
 }
 
 /// A seed for each seed symbol, in the order of the symbol table.
-pub(crate) fn symbol_seeds(alloc: Global, image: &Image) -> Result<Vec<Seed>, ElfError>
+fn symbol_seeds(alloc: Global, image: &Image) -> Result<Vec<Seed>, ElfError>
     ensures each { IfOk result
         (λ v. AllZip (IsSeedOf image.now (strings_in image.now)) (seed_symbols image.now) v.items) }
     ensures good { OnOk result (first_symbol_fault image.now ≡ None) }

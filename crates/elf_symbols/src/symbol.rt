@@ -45,7 +45,7 @@ fn symbol_at(symbols: &[u8], at: usize) -> Symbol
 }
 
 /// The bytes of a section.
-fn section_bytes<'a>(image: &'a Image, s: &Section) -> &'a [u8]
+pub(crate) fn section_bytes<'a>(image: &'a Image, s: &Section) -> &'a [u8]
     requires { IsInFile image.now s.now }
     ensures { result.now ≡ spec.section_bytes image.now s.now }
 {
@@ -56,12 +56,21 @@ fn section_bytes<'a>(image: &'a Image, s: &Section) -> &'a [u8]
 }
 
 /// The symbol at an index of a symbol table.
-fn read_symbol(image: &Image, table: &Section, i: u64) -> Symbol
+pub(crate) fn read_symbol(image: &Image, table: &Section, i: u64) -> Symbol
     requires table { IsInFile image.now table.now }
     requires within { 24 * i + 24 ≤ table.now.size }
     ensures { symbol_of result ≡ spec.symbol_at image.now (table.now.offset + 24 * i) }
 {
     symbol_at(section_bytes(image, table), (SYMBOL_SIZE * i) as usize)
+}
+
+/// Where the name begins, in the string table, of the symbol at an index of a symbol table.
+pub(crate) fn read_name(image: &Image, table: &Section, i: u64) -> u32
+    requires table { IsInFile image.now table.now }
+    requires within { 24 * i + 24 ≤ table.now.size }
+    ensures { result ≡ (spec.symbol_at image.now (table.now.offset + 24 * i)).name }
+{
+    u32_at(section_bytes(image, table), (SYMBOL_SIZE * i) as usize)
 }
 
 /// The code section that a symbol names by its index.
@@ -83,7 +92,7 @@ fn code_section(image: &Image, i: u16) -> Option<Section>
 
 /// Whether a symbol is that of a function at a code address of the code section which it names.
 #[tactic(auto, unfolding(elf_image::specs::Symbols::is_seed_symbol))]
-fn is_seed_symbol(image: &Image, s: &Symbol) -> bool
+pub(crate) fn is_seed_symbol(image: &Image, s: &Symbol) -> bool
     ensures { result ≡ spec.is_seed_symbol image.now (symbol_of s.now) }
 {
     if s.info % 16 != STT_FUNC || s.value % 2 != 0 {
@@ -105,6 +114,18 @@ fn string_len(strings: &[u8], at: u32) -> Option<usize>
         return None;
     }
     first_zero(&strings[at..])
+}
+
+/// The string that begins at an offset of a string table: up to a zero byte, or else to the end.
+pub(crate) fn string_at(strings: &[u8], at: usize) -> &[u8]
+    requires { at ≤ length strings.now }
+    ensures { result.now ≡ spec.string_at strings.now at }
+{
+    let rest = &strings[at..];
+    match first_zero(rest) {
+        Some(len) => &rest[..len],
+        None => rest,
+    }
 }
 
 /// The place of the first zero byte.

@@ -13,6 +13,7 @@
 //! - `long_row`: a report of many lines. `shared_runs`: runs whose text workers share.
 //! - `rounds`: reports whose text is made in many rounds.
 //! - `several_workers`: workers against one thread.
+//! - `worth`: how many workers a step is worth.
 //! - `gated_runs`: runs whose workers gates hold: that they work at the same time, and steal.
 #![tactic(auto)]
 
@@ -40,3 +41,5 @@ mod several_workers;
 mod shared_runs;
 #[cfg(test)]
 mod shared_text;
+#[cfg(test)]
+mod worth;

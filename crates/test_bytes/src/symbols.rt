@@ -195,8 +195,11 @@ fn no_returns(rt: HostRuntime) -> Result<(), Fail> {
         let got = [found.has(0x10000), found.has(0x10001), found.has(0x10004)];
         same_at(&rt, &number, &got, want);
     }
-    // A name past the string table, as a fault of the file.
-    let image = edited_image(alloc, &NAMES_FILE, &[(96, 11)])?;
-    same(&rt, &NoReturns::of(alloc, &image).is_err(), &true);
+    // A symbol table with another size of its entries is a fault of the file. A name past the
+    // string table is none of the list; that it is a fault is for `seeds` to say.
+    for (edits, is_fault) in [((456, 16), true), ((96, 11), false)] {
+        let image = edited_image(alloc, &NAMES_FILE, &[edits])?;
+        same(&rt, &NoReturns::of(alloc, &image).is_err(), &is_fault);
+    }
     Ok(())
 }

@@ -5,6 +5,7 @@
 //! work from another. So these tests count, and compare with values from outside.
 //!
 //! - `calls`, `drawn`: calls side by side, by some counts and numbers of threads.
+//! - `held`: workers that are held with a shard in their hands, or with the last work.
 //! - `one_board`: a held shard, which is busy for another seat.
 //! - `stealing`: rounds over deques, and threads that put and take.
 //! - `workers`: the states that workers leave, and gates that hold them.
@@ -16,6 +17,8 @@ mod asserts;
 mod calls;
 #[cfg(test)]
 mod drawn;
+#[cfg(test)]
+mod held;
 #[cfg(test)]
 mod one_board;
 #[cfg(test)]

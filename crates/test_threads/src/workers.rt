@@ -13,7 +13,7 @@ use std::process::Abort;
 use std::sync::Wait;
 use std::test::Fail;
 use std::thread::Threads;
-use test_gates::{Counts, Crowd, Meeting, Robbery};
+use test_gates::{Counts, Meeting, Robbery};
 use test_programs::{
     Sample, Slot, cut_table, row_6, row_8, row_9, row_10, row_12, row_17, table_jump,
 };
@@ -201,70 +201,5 @@ fn workers_count(rt: HostRuntime) -> Result<(), Fail> {
 fn the_open_gate_holds_nobody(rt: HostRuntime) -> Result<(), Fail> {
     OpenGate.before(1, WorkKind::Parse, 0);
     same(&rt, &OpenGate, &OpenGate);
-    Ok(())
-}
-
-/// How often workers try to come to a shard together.
-const RUNS: u32 = 100;
-
-static SHORT_RETURNS: [Slot; 31] = [
-    Some((2, Flow::Return)),
-    None,
-    Some((2, Flow::Return)),
-    None,
-    Some((2, Flow::Return)),
-    None,
-    Some((2, Flow::Return)),
-    None,
-    Some((2, Flow::Return)),
-    None,
-    Some((2, Flow::Return)),
-    None,
-    Some((2, Flow::Return)),
-    None,
-    Some((2, Flow::Return)),
-    None,
-    Some((2, Flow::Return)),
-    None,
-    Some((2, Flow::Return)),
-    None,
-    Some((2, Flow::Return)),
-    None,
-    Some((2, Flow::Return)),
-    None,
-    Some((2, Flow::Return)),
-    None,
-    Some((2, Flow::Return)),
-    None,
-    Some((2, Flow::Return)),
-    None,
-    Some((2, Flow::Return)),
-];
-
-/// Sixteen functions of one return each, whose starts lie in one shard, which has 64 bytes.
-fn one_shard(alloc: Global) -> Sample<'static> {
-    Sample {
-        alloc,
-        slots: &SHORT_RETURNS,
-        targets: &[],
-        seeds: &[0, 2, 4, 6, 8, 10, 12, 14, 16, 18, 20, 22, 24, 26, 28, 30],
-    }
-}
-
-/// A name at whose work tries were lost is put off, and found again: where one was put off, no work
-/// is left. Workers that drop it leave its work to be finished. All starts of this program lie in
-/// one shard, so workers are in each other's way. How often that puts a name off depends on the
-/// system: they try until one was, a hundred times at most.
-#[test]
-fn names_put_off_are_found_again(rt: HostRuntime) -> Result<(), Fail> {
-    let code = one_shard(rt.alloc());
-    for _ in 0..RUNS {
-        let gate = Crowd::new();
-        let state = work(&rt, rt.alloc(), &code, code.seeds(), 16, &gate)?;
-        holds(&rt, state.left(&code, code.seeds()).is_none());
-        if gate.put() > 0 && gate.lost() >= 3 {
-            return Ok(());
-        }
-    }
     Ok(())
 }

@@ -1,15 +1,15 @@
 -- What is kept of the functions that do not return. No public clause names what stands here.
-use Rattle.std.specs.Prelude.{◌≡◌, ℕ, ◌==◌, Bool, false, List}
+use Rattle.std.specs.Prelude.{◌≡◌, ℕ, ◌==◌, ◌&&◌, ◌||◌, Bool, List}
 use Rattle.std.specs.List.{list_any}
 use Rattle.std.specs.List.Sorted.{IsNonDecreasing}
-use Rattle.std.specs.Option.{option_map_or}
-use Rattle.elf_symbols.specs.declared.seed.Seed.{Seed}
-use Rattle.elf_symbols.specs.NoReturn.{is_listed, is_no_return}
-use Rattle.elf_symbols.specs.Inner.Names.{text_of}
+use Rattle.elf_symbols.specs.NoReturn.{is_no_return}
 
--- a seed has a name of the list
-abbrev pub has_listed_name : List ℕ → Seed → Bool
-has_listed_name bytes s = option_map_or is_listed (text_of bytes s) false
+-- the first two bytes of a name are those of one of the list: `__`, `_U`, `_l`, `lo` or `si`
+abbrev pub begins_listed : ℕ → ℕ → Bool
+begins_listed first second =
+    first == 0x5F && (second == 0x5F || second == 0x55 || second == 0x6C)
+    || first == 0x6C && second == 0x6F
+    || first == 0x73 && second == 0x69
 
 -- these are the functions that do not return, in the order of their addresses
 pub record AreNoReturns (bytes kept : List ℕ) : Type 0 where

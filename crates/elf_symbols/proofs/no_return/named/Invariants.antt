@@ -1,8 +1,6 @@
-use Rattle.std.proofs.Common.{◌≡◌, map, take}
-use Rattle.std.specs.List.{filter}
-use Rattle.elf_symbols.specs.declared.seed.Seed.{Seed}
-use Rattle.elf_symbols.specs.Inner.NoReturn.{has_listed_name}
+use Rattle.std.proofs.Common.{◌≡◌}
+use Rattle.elf_symbols.proofs.NoReturnLemmas.{named_to}
 use Rattle.elf_symbols.proofs.no_return.named.Given as goal
 
-abbrev pub invariant-loop-s : goal.invariant-loop-s
-invariant-loop-s l = l.found.items ≡ map (λ (s : Seed). s.address) (filter (has_listed_name l.image) (take l.s-index l.seeds))
+abbrev pub invariant-loop-i : goal.invariant-loop-i
+invariant-loop-i l = l.found.items ≡ named_to l.image l.table.symbols l.i
